@@ -3,6 +3,18 @@
 // Begin with `specs/Version.antt`, and read on as docs/SPECIFICATION.md lists.
 #![tactic(auto)]
 
+mod goal;
+mod name;
 mod op;
+mod release;
+mod status;
+mod step;
+mod text;
 
+pub use goal::{Goal, Restriction};
+pub use name::{Name, Names, VersionText};
 pub use op::Op;
+pub use release::{Pin, PinnedNames, Preference, Release, ReleaseItem, ReleaseKey};
+pub use status::{Flag, State, Want};
+pub use step::{Rule, Step};
+pub use text::{Items, Text};

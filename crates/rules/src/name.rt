@@ -1,0 +1,131 @@
+// Owned names, versions and groups of names, which a contract sees as their bytes.
+
+ghost use Rattle.std.specs.Prelude.{◌≡◌, ℕ, ◌<◌, List, length, IfOk, IsTrue};
+ghost use Rattle.rules.specs.Name.{is_name, IsAscending};
+
+use std::alloc::{AllocError, Global};
+use std::marker::Model;
+
+/// The name of a package (Policy 5.6.1), which owns its bytes.
+#[derive(Debug, Drop)]
+pub struct Name {
+    bytes: Vec<u8>,
+}
+
+impl Model for Name {
+    ghost Value = { List ℕ };
+
+    ghost view = { λ name. name.bytes.items };
+
+    ghost invariant = { λ name. IsTrue (is_name name.bytes.items) };
+}
+
+impl Name {
+    /// A copy of a name. Memory alone can fail.
+    pub fn copied_from(alloc: Global, bytes: &[u8]) -> Result<Name, AllocError>
+        requires { IsTrue (is_name bytes.now) }
+        ensures { IfOk result (λ name. name ≡ bytes.now) }
+    {
+        Ok(Name {
+            bytes: bytes.to_vec(alloc)?,
+        })
+    }
+
+    /// The bytes of the name.
+    pub fn as_bytes(&self) -> &[u8]
+        ensures { result.now ≡ self.now }
+    {
+        self.bytes.as_slice()
+    }
+
+    /// An equal name. Memory alone can fail.
+    pub fn try_copy(&self, alloc: Global) -> Result<Name, AllocError>
+        ensures { IfOk result (λ name. name ≡ self.now) }
+    {
+        Ok(Name {
+            bytes: self.bytes.as_slice().to_vec(alloc)?,
+        })
+    }
+}
+
+/// The text of a version (Policy 5.6.12), which owns its bytes.
+#[derive(Debug, Drop)]
+pub struct VersionText {
+    bytes: Vec<u8>,
+}
+
+impl Model for VersionText {
+    ghost Value = { List ℕ };
+
+    ghost view = { λ version. version.bytes.items };
+}
+
+impl VersionText {
+    /// A copy of a version's text. Memory alone can fail.
+    pub fn copied_from(alloc: Global, bytes: &[u8]) -> Result<VersionText, AllocError>
+        ensures { IfOk result (λ version. version ≡ bytes.now) }
+    {
+        Ok(VersionText {
+            bytes: bytes.to_vec(alloc)?,
+        })
+    }
+
+    /// The bytes of the text.
+    pub fn as_bytes(&self) -> &[u8]
+        ensures { result.now ≡ self.now }
+    {
+        self.bytes.as_slice()
+    }
+
+    /// An equal text. Memory alone can fail.
+    pub fn try_copy(&self, alloc: Global) -> Result<VersionText, AllocError>
+        ensures { IfOk result (λ version. version ≡ self.now) }
+    {
+        Ok(VersionText {
+            bytes: self.bytes.as_slice().to_vec(alloc)?,
+        })
+    }
+}
+
+/// The names of a group: at least one, ascending by bytes and distinct.
+#[derive(Debug, Drop)]
+pub struct Names {
+    names: Vec<Name>,
+}
+
+impl Model for Names {
+    ghost Value = { List (List ℕ) };
+
+    ghost view = { λ group. group.names.items };
+
+    ghost invariant = { λ group. IsAscending group.names.items × (0 < length group.names.items) };
+}
+
+impl Names {
+    /// The group of these names.
+    pub fn new(names: Vec<Name>) -> Names
+        requires ascending { IsAscending names.items }
+        requires some { 0 < length names.items }
+        ensures { result ≡ names.items }
+    {
+        Names { names }
+    }
+
+    /// The names, ascending.
+    pub fn as_slice(&self) -> &[Name]
+        ensures { result.now ≡ self.now }
+    {
+        self.names.as_slice()
+    }
+
+    /// An equal group. Memory alone can fail.
+    pub fn try_copy(&self, alloc: Global) -> Result<Names, AllocError>
+        ensures { IfOk result (λ names. names ≡ self.now) }
+    {
+        let mut names = Vec::new(alloc);
+        for name in &self.names {
+            names.push(name.try_copy(alloc)?)?;
+        }
+        Ok(Names { names })
+    }
+}
