@@ -1,2 +1,13 @@
+pub mod Available
+pub mod Database
+pub mod Legal
+pub mod Minimal
 pub mod Name
+pub mod Package
+pub mod Priority
+pub mod Run
+pub mod Sound
+pub mod Stanza
+pub mod Step
+pub mod Universe
 pub mod Version

@@ -16,5 +16,5 @@ pub use name::{Name, Names, VersionText};
 pub use op::Op;
 pub use release::{Pin, PinnedNames, Preference, Release, ReleaseItem, ReleaseKey};
 pub use status::{Flag, State, Want};
-pub use step::{Rule, Step};
+pub use step::{Reason, Rule, Step};
 pub use text::{Items, Text};

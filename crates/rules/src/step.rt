@@ -66,3 +66,16 @@ pub enum Rule {
     /// F11: the end is good.
     End,
 }
+
+/// Why the end of a plan isn't good (F11): the first of these, and of names the first by bytes.
+#[derive(Debug, Drop)]
+pub enum Reason {
+    /// The package is half-installed, unpacked, half-configured or to be installed again.
+    Unfinished(Name),
+    /// The installed package has a clause that isn't met, or conflicts with or breaks another.
+    Relation(Name),
+    /// The essential package was present at the start and isn't installed.
+    Essential(Name),
+    /// The goal of this number, counted from 1, isn't fulfilled.
+    Goal(u32),
+}

@@ -1,0 +1,170 @@
+-- The status database (dpkg(1), "Package states"): a list of records in file order, with distinct names.
+use Rattle.std.specs.Prelude.{◌≡◌, ◌≢◌, ℕ, Bool, true, false, not, List, [], IsTrue, Option, unwrap_or, ◌&&◌, ◌||◌}
+use Rattle.std.specs.List.{Any, All, AllPairs, list_any, filter}
+use Rattle.std.specs.Prelude.{map}
+use Rattle.rules.specs.Package.{Pkg, Relations, ConflictsWith}
+use Rattle.rules.specs.Stanza.{Stanza, marks_essential}
+use Rattle.rules.specs.declared.status.Flag.{Flag}
+use Rattle.rules.specs.declared.status.Flag.TheVariants.{Sound, ReinstallRequired}
+use Rattle.rules.specs.declared.status.State.{State}
+use Rattle.rules.specs.declared.status.State.TheVariants.{NotInstalled, ConfigFiles, HalfInstalled, Unpacked, HalfConfigured, Installed}
+use Rattle.rules.specs.declared.status.Want.{Want}
+use Rattle.rules.specs.declared.status.Want.TheVariants.{Unknown, Install, Hold, Deinstall, Purge}
+
+-- what the database knows of a name
+-- the relations are those of a present package's stanza, and none of another's
+-- the config version is the version last configured
+pub record Record : Type 0 where
+  pub name : List ℕ
+  pub state : State
+  pub want : Want
+  pub flag : Flag
+  pub version : Option (List ℕ)
+  pub config_version : Option (List ℕ)
+  pub relations : Relations
+  pub stanza : Stanza
+
+-- the states in which files of the package are there
+abbrev pub is_present_state : State → Bool
+is_present_state NotInstalled = false
+is_present_state ConfigFiles = false
+is_present_state HalfInstalled = true
+is_present_state Unpacked = true
+is_present_state HalfConfigured = true
+is_present_state Installed = true
+
+-- the states in which all files of the package are there, and it isn't configured
+abbrev pub is_unconfigured_state : State → Bool
+is_unconfigured_state NotInstalled = false
+is_unconfigured_state ConfigFiles = false
+is_unconfigured_state HalfInstalled = false
+is_unconfigured_state Unpacked = true
+is_unconfigured_state HalfConfigured = true
+is_unconfigured_state Installed = false
+
+-- the states in which an action broke off, or in which something is left to be done
+abbrev pub is_unfinished_state : State → Bool
+is_unfinished_state NotInstalled = false
+is_unfinished_state ConfigFiles = false
+is_unfinished_state HalfInstalled = true
+is_unfinished_state Unpacked = true
+is_unfinished_state HalfConfigured = true
+is_unfinished_state Installed = false
+
+-- the state installed
+abbrev pub is_installed_state : State → Bool
+is_installed_state NotInstalled = false
+is_installed_state ConfigFiles = false
+is_installed_state HalfInstalled = false
+is_installed_state Unpacked = false
+is_installed_state HalfConfigured = false
+is_installed_state Installed = true
+
+-- the state of a package of which nothing is there
+abbrev pub is_not_installed_state : State → Bool
+is_not_installed_state NotInstalled = true
+is_not_installed_state ConfigFiles = false
+is_not_installed_state HalfInstalled = false
+is_not_installed_state Unpacked = false
+is_not_installed_state HalfConfigured = false
+is_not_installed_state Installed = false
+
+-- the state in which configuration files alone are left
+abbrev pub is_config_files_state : State → Bool
+is_config_files_state NotInstalled = false
+is_config_files_state ConfigFiles = true
+is_config_files_state HalfInstalled = false
+is_config_files_state Unpacked = false
+is_config_files_state HalfConfigured = false
+is_config_files_state Installed = false
+
+-- the flag ok
+abbrev pub is_sound_flag : Flag → Bool
+is_sound_flag Sound = true
+is_sound_flag ReinstallRequired = false
+
+-- the want hold
+abbrev pub is_hold : Want → Bool
+is_hold Unknown = false
+is_hold Install = false
+is_hold Hold = true
+is_hold Deinstall = false
+is_hold Purge = false
+
+-- stands, as a test
+abbrev pub stands : Record → Bool
+stands found = (is_unconfigured_state found.state || is_installed_state found.state) && is_sound_flag found.flag
+
+-- essential, as a test
+abbrev pub is_essential : Record → Bool
+is_essential found = list_any marks_essential found.stanza.fields
+
+-- unfinished, as a test: in a state in which something is left to be done, or not sound
+abbrev pub is_unfinished : Record → Bool
+is_unfinished found = is_unfinished_state found.state
+    || (not (is_sound_flag found.flag) && not (is_not_installed_state found.state))
+
+-- unfinished: half-installed, unpacked or half-configured, or to be installed again unless it is not-installed
+abbrev pub IsUnfinished : Record → Type 0
+IsUnfinished found = IsTrue (is_unfinished found)
+
+-- present: half-installed, unpacked, half-configured or installed
+abbrev pub IsPresent : Record → Type 0
+IsPresent found = IsTrue (is_present_state found.state)
+
+-- unconfigured: unpacked or half-configured
+abbrev pub IsUnconfigured : Record → Type 0
+IsUnconfigured found = IsTrue (is_unconfigured_state found.state)
+
+-- installed: in the state installed
+abbrev pub IsInstalled : Record → Type 0
+IsInstalled found = IsTrue (is_installed_state found.state)
+
+-- removed: configuration files alone are left
+abbrev pub IsRemoved : Record → Type 0
+IsRemoved found = IsTrue (is_config_files_state found.state)
+
+-- the flag is ok
+abbrev pub HasSoundFlag : Record → Type 0
+HasSoundFlag found = IsTrue (is_sound_flag found.flag)
+
+-- stands: unpacked, half-configured or installed, with flag ok
+abbrev pub Stands : Record → Type 0
+Stands found = IsTrue (stands found)
+
+-- held: want hold
+abbrev pub IsHeld : Record → Type 0
+IsHeld found = IsTrue (is_hold found.want)
+
+-- essential: marked so in the stanza
+abbrev pub IsEssential : Record → Type 0
+IsEssential found = IsTrue (is_essential found)
+
+-- the version of a record, which a present one has
+abbrev pub version_of : Record → List ℕ
+version_of found = unwrap_or found.version []
+
+-- the package of a present record, as its stanza gives it
+abbrev pub pkg_of : Record → Pkg
+pkg_of found = record { name = found.name; version = version_of found; relations = found.relations }
+
+-- the record of the name has the property
+abbrev pub HasRecord : (Record → Type 0) → List ℕ → List Record → Type 0
+HasRecord P name db = Any (λ found. (found.name ≡ name) × P found) db
+
+-- every record of a name is the only one of it
+unfoldable pub HasDistinctNames : List Record → Type 0
+HasDistinctNames db = AllPairs (λ earlier later. earlier.name ≢ later.name) db
+
+-- the package of the first record doesn't conflict with that of the second, if both are present and of two names
+unfoldable pub IsAtPeaceWith : Record → Record → Type 0
+IsAtPeaceWith found other =
+    IsPresent found → IsPresent other → found.name ≢ other.name → ¬ ConflictsWith (pkg_of found) (pkg_of other)
+
+-- quiet: no present package has a Conflicts atom that a present package of another name matches
+unfoldable pub IsQuiet : List Record → Type 0
+IsQuiet db = All (λ found. All (IsAtPeaceWith found) db) db
+
+-- the installed packages, as their own stanzas give them
+abbrev pub installed_of : List Record → List Pkg
+installed_of db = map pkg_of (filter (λ found. is_installed_state found.state) db)

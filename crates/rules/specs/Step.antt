@@ -1,0 +1,117 @@
+-- What each action leaves in the database (dpkg(1)). The config version over config files and over a
+-- half-installed package, and that a removed package always leaves config files, are this project's own.
+use Rattle.std.specs.Prelude.{ℕ, Bool, not, List, [], ◌∷◌, ◌++◌, map, Option, Some, None, if◌then◌else◌}
+use Rattle.std.specs.List.{filter, list_any}
+use Rattle.std.specs.Option.{option_map_or}
+use Rattle.rules.specs.Database.{Record}
+use Rattle.rules.specs.Name.{same_text}
+use Rattle.rules.specs.Package.{Pkg, Relations}
+use Rattle.rules.specs.Stanza.{Stanza, Field, status_field, touched_fields, unpacked_fields}
+use Rattle.rules.specs.declared.status.Flag.TheVariants.{Sound}
+use Rattle.rules.specs.declared.status.State.{State}
+use Rattle.rules.specs.declared.status.State.TheVariants.{NotInstalled, ConfigFiles, HalfInstalled, Unpacked, HalfConfigured, Installed}
+use Rattle.rules.specs.declared.status.Want.{Want}
+use Rattle.rules.specs.declared.status.Want.TheVariants.{Install, Deinstall}
+use Rattle.rules.specs.declared.step.Step.{Step}
+use Rattle.rules.specs.declared.step.Step.TheVariants.{Unpack, Deconfigure, Configure, Remove, Purge}
+
+-- a stanza of an index: its package, its fields in order and its bytes
+pub record Listed : Type 0 where
+  pub pkg : Pkg
+  pub fields : List Field
+  pub bytes : List ℕ
+
+-- no relations
+abbrev pub no_relations : Relations
+no_relations = record { pre_depends = []; depends = []; conflicts = []; breaks = []; provides = [] }
+
+-- the stanza that says this, from the fields of the one before
+abbrev pub touched_stanza : Want → State → Record → Option (List ℕ) → Stanza
+touched_stanza want state old config_version = record {
+  fields = touched_fields (status_field want old.flag state) config_version old.stanza.fields;
+  bytes = None
+}
+
+-- the record with another want, state, config version and relations, and its stanza to that effect
+-- the stanza of an installed package has no field Config-Version
+abbrev pub moved : Want → State → Option (List ℕ) → Option (List ℕ) → Relations → Record → Record
+moved want state config_version written relations old = record {
+  name = old.name;
+  state = state;
+  want = want;
+  flag = old.flag;
+  version = old.version;
+  config_version = config_version;
+  relations = relations;
+  stanza = touched_stanza want state old written
+}
+
+-- deconfigured: half-configured, and its version is the one last configured
+abbrev pub deconfigured : Record → Record
+deconfigured old = moved old.want HalfConfigured old.version old.version old.relations old
+
+-- configured: installed, and its version is the one last configured
+abbrev pub configured : Record → Record
+configured old = moved old.want Installed old.version None old.relations old
+
+-- removed: config files alone are left, and deinstall is wanted
+abbrev pub removed : Record → Record
+removed old = moved Deinstall ConfigFiles old.config_version old.config_version no_relations old
+
+-- the config version of a package that is unpacked over this state: the version that was configured, if files of it are there
+abbrev pub kept_config_version : State → Option (List ℕ) → Option (List ℕ)
+kept_config_version NotInstalled config_version = None
+kept_config_version ConfigFiles config_version = None
+kept_config_version HalfInstalled config_version = None
+kept_config_version Unpacked config_version = config_version
+kept_config_version HalfConfigured config_version = config_version
+kept_config_version Installed config_version = config_version
+
+-- the record of a package of an index unpacked, with this config version, and with Conffiles from these old fields
+abbrev pub unpacked_with : Listed → Option (List ℕ) → List Field → Record
+unpacked_with listed config_version old_fields = record {
+  name = listed.pkg.name;
+  state = Unpacked;
+  want = Install;
+  flag = Sound;
+  version = Some listed.pkg.version;
+  config_version = config_version;
+  relations = listed.pkg.relations;
+  stanza = record {
+    fields = unpacked_fields (status_field Install Sound Unpacked) config_version listed.fields old_fields;
+    bytes = None
+  }
+}
+
+-- unpacked over the record before
+abbrev pub unpacked_over : Listed → Record → Record
+unpacked_over listed old =
+    unpacked_with listed (kept_config_version old.state old.config_version) old.stanza.fields
+
+-- the record has the name, as a test
+abbrev pub is_named : List ℕ → Record → Bool
+is_named name found = same_text found.name name
+
+-- the record has one of the names, as a test
+abbrev pub is_among : List (List ℕ) → Record → Bool
+is_among names found = list_any (λ name. is_named name found) names
+
+-- the database with each record that passes the test changed
+abbrev pub changed : (Record → Bool) → (Record → Record) → List Record → List Record
+changed test change db = map (λ found. if test found then change found else found) db
+
+-- the database after the unpacking: the record in the place of the old one of its name, or last where there is none
+abbrev pub after_unpack : Listed → List Record → List Record
+after_unpack listed db =
+    if list_any (is_named listed.pkg.name) db
+    then changed (is_named listed.pkg.name) (unpacked_over listed) db
+    else db ++ unpacked_with listed None [] ∷ []
+
+-- the database after the step, where an unpacked package comes from this stanza of an index
+-- an unpacking without a stanza leaves all as it was
+abbrev pub result_of : Option Listed → Step → List Record → List Record
+result_of listed (Unpack name version) db = option_map_or (λ found. after_unpack found db) listed db
+result_of listed (Deconfigure name) db = changed (is_named name) deconfigured db
+result_of listed (Configure names) db = changed (is_among names) configured db
+result_of listed (Remove name) db = changed (is_named name) removed db
+result_of listed (Purge name) db = filter (λ found. not (is_named name found)) db

@@ -1,0 +1,124 @@
+-- The versions that a request may choose from, and what it asks for (this project's own, after apt-get(8)).
+use Rattle.std.specs.Prelude.{◌≡◌, ◌≢◌, ℕ, ℤ, Bool, List, map, ◌⊎◌, ◌↔◌, Option, Some, None, if◌then◌else◌}
+use Rattle.std.specs.List.{Any, All, AllPairs, find}
+use Rattle.std.specs.Option.{option_map, option_and_then}
+use Rattle.std.specs.Ordering.{then_cmp, on}
+use Rattle.std.specs.declared.cmp.Ordering.{Ordering}
+use Rattle.std.specs.declared.cmp.Ordering.TheVariants.{Less}
+use Rattle.rules.specs.Available.{Inputs, IsAvailable, counting_package, index_package, is_of}
+use Rattle.rules.specs.Database.{Record, Stands, IsHeld, HasRecord, is_present_state, is_hold, is_essential, stands, version_of}
+use Rattle.rules.specs.Name.{same_text, name_cmp}
+use Rattle.rules.specs.Package.{Pkg}
+use Rattle.rules.specs.Priority.{IsCandidate}
+use Rattle.rules.specs.Step.{Listed}
+use Rattle.rules.specs.Version.{version_cmp, SameVersion}
+use Rattle.rules.specs.declared.goal.Goal.{Goal}
+use Rattle.rules.specs.declared.goal.Goal.TheVariants as goal
+use Rattle.rules.specs.declared.op.Op.TheVariants.{ExactlyEqual}
+use Rattle.rules.specs.declared.step.Step.{Step}
+use Rattle.rules.specs.declared.step.Step.TheVariants as step
+
+-- an admitted pair of a name and a version: its counting package, and its stanza in the indices, if any
+pub record Pair : Type 0 where
+  pub pkg : Pkg
+  pub listed : Option Listed
+
+-- what the start says of a name
+pub record Start : Type 0 where
+  pub name : List ℕ
+  pub is_present : Bool
+  pub standing : Option (List ℕ)
+  pub is_held : Bool
+  pub is_essential : Bool
+
+-- the candidate of a name
+pub record Candidate : Type 0 where
+  pub name : List ℕ
+  pub version : List ℕ
+
+-- what a plan and a refutation are judged by: the admitted pairs, numbered from 1, the goals, numbered
+-- from 1, the facts of the start and the candidates
+pub record Universe : Type 0 where
+  pub pairs : List Pair
+  pub goals : List Goal
+  pub starts : List Start
+  pub candidates : List Candidate
+
+-- the facts of a record at the start
+abbrev pub start_of : Record → Start
+start_of found = record {
+  name = found.name;
+  is_present = is_present_state found.state;
+  standing = if stands found then Some (version_of found) else None;
+  is_held = is_hold found.want;
+  is_essential = is_essential found
+}
+
+-- the facts of the start, in file order
+abbrev pub starts_of : List Record → List Start
+starts_of db = map start_of db
+
+-- the package has the name and the version
+abbrev pub IsOf : List ℕ → List ℕ → Pkg → Type 0
+IsOf name version pkg = (pkg.name ≡ name) × SameVersion pkg.version version
+
+-- the goal is to install just this version of the name
+abbrev pub NamesExactly : List ℕ → List ℕ → Goal → Type 0
+NamesExactly name version (goal.Install asked None) = ⊥
+NamesExactly name version (goal.Install asked (Some restriction)) =
+    (asked ≡ name) × (restriction.op ≡ ExactlyEqual) × SameVersion version restriction.version
+NamesExactly name version (goal.Remove asked) = ⊥
+NamesExactly name version (goal.Purge asked) = ⊥
+NamesExactly name version (goal.Upgrade asked) = ⊥
+NamesExactly name version goal.UpgradeAll = ⊥
+NamesExactly name version goal.NoRemove = ⊥
+
+-- the version is the one of the name that stands
+unfoldable pub StandsAs : List Record → List ℕ → List ℕ → Type 0
+StandsAs db name version = HasRecord (λ found. Stands found × SameVersion (version_of found) version) name db
+
+-- the version is the candidate of the name, or available and asked for by an install goal with `=`
+unfoldable pub IsOffered : Inputs → List ℕ → List ℕ → Type 0
+IsOffered inputs name version = ((priority : ℤ) × IsCandidate inputs name version priority)
+    ⊎ (IsAvailable inputs name version × Any (NamesExactly name version) inputs.goals)
+
+-- admitted: the version that stands, and for a name that isn't held what is offered
+unfoldable pub IsAdmitted : Inputs → List ℕ → List ℕ → Type 0
+IsAdmitted inputs name version = StandsAs inputs.start name version
+    ⊎ ((¬ HasRecord IsHeld name inputs.start) × IsOffered inputs name version)
+
+-- the order of pairs: by name and then by version
+abbrev pub pair_cmp : Pair → Pair → Ordering
+pair_cmp = then_cmp (on (λ pair. pair.pkg.name) name_cmp) (on (λ pair. pair.pkg.version) version_cmp)
+
+-- the candidate's version, if the name has one
+abbrev pub candidate_of : Universe → List ℕ → Option (List ℕ)
+candidate_of u name =
+    option_map (λ candidate. candidate.version) (find (λ candidate. same_text candidate.name name) u.candidates)
+
+-- the index package of an admitted pair, if the pair is admitted and in an index
+abbrev pub listed_of : Universe → List ℕ → List ℕ → Option Listed
+listed_of u name version =
+    option_and_then (λ pair. pair.listed) (find (λ pair. is_of name version pair.pkg) u.pairs)
+
+-- the stanza that a step unpacks
+abbrev pub listed_for : Universe → Step → Option Listed
+listed_for u (step.Unpack name version) = listed_of u name version
+listed_for u (step.Deconfigure name) = None
+listed_for u (step.Configure names) = None
+listed_for u (step.Remove name) = None
+listed_for u (step.Purge name) = None
+
+-- the universe of the inputs: its pairs are the admitted ones in their order, each with its counting package
+-- and its index package, and its candidates are those of their names
+pub record IsUniverse (inputs : Inputs) (u : Universe) : Type 0 where
+  pub ascending : AllPairs (λ earlier later. pair_cmp earlier later ≡ Less) u.pairs
+  pub admitted : (name version : List ℕ) → IsAdmitted inputs name version ↔ Any (λ pair. IsOf name version pair.pkg) u.pairs
+  pub counting : All (λ pair. counting_package inputs pair.pkg.name pair.pkg.version ≡ Some pair.pkg) u.pairs
+  pub listed : All (λ pair. index_package inputs.indices pair.pkg.name pair.pkg.version ≡ pair.listed) u.pairs
+  pub goals : u.goals ≡ inputs.goals
+  pub starts : u.starts ≡ starts_of inputs.start
+  pub candidates : All (λ candidate. (priority : ℤ) × IsCandidate inputs candidate.name candidate.version priority) u.candidates
+  pub every_candidate : (name version : List ℕ) (priority : ℤ) → IsCandidate inputs name version priority
+    → Any (λ candidate. (candidate.name ≡ name) × SameVersion candidate.version version) u.candidates
+  pub one_candidate : AllPairs (λ earlier later. earlier.name ≢ later.name) u.candidates
