@@ -1,15 +1,12 @@
 -- The status database (dpkg(1), "Package states"): a list of records in file order, with distinct names.
-use Rattle.std.specs.Prelude.{◌≡◌, ◌≢◌, ℕ, Bool, true, false, not, List, [], IsTrue, Option, unwrap_or, ◌&&◌, ◌||◌}
-use Rattle.std.specs.List.{Any, All, AllPairs, list_any, filter}
-use Rattle.std.specs.Prelude.{map}
+use Rattle.std.specs.Prelude.{◌≡◌, ◌≢◌, ℕ, Bool, not, List, [], map, ◌&&◌, ◌||◌, IsTrue, Option, unwrap_or}
+use Rattle.std.specs.List.{Any, All, AllPairs, Contains, list_any, filter}
 use Rattle.rules.specs.Package.{Pkg, Relations, ConflictsWith}
 use Rattle.rules.specs.Stanza.{Stanza, marks_essential}
+use Rattle.rules.specs.State.{is_present_state, is_unconfigured_state, is_unfinished_state, is_installed_state, is_not_installed_state, is_config_files_state, is_sound_flag, is_hold}
 use Rattle.rules.specs.declared.status.Flag.{Flag}
-use Rattle.rules.specs.declared.status.Flag.TheVariants.{Sound, ReinstallRequired}
 use Rattle.rules.specs.declared.status.State.{State}
-use Rattle.rules.specs.declared.status.State.TheVariants.{NotInstalled, ConfigFiles, HalfInstalled, Unpacked, HalfConfigured, Installed}
 use Rattle.rules.specs.declared.status.Want.{Want}
-use Rattle.rules.specs.declared.status.Want.TheVariants.{Unknown, Install, Hold, Deinstall, Purge}
 
 -- what the database knows of a name
 -- the relations are those of a present package's stanza, and none of another's
@@ -23,73 +20,6 @@ pub record Record : Type 0 where
   pub config_version : Option (List ℕ)
   pub relations : Relations
   pub stanza : Stanza
-
--- the states in which files of the package are there
-abbrev pub is_present_state : State → Bool
-is_present_state NotInstalled = false
-is_present_state ConfigFiles = false
-is_present_state HalfInstalled = true
-is_present_state Unpacked = true
-is_present_state HalfConfigured = true
-is_present_state Installed = true
-
--- the states in which all files of the package are there, and it isn't configured
-abbrev pub is_unconfigured_state : State → Bool
-is_unconfigured_state NotInstalled = false
-is_unconfigured_state ConfigFiles = false
-is_unconfigured_state HalfInstalled = false
-is_unconfigured_state Unpacked = true
-is_unconfigured_state HalfConfigured = true
-is_unconfigured_state Installed = false
-
--- the states in which an action broke off, or in which something is left to be done
-abbrev pub is_unfinished_state : State → Bool
-is_unfinished_state NotInstalled = false
-is_unfinished_state ConfigFiles = false
-is_unfinished_state HalfInstalled = true
-is_unfinished_state Unpacked = true
-is_unfinished_state HalfConfigured = true
-is_unfinished_state Installed = false
-
--- the state installed
-abbrev pub is_installed_state : State → Bool
-is_installed_state NotInstalled = false
-is_installed_state ConfigFiles = false
-is_installed_state HalfInstalled = false
-is_installed_state Unpacked = false
-is_installed_state HalfConfigured = false
-is_installed_state Installed = true
-
--- the state of a package of which nothing is there
-abbrev pub is_not_installed_state : State → Bool
-is_not_installed_state NotInstalled = true
-is_not_installed_state ConfigFiles = false
-is_not_installed_state HalfInstalled = false
-is_not_installed_state Unpacked = false
-is_not_installed_state HalfConfigured = false
-is_not_installed_state Installed = false
-
--- the state in which configuration files alone are left
-abbrev pub is_config_files_state : State → Bool
-is_config_files_state NotInstalled = false
-is_config_files_state ConfigFiles = true
-is_config_files_state HalfInstalled = false
-is_config_files_state Unpacked = false
-is_config_files_state HalfConfigured = false
-is_config_files_state Installed = false
-
--- the flag ok
-abbrev pub is_sound_flag : Flag → Bool
-is_sound_flag Sound = true
-is_sound_flag ReinstallRequired = false
-
--- the want hold
-abbrev pub is_hold : Want → Bool
-is_hold Unknown = false
-is_hold Install = false
-is_hold Hold = true
-is_hold Deinstall = false
-is_hold Purge = false
 
 -- stands, as a test
 abbrev pub stands : Record → Bool
@@ -151,6 +81,18 @@ pkg_of found = record { name = found.name; version = version_of found; relations
 -- the record of the name has the property
 abbrev pub HasRecord : (Record → Type 0) → List ℕ → List Record → Type 0
 HasRecord P name db = Any (λ found. (found.name ≡ name) × P found) db
+
+-- each record of another name has the property
+abbrev pub ForOthers : (Record → Type 0) → List ℕ → List Record → Type 0
+ForOthers P name db = All (λ other. other.name ≢ name → P other) db
+
+-- a record of another name has the property
+abbrev pub SomeOther : (Record → Type 0) → List ℕ → List Record → Type 0
+SomeOther P name db = Any (λ other. (other.name ≢ name) × P other) db
+
+-- each record of these names has the property
+abbrev pub ForMembers : (Record → Type 0) → List (List ℕ) → List Record → Type 0
+ForMembers P names db = All (λ member. Contains names member.name → P member) db
 
 -- every record of a name is the only one of it
 unfoldable pub HasDistinctNames : List Record → Type 0

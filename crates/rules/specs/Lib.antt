@@ -1,13 +1,17 @@
 pub mod Available
+pub mod Configure
 pub mod Database
 pub mod Legal
 pub mod Minimal
 pub mod Name
 pub mod Package
 pub mod Priority
+pub mod Remove
 pub mod Run
 pub mod Sound
 pub mod Stanza
+pub mod State
 pub mod Step
 pub mod Universe
+pub mod Unpack
 pub mod Version

@@ -4,7 +4,8 @@ use Rattle.std.specs.List.{Any, All}
 use Rattle.std.specs.Ordering.{nat_cmp, then_cmp, on}
 use Rattle.std.specs.declared.cmp.Ordering.{Ordering}
 use Rattle.std.specs.declared.cmp.Ordering.TheVariants.{Less}
-use Rattle.rules.specs.Database.{Record, HasRecord, IsQuiet, IsInstalled, IsUnfinished, is_not_installed_state, pkg_of, installed_of}
+use Rattle.rules.specs.Database.{Record, HasRecord, IsQuiet, IsInstalled, IsUnfinished, pkg_of, installed_of}
+use Rattle.rules.specs.State.{is_not_installed_state}
 use Rattle.rules.specs.Legal.{Allowed, IsFirstFailing}
 use Rattle.rules.specs.Name.{name_cmp}
 use Rattle.rules.specs.Sound.{IsContent, IsFitting, Fulfils, KeepsEssential}

@@ -6,7 +6,8 @@ use Rattle.std.specs.Ordering.{then_cmp, on}
 use Rattle.std.specs.declared.cmp.Ordering.{Ordering}
 use Rattle.std.specs.declared.cmp.Ordering.TheVariants.{Less}
 use Rattle.rules.specs.Available.{Inputs, IsAvailable, counting_package, index_package, is_of}
-use Rattle.rules.specs.Database.{Record, Stands, IsHeld, HasRecord, is_present_state, is_hold, is_essential, stands, version_of}
+use Rattle.rules.specs.Database.{Record, Stands, IsHeld, HasRecord, is_essential, stands, version_of}
+use Rattle.rules.specs.State.{is_present_state, is_hold}
 use Rattle.rules.specs.Name.{same_text, name_cmp}
 use Rattle.rules.specs.Package.{Pkg}
 use Rattle.rules.specs.Priority.{IsCandidate}
