@@ -1,11 +1,10 @@
 -- What the status file and the indices make available. That of two equal versions the one that stands
 -- counts first, and then the earlier index and the earlier stanza, is this project's own.
-use Rattle.std.specs.Prelude.{ℕ, Bool, List, ◌&&◌, Option, IsSome}
+use Rattle.std.specs.Prelude.{ℕ, Bool, List, ◌&&◌, Option, IsSome, bytes_eq}
 use Rattle.std.specs.List.{find, flat_map}
 use Rattle.std.specs.Option.{option_map, option_or}
 use Rattle.std.specs.Ordering.{is_eq}
 use Rattle.rules.specs.Database.{Record, stands, version_of, pkg_of}
-use Rattle.rules.specs.Name.{same_text}
 use Rattle.rules.specs.Package.{Pkg}
 use Rattle.rules.specs.Step.{Listed, is_named}
 use Rattle.rules.specs.Version.{version_cmp}
@@ -37,7 +36,7 @@ same_version version other = is_eq (version_cmp version other)
 
 -- the package has the name and the version, as a test
 abbrev pub is_of : List ℕ → List ℕ → Pkg → Bool
-is_of name version pkg = same_text pkg.name name && same_version pkg.version version
+is_of name version pkg = bytes_eq pkg.name name && same_version pkg.version version
 
 -- the record of the name, where it stands in this version
 abbrev pub standing_record : List Record → List ℕ → List ℕ → Option Record

@@ -1,5 +1,5 @@
 -- What a group of packages needs to be configured together (Policy 7.2 and 7.3).
-use Rattle.std.specs.Prelude.{◌≢◌, ℕ, ◌<◌, List, ◌++◌, map, length}
+use Rattle.std.specs.Prelude.{◌≢◌, ℕ, ◌<◌, not, List, ◌++◌, map, length, bytes_eq}
 use Rattle.std.specs.List.{Any, All, Contains, filter}
 use Rattle.rules.specs.Database.{Record, HasRecord, IsPresent, IsUnconfigured, HasSoundFlag, ForOthers, ForMembers, pkg_of, installed_of}
 use Rattle.rules.specs.Package.{Pkg, BreaksOther}
@@ -52,3 +52,13 @@ pub record IsProperPart (part names : List (List ℕ)) : Type 0 where
 -- no proper part of the group could be configured by itself
 unfoldable pub IsIndivisible : List Record → List (List ℕ) → Type 0
 IsIndivisible db names = (part : List (List ℕ)) → IsProperPart part names → ¬ GroupPasses db part
+
+-- the names of the group but for this one
+abbrev pub others_of : List ℕ → List (List ℕ) → List (List ℕ)
+others_of name names = filter (λ other. not (bytes_eq other name)) names
+
+-- the greatest part of the group that passes: it has each name of every part that does
+pub record IsGreatestPart (db : List Record) (names part : List (List ℕ)) : Type 0 where
+  pub within : All (Contains names) part
+  pub passes : GroupPasses db part
+  pub greatest : (other : List (List ℕ)) → All (Contains names) other → GroupPasses db other → All (Contains part) other

@@ -1,8 +1,8 @@
 -- Package names and their order (Policy 5.6.1). A name is its bytes. Capitals and names of one byte are
 -- this project's own.
-use Rattle.std.specs.Prelude.{◌≡◌, ℕ, Bool, false, List, [], ◌∷◌, ◌==◌, ◌&&◌, ◌||◌, nat_eq}
+use Rattle.std.specs.Prelude.{◌≡◌, ℕ, Bool, false, List, [], ◌∷◌, ◌==◌, ◌&&◌, ◌||◌}
 use Rattle.std.specs.Char.{is_ascii_alphanumeric}
-use Rattle.std.specs.Cmp.Lexicographic.{slice_cmp, pointwise}
+use Rattle.std.specs.Cmp.Lexicographic.{slice_cmp}
 use Rattle.std.specs.List.{AllPairs, list_all}
 use Rattle.std.specs.Ordering.{nat_cmp}
 use Rattle.std.specs.declared.cmp.Ordering.{Ordering}
@@ -16,10 +16,6 @@ is_name_byte b = is_ascii_alphanumeric b || (b == 43) || (b == 45) || (b == 46)
 abbrev pub is_name : List ℕ → Bool
 is_name [] = false
 is_name (b ∷ rest) = is_ascii_alphanumeric b && list_all is_name_byte rest
-
--- the two texts are equal, as a test
-abbrev pub same_text : List ℕ → List ℕ → Bool
-same_text = pointwise nat_eq
 
 -- the order of names: by their bytes
 abbrev pub name_cmp : List ℕ → List ℕ → Ordering

@@ -1,12 +1,11 @@
 -- Priorities and candidates (apt_preferences(5)). How several records and indices combine, that 1000
 -- suffices for a downgrade and that 0 counts as never, are this project's own.
-use Rattle.std.specs.Prelude.{◌≡◌, ℕ, ℤ, pos, ◌≤ℤ◌, ◌<ℤ◌, Bool, true, false, List, [], ◌∷◌, ◌++◌, map, ◌⊎◌, ◌&&◌, ◌||◌, Option, Some, None, if◌then◌else◌, MatchOption, is_some, nat_eq}
+use Rattle.std.specs.Prelude.{◌≡◌, ℕ, ℤ, pos, ◌≤ℤ◌, ◌<ℤ◌, Bool, true, false, List, [], ◌∷◌, ◌++◌, map, ◌⊎◌, ◌&&◌, ◌||◌, Option, Some, None, if◌then◌else◌, MatchOption, is_some, nat_eq, bytes_eq}
 use Rattle.std.specs.List.{All, Contains, list_any, list_all, filter, find, starts_with}
 use Rattle.std.specs.Option.{option_map_or}
 use Rattle.std.specs.declared.cmp.Ordering.TheVariants.{Less, Greater}
 use Rattle.rules.specs.Available.{Index, Inputs, counting_package, is_of, same_version, standing_record}
 use Rattle.rules.specs.Database.{Stands, HasRecord, version_of}
-use Rattle.rules.specs.Name.{same_text}
 use Rattle.rules.specs.Version.{version_cmp}
 use Rattle.rules.specs.declared.release.Pin.{Pin}
 use Rattle.rules.specs.declared.release.Pin.TheVariants as pin
@@ -25,7 +24,7 @@ pub record Origin : Type 0 where
 -- the value of a release key, if there is one, is this text
 abbrev pub has_value : Option (List ℕ) → List ℕ → Bool
 has_value None text = false
-has_value (Some value) text = same_text value text
+has_value (Some value) text = bytes_eq value text
 
 -- the release is the target release: one of four keys names it
 abbrev pub is_target : Option (List ℕ) → Release → Bool
@@ -77,12 +76,12 @@ abbrev pub pin_matches : Pin → List ℕ → Release → Bool
 pin_matches (pin.VersionBeginning beginning) version release = starts_with nat_eq version beginning
 pin_matches (pin.Version pinned) version release = same_version version pinned
 pin_matches (pin.Release items) version release = list_all (λ item. has_key release item.key item.value) items
-pin_matches (pin.Origin host) version release = same_text release.host host
+pin_matches (pin.Origin host) version release = bytes_eq release.host host
 
 -- the record speaks of this name by itself
 abbrev pub names_it : List ℕ → PinnedNames → Bool
 names_it name pinned.Every = false
-names_it name (pinned.Listed names) = list_any (same_text name) names
+names_it name (pinned.Listed names) = list_any (bytes_eq name) names
 
 -- the record speaks of every name
 abbrev pub names_all : PinnedNames → Bool

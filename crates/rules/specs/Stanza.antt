@@ -1,9 +1,8 @@
 -- The stanza of a package in the status file, as an action leaves it (Policy 5.1, dpkg(1)).
 -- What is written and what is left out is this project's own.
-use Rattle.std.specs.Prelude.{ℕ, Bool, not, List, [], ◌∷◌, ◌++◌, ◌&&◌, Option, Some, None, codes}
+use Rattle.std.specs.Prelude.{ℕ, Bool, not, List, [], ◌∷◌, ◌++◌, ◌&&◌, Option, Some, None, codes, bytes_eq}
 use Rattle.std.specs.List.{filter, list_any, flat_map}
-use Rattle.std.specs.Str.{str_to_ascii_lowercase}
-use Rattle.rules.specs.Name.{same_text}
+use Rattle.std.specs.Str.{str_eq_ignore_ascii_case}
 use Rattle.rules.specs.declared.status.Flag.{Flag}
 use Rattle.rules.specs.declared.status.Flag.TheVariants.{Sound, ReinstallRequired}
 use Rattle.rules.specs.declared.status.State.{State}
@@ -23,7 +22,7 @@ pub record Stanza : Type 0 where
 
 -- the field has this name, without regard to ASCII case
 abbrev pub is_called : List ℕ → Field → Bool
-is_called name field = same_text (str_to_ascii_lowercase field.name) (str_to_ascii_lowercase name)
+is_called name field = str_eq_ignore_ascii_case field.name name
 
 -- the field has one of these names
 abbrev pub is_called_one_of : List (List ℕ) → Field → Bool
@@ -39,7 +38,7 @@ fields_without names fields = filter (λ field. not (is_called_one_of names fiel
 
 -- a field `Essential: yes` or `Protected: yes` (Policy 5.6.9; Protected alike is this project's own)
 abbrev pub marks_essential : Field → Bool
-marks_essential field = is_called_one_of (codes "Essential" ∷ codes "Protected" ∷ []) field && same_text field.value (codes "yes")
+marks_essential field = is_called_one_of (codes "Essential" ∷ codes "Protected" ∷ []) field && bytes_eq field.value (codes "yes")
 
 -- the word of a want in a status line
 abbrev pub want_word : Want → List ℕ

@@ -1,10 +1,9 @@
 -- What each action leaves in the database (dpkg(1)). The config version over config files and over a
 -- half-installed package, and that a removed package always leaves config files, are this project's own.
-use Rattle.std.specs.Prelude.{ℕ, Bool, not, List, [], ◌∷◌, ◌++◌, map, Option, Some, None, if◌then◌else◌}
+use Rattle.std.specs.Prelude.{ℕ, Bool, not, List, [], ◌∷◌, ◌++◌, map, Option, Some, None, if◌then◌else◌, bytes_eq}
 use Rattle.std.specs.List.{filter, list_any}
 use Rattle.std.specs.Option.{option_map_or}
 use Rattle.rules.specs.Database.{Record}
-use Rattle.rules.specs.Name.{same_text}
 use Rattle.rules.specs.Package.{Pkg, Relations}
 use Rattle.rules.specs.Stanza.{Stanza, Field, status_field, touched_fields, unpacked_fields}
 use Rattle.rules.specs.declared.status.Flag.TheVariants.{Sound}
@@ -90,7 +89,7 @@ unpacked_over listed old =
 
 -- the record has the name, as a test
 abbrev pub is_named : List ℕ → Record → Bool
-is_named name found = same_text found.name name
+is_named name found = bytes_eq found.name name
 
 -- the record has one of the names, as a test
 abbrev pub is_among : List (List ℕ) → Record → Bool

@@ -1,5 +1,5 @@
 -- The versions that a request may choose from, and what it asks for (this project's own, after apt-get(8)).
-use Rattle.std.specs.Prelude.{◌≡◌, ◌≢◌, ℕ, ℤ, Bool, List, map, ◌⊎◌, ◌↔◌, Option, Some, None, if◌then◌else◌}
+use Rattle.std.specs.Prelude.{◌≡◌, ◌≢◌, ℕ, ℤ, Bool, List, map, ◌⊎◌, ◌↔◌, Option, Some, None, if◌then◌else◌, bytes_eq}
 use Rattle.std.specs.List.{Any, All, AllPairs, find}
 use Rattle.std.specs.Option.{option_map, option_and_then}
 use Rattle.std.specs.Ordering.{then_cmp, on}
@@ -8,7 +8,7 @@ use Rattle.std.specs.declared.cmp.Ordering.TheVariants.{Less}
 use Rattle.rules.specs.Available.{Inputs, IsAvailable, counting_package, index_package, is_of}
 use Rattle.rules.specs.Database.{Record, Stands, IsHeld, HasRecord, is_essential, stands, version_of}
 use Rattle.rules.specs.State.{is_present_state, is_hold}
-use Rattle.rules.specs.Name.{same_text, name_cmp}
+use Rattle.rules.specs.Name.{name_cmp}
 use Rattle.rules.specs.Package.{Pkg}
 use Rattle.rules.specs.Priority.{IsCandidate}
 use Rattle.rules.specs.Step.{Listed}
@@ -95,7 +95,7 @@ pair_cmp = then_cmp (on (λ pair. pair.pkg.name) name_cmp) (on (λ pair. pair.pk
 -- the candidate's version, if the name has one
 abbrev pub candidate_of : Universe → List ℕ → Option (List ℕ)
 candidate_of u name =
-    option_map (λ candidate. candidate.version) (find (λ candidate. same_text candidate.name name) u.candidates)
+    option_map (λ candidate. candidate.version) (find (λ candidate. bytes_eq candidate.name name) u.candidates)
 
 -- the index package of an admitted pair, if the pair is admitted and in an index
 abbrev pub listed_of : Universe → List ℕ → List ℕ → Option Listed

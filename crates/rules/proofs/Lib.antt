@@ -1,0 +1,5 @@
+pub mod Decided
+pub mod DecidedPackages
+pub mod DecidedSteps
+pub mod GroupLemmas
+pub mod Members
