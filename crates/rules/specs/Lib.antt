@@ -3,12 +3,14 @@ pub mod Configure
 pub mod Database
 pub mod GroupLaws
 pub mod Legal
+pub mod LegalLaws
 pub mod Minimal
 pub mod Name
 pub mod Package
 pub mod Priority
 pub mod Remove
 pub mod Run
+pub mod RunLaws
 pub mod Sound
 pub mod Stanza
 pub mod State

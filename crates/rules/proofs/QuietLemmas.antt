@@ -1,0 +1,308 @@
+-- Every action keeps names distinct, and every allowed one keeps a quiet database quiet.
+use Rattle.std.proofs.Common.{lit<, ◌≡◌, ◌≢◌, ℕ, zero, suc, ◌<◌, ◌+◌, Bool, true, false, not, cond, List, [], ◌∷◌, ◌++◌, map, length, ◌⊎◌, Option, Some, None, refl, sym, ap, subst, ◌∙◌, arith, bytes_eq, get_or}
+use Rattle.std.specs.Prelude.{IsTrue, ⊤}
+use Rattle.std.specs.List.{All, Any, AllPairs, Contains, filter, list_any}
+use Rattle.std.proofs.lemmas.List.{get_or-map}
+use Rattle.std.proofs.lemmas.List.Quantifiers.{all_pairs_push}
+use Rattle.std.proofs.lemmas.List.Elements.{All-contains, Contains-get_or, Contains-append_cases, All-head, All-filter}
+use Rattle.std.proofs.Math.ListN.{length-map}
+use Rattle.rules.specs.Configure.{IsConfigurable, AreConfigurable}
+use Rattle.rules.specs.Database.{IsInstalled, Record, HasRecord, HasDistinctNames, IsAtPeaceWith, IsQuiet, IsPresent, pkg_of}
+use Rattle.rules.specs.Legal.{Allowed, Asks, UnpackAsks}
+use Rattle.rules.specs.Package.{Pkg, ConflictsWith}
+use Rattle.rules.specs.Run.{Run, after}
+use Rattle.rules.specs.State.{is_present_state, is_unconfigured_state, is_installed_state}
+use Rattle.rules.specs.Step.{Listed, is_named, is_among, changed, unpacked_over, unpacked_with, after_unpack, deconfigured, configured, removed, result_of}
+use Rattle.rules.specs.Universe.{Universe, listed_of, listed_for}
+use Rattle.rules.specs.Unpack.{IsCompatible, HasNoConflict, OnListed}
+use Rattle.rules.specs.declared.status.State.{State}
+use Rattle.rules.specs.declared.status.State.TheVariants.{NotInstalled, ConfigFiles, HalfInstalled, Unpacked, HalfConfigured, Installed}
+use Rattle.rules.specs.declared.step.Rule.TheVariants as rule
+use Rattle.rules.specs.declared.step.Step.{Step}
+use Rattle.rules.specs.declared.step.Step.TheVariants as step
+use Rattle.rules.proofs.GroupLemmas.{bytes_eq-true, bytes_eq-same, contains-is_among}
+use Rattle.rules.proofs.Members.{All-intro, Any-intro, Any-elim, Contains-head, Contains-cons, Contains-rest, Contains-nil, Contains-map, Contains-map_intro, Contains-filter, Contains-filter_intro, list_any-from_contains}
+use mathlib.Core.Logic.{inl, inr}
+
+-- a change that keeps each name keeps names distinct
+distinct_map : (change : Record → Record) → ((found : Record) → (change found).name ≡ found.name) → (db : List Record)
+    → HasDistinctNames db → HasDistinctNames (map change db)
+unfolding HasDistinctNames
+distinct_map change keeps db distinct i j d before within same =
+    let long : j < length db = subst (λ n. j < n) (length-map db change) within in
+    let short : i < length db = omega arith in
+    let first : (get_or (map change db) i d).name ≡ (get_or db i d).name =
+          ap (λ (r : Record). r.name) (get_or-map change db i d d short) ∙ keeps (get_or db i d) in
+    let second : (get_or (map change db) j d).name ≡ (get_or db j d).name =
+          ap (λ (r : Record). r.name) (get_or-map change db j d d long) ∙ keeps (get_or db j d) in
+    distinct i j d before long (sym first ∙ same ∙ second)
+
+-- each pair of a list: the first with each of the rest, and each pair of the rest
+AllPairs-head : {X : Type 0} (R : X → X → Type 0) (x : X) (xs : List X) → AllPairs R (x ∷ xs) → All (R x) xs
+AllPairs-head R x xs pairs place d within = pairs 0 (suc place) d (omega arith) (omega arith)
+
+AllPairs-tail : {X : Type 0} (R : X → X → Type 0) (x : X) (xs : List X) → AllPairs R (x ∷ xs) → AllPairs R xs
+AllPairs-tail R x xs pairs i j d before within = pairs (suc i) (suc j) d (omega arith) (omega arith)
+
+AllPairs-cons : {X : Type 0} (R : X → X → Type 0) (x : X) (xs : List X) → All (R x) xs → AllPairs R xs → AllPairs R (x ∷ xs)
+AllPairs-cons R x xs first rest zero zero d before within = absurd (omega arith)
+AllPairs-cons R x xs first rest zero (suc j) d before within = first j d (omega arith)
+AllPairs-cons R x xs first rest (suc i) zero d before within = absurd (omega arith)
+AllPairs-cons R x xs first rest (suc i) (suc j) d before within = rest i j d (omega arith) (omega arith)
+
+AllPairs-filter : {X : Type 0} (R : X → X → Type 0) (p : X → Bool) (xs : List X) → AllPairs R xs → AllPairs R (filter p xs)
+AllPairs-filter R p [] pairs = pairs
+AllPairs-filter {X} R p (x ∷ xs) pairs = at (p x) (AllPairs-filter R p xs (AllPairs-tail R x xs pairs))
+  where
+    at : (b : Bool) → AllPairs R (filter p xs) → AllPairs R (cond b (x ∷ filter p xs) (filter p xs))
+    at false rest = rest
+    at true rest = AllPairs-cons R x (filter p xs) (All-filter p (R x) xs (AllPairs-head R x xs pairs)) rest
+
+-- a change of the records that a test names keeps names, if the change does
+changed_name : (test : Record → Bool) (change : Record → Record)
+    → ((found : Record) → test found ≡ true → (change found).name ≡ found.name)
+    → (found : Record) → (cond (test found) (change found) found).name ≡ found.name
+changed_name test change keeps found = at (test found) refl
+  where
+    at : (b : Bool) → test found ≡ b → (cond b (change found) found).name ≡ found.name
+    at true is = keeps found is
+    at false is = refl
+
+distinct_changed : (test : Record → Bool) (change : Record → Record)
+    → ((found : Record) → test found ≡ true → (change found).name ≡ found.name) → (db : List Record)
+    → HasDistinctNames db → HasDistinctNames (changed test change db)
+distinct_changed test change keeps db distinct =
+    distinct_map (λ found. cond (test found) (change found) found) (changed_name test change keeps) db distinct
+
+-- where the test names no record, none has the name
+unnamed : (name : List ℕ) (db : List Record) → list_any (is_named name) db ≡ false → (found : Record) → Contains db found
+    → found.name ≢ name
+unnamed name db none found within same = absurd (let e : true ≡ false =
+    sym (list_any-from_contains (is_named name) db found within (bytes_eq-same found.name name same)) ∙ none in cc)
+
+distinct_unpack : (listed : Listed) (db : List Record) → HasDistinctNames db → HasDistinctNames (after_unpack listed db)
+unfolding HasDistinctNames
+distinct_unpack listed db distinct = at (list_any (is_named listed.pkg.name) db) refl
+  where
+    at : (b : Bool) → list_any (is_named listed.pkg.name) db ≡ b
+        → HasDistinctNames (cond b (changed (is_named listed.pkg.name) (unpacked_over listed) db) (db ++ unpacked_with listed None [] ∷ []))
+    at true some = distinct_changed (is_named listed.pkg.name) (unpacked_over listed)
+        (λ found is. sym (bytes_eq-true found.name listed.pkg.name is)) db distinct
+    at false none = all_pairs_push (λ (a b : Record). a.name ≢ b.name) db (unpacked_with listed None []) distinct
+        (λ k d within. unnamed listed.pkg.name db none (get_or db k d) (Contains-get_or db k d within))
+
+distinct_filter : (p : Record → Bool) (db : List Record) → HasDistinctNames db → HasDistinctNames (filter p db)
+unfolding HasDistinctNames
+distinct_filter p db distinct = AllPairs-filter (λ (a b : Record). a.name ≢ b.name) p db distinct
+
+pub distinct_names_kept : (listed : Option Listed) (taken : Step) (db : List Record) → HasDistinctNames db
+    → HasDistinctNames (result_of listed taken db)
+distinct_names_kept None (step.Unpack name version) db distinct = distinct
+distinct_names_kept (Some found) (step.Unpack name version) db distinct = distinct_unpack found db distinct
+distinct_names_kept listed (step.Deconfigure name) db distinct =
+    distinct_changed (is_named name) deconfigured (λ found is. refl) db distinct
+distinct_names_kept listed (step.Configure names) db distinct =
+    distinct_changed (is_among names) configured (λ found is. refl) db distinct
+distinct_names_kept listed (step.Remove name) db distinct =
+    distinct_changed (is_named name) removed (λ found is. refl) db distinct
+distinct_names_kept listed (step.Purge name) db distinct = distinct_filter (λ found. not (is_named name found)) db distinct
+
+-- of two records with one name there is one
+one_record : (db : List Record) → HasDistinctNames db → (found other : Record) → Contains db found → Contains db other
+    → other.name ≡ found.name → other ≡ found
+unfolding HasDistinctNames
+one_record [] distinct found other within there same = absurd (Contains-nil found within)
+one_record (first ∷ rest) distinct found other within there same =
+    at (Contains-cons first rest found within) (Contains-cons first rest other there)
+      (λ later behind. one_record rest (AllPairs-tail (λ (a b : Record). a.name ≢ b.name) first rest distinct) found other later behind same)
+  where
+    alone : (record_ : Record) → Contains rest record_ → first.name ≢ record_.name
+    alone r behind = All-contains (λ (b : Record). first.name ≢ b.name) rest r
+        (AllPairs-head (λ (a b : Record). a.name ≢ b.name) first rest distinct) behind
+
+    at : (first ≡ found) ⊎ Contains rest found → (first ≡ other) ⊎ Contains rest other
+        → (Contains rest found → Contains rest other → other ≡ found) → other ≡ found
+    at (inl here) (inl also) later = sym also ∙ here
+    at (inl here) (inr behind) later = absurd (alone other behind (ap (λ (r : Record). r.name) here ∙ sym same))
+    at (inr behind) (inl also) later = absurd (alone found behind (ap (λ (r : Record). r.name) also ∙ same))
+    at (inr behind) (inr further) later = later behind further
+
+-- what the record of a name has, each record of that name has
+the_record : (P : Record → Type 0) (db : List Record) → HasDistinctNames db → (found : Record) → Contains db found
+    → HasRecord P found.name db → P found
+the_record P db distinct found within has = Any-elim (λ (r : Record). (r.name ≡ found.name) × P r) db (P found)
+    (λ other there both. subst P (one_record db distinct found other within there both.0) both.1) has
+
+-- a present record of the old database that is of the same package
+record Stems (old : List Record) (found : Record) : Type 0 where
+  pub from : Record
+  pub within : Contains old from
+  pub present : IsPresent from
+  pub same : pkg_of from ≡ pkg_of found
+
+-- two present records of a quiet database of two names don't conflict
+at_peace : (db : List Record) → IsQuiet db → (found other : Record) → Contains db found → Contains db other
+    → IsPresent found → IsPresent other → found.name ≢ other.name → ¬ ConflictsWith (pkg_of found) (pkg_of other)
+unfolding IsQuiet IsAtPeaceWith
+at_peace db quiet found other within there =
+    All-contains (IsAtPeaceWith found) db other (All-contains (λ r. All (IsAtPeaceWith r) db) db found quiet within) there
+
+-- a database is quiet where no two of its records conflict
+quiet_from : (db : List Record) → ((found other : Record) → Contains db found → Contains db other
+    → IsPresent found → IsPresent other → found.name ≢ other.name → ¬ ConflictsWith (pkg_of found) (pkg_of other)) → IsQuiet db
+unfolding IsQuiet IsAtPeaceWith
+quiet_from db each = All-intro (λ r. All (IsAtPeaceWith r) db) db (λ found within.
+    All-intro (IsAtPeaceWith found) db (λ other there. each found other within there))
+
+-- a database whose present records all stem from a quiet one is quiet
+quiet_stems : (old db : List Record) → IsQuiet old → ((found : Record) → Contains db found → IsPresent found → Stems old found)
+    → IsQuiet db
+quiet_stems old db quiet stem = quiet_from db each
+  where
+    each : (found other : Record) → Contains db found → Contains db other → IsPresent found → IsPresent other
+        → found.name ≢ other.name → ¬ ConflictsWith (pkg_of found) (pkg_of other)
+    each found other within there present also differ conflicts =
+        let first = stem found within present in
+        let second = stem other there also in
+        at_peace old quiet first.from second.from first.within second.within first.present second.present
+          (λ same. differ (ap (λ (pkg : Pkg). pkg.name) (sym first.same) ∙ same ∙ ap (λ (pkg : Pkg). pkg.name) second.same))
+          (let P : Pkg → Type 0 = λ pkg. ConflictsWith pkg (pkg_of second.from) in subst P (sym first.same)
+            (let Q : Pkg → Type 0 = λ pkg. ConflictsWith (pkg_of found) pkg in subst Q (sym second.same) conflicts))
+
+-- where a change keeps each record's package, and what it makes present was so, a quiet database stays quiet
+quiet_changed : (test : Record → Bool) (change : Record → Record) (db : List Record)
+    → ((found : Record) → Contains db found → test found ≡ true → IsPresent (change found)
+        → IsPresent found × (pkg_of found ≡ pkg_of (change found)))
+    → IsQuiet db → IsQuiet (changed test change db)
+quiet_changed test change db keeps quiet = quiet_stems db (changed test change db) quiet stem
+  where
+    at : (old : Record) → Contains db old → (b : Bool) → test old ≡ b → IsPresent (cond b (change old) old)
+        → Stems db (cond b (change old) old)
+    at old within true is present = let kept = keeps old within is present in
+        record { from = old; within = within; present = kept.0; same = kept.1 }
+    at old within false is present = record { from = old; within = within; present = present; same = refl }
+
+    stem : (found : Record) → Contains (changed test change db) found → IsPresent found → Stems db found
+    stem found within present =
+        let old = Contains-map (λ r. cond (test r) (change r) r) db found within in
+        subst (Stems db) old.2 (at old.0 old.1 (test old.0) refl (let P : Record → Type 0 = λ r. IsPresent r in subst P (sym old.2) present))
+
+-- an unconfigured package is present, and so is an installed one
+unconfigured_present : (state : State) → IsTrue (is_unconfigured_state state) → IsTrue (is_present_state state)
+unconfigured_present NotInstalled is = absurd (let e : false ≡ true = is in cc)
+unconfigured_present ConfigFiles is = absurd (let e : false ≡ true = is in cc)
+unconfigured_present HalfInstalled is = refl
+unconfigured_present Unpacked is = refl
+unconfigured_present HalfConfigured is = refl
+unconfigured_present Installed is = refl
+
+installed_present : (state : State) → IsTrue (is_installed_state state) → IsTrue (is_present_state state)
+installed_present NotInstalled is = absurd (let e : false ≡ true = is in cc)
+installed_present ConfigFiles is = absurd (let e : false ≡ true = is in cc)
+installed_present HalfInstalled is = refl
+installed_present Unpacked is = refl
+installed_present HalfConfigured is = refl
+installed_present Installed is = refl
+
+-- the name under which a record is found has a property, and so has the record
+the_named : (P : Record → Type 0) (db : List Record) → HasDistinctNames db → (name : List ℕ) → HasRecord P name db
+    → (found : Record) → Contains db found → is_named name found ≡ true → P found
+the_named P db distinct name has found within is = the_record P db distinct found within
+    (let Q : List ℕ → Type 0 = λ n. HasRecord P n db in subst Q (sym (bytes_eq-true found.name name is)) has)
+
+quiet_deconfigure : (db : List Record) (name : List ℕ) → HasDistinctNames db → HasRecord IsInstalled name db → IsQuiet db
+    → IsQuiet (changed (is_named name) deconfigured db)
+quiet_deconfigure db name distinct has = quiet_changed (is_named name) deconfigured db (λ found within is present.
+    (installed_present found.state (the_named IsInstalled db distinct name has found within is), refl))
+
+quiet_configure : (db : List Record) (names : List (List ℕ)) → HasDistinctNames db → AreConfigurable db names → IsQuiet db
+    → IsQuiet (changed (is_among names) configured db)
+unfolding AreConfigurable
+quiet_configure db names distinct has = quiet_changed (is_among names) configured db (λ found within is present.
+    (unconfigured_present found.state (the_record IsConfigurable db distinct found within
+        (All-contains (λ name. HasRecord IsConfigurable name db) names found.name has (contains-is_among names found is))).0, refl))
+
+quiet_remove : (db : List Record) (name : List ℕ) → IsQuiet db → IsQuiet (changed (is_named name) removed db)
+quiet_remove db name = quiet_changed (is_named name) removed db
+    (λ found within is present. absurd (let e : false ≡ true = present in cc))
+
+quiet_filter : (p : Record → Bool) (db : List Record) → IsQuiet db → IsQuiet (filter p db)
+quiet_filter p db quiet = quiet_stems db (filter p db) quiet (λ found within present.
+    record { from = found; within = (Contains-filter p db found within).0; present = present; same = refl })
+
+-- after an unpacking each record is of the package unpacked or one of another name that was there
+after_unpack_parts : (listed : Listed) (db : List Record) (found : Record) → Contains (after_unpack listed db) found
+    → (pkg_of found ≡ listed.pkg) ⊎ (Contains db found × (found.name ≢ listed.pkg.name))
+after_unpack_parts listed db found = at (list_any (is_named listed.pkg.name) db) refl
+  where
+    named : (old : Record) → Contains db old → (b : Bool) → is_named listed.pkg.name old ≡ b
+        → cond b (unpacked_over listed old) old ≡ found
+        → (pkg_of found ≡ listed.pkg) ⊎ (Contains db found × (found.name ≢ listed.pkg.name))
+    named old within true is same = inl (ap pkg_of (sym same))
+    named old within false is same = inr (subst (Contains db) same within, λ equal. absurd (let e : true ≡ false =
+        sym (bytes_eq-same old.name listed.pkg.name (ap (λ (r : Record). r.name) same ∙ equal)) ∙ is in cc))
+
+    at : (b : Bool) → list_any (is_named listed.pkg.name) db ≡ b
+        → Contains (cond b (changed (is_named listed.pkg.name) (unpacked_over listed) db) (db ++ unpacked_with listed None [] ∷ [])) found
+        → (pkg_of found ≡ listed.pkg) ⊎ (Contains db found × (found.name ≢ listed.pkg.name))
+    at true some within =
+        let old = Contains-map (λ r. cond (is_named listed.pkg.name r) (unpacked_over listed r) r) db found within in
+        named old.0 old.1 (is_named listed.pkg.name old.0) refl old.2
+    at false none within = elim (Contains-append_cases db (unpacked_with listed None [] ∷ []) found within)
+        [ inl there ↦ inr (there, unnamed listed.pkg.name db none found there)
+        | inr last ↦ elim (Contains-cons (unpacked_with listed None []) [] found last)
+            [ inl same ↦ inl (ap pkg_of (sym same)) | inr none ↦ absurd (Contains-nil found none) ] ]
+
+quiet_unpack : (listed : Listed) (db : List Record) → HasNoConflict db listed.pkg → IsQuiet db → IsQuiet (after_unpack listed db)
+unfolding HasNoConflict IsCompatible
+quiet_unpack listed db apart quiet = quiet_from (after_unpack listed db) (λ found other within there.
+    each found other (after_unpack_parts listed db found within) (after_unpack_parts listed db other there))
+  where
+    compatible : (other : Record) → Contains db other → other.name ≢ listed.pkg.name → IsPresent other
+        → (¬ ConflictsWith listed.pkg (pkg_of other)) × (¬ ConflictsWith (pkg_of other) listed.pkg)
+    compatible other there = All-contains (λ (r : Record). r.name ≢ listed.pkg.name → IsCompatible listed.pkg r) db other apart there
+
+    each : (found other : Record) → (pkg_of found ≡ listed.pkg) ⊎ (Contains db found × (found.name ≢ listed.pkg.name))
+        → (pkg_of other ≡ listed.pkg) ⊎ (Contains db other × (other.name ≢ listed.pkg.name))
+        → IsPresent found → IsPresent other → found.name ≢ other.name → ¬ ConflictsWith (pkg_of found) (pkg_of other)
+    each found other (inl new) (inl also) present is differ conflicts =
+        differ (ap (λ (pkg : Pkg). pkg.name) new ∙ sym (ap (λ (pkg : Pkg). pkg.name) also))
+    each found other (inl new) (inr old) present is differ conflicts = (compatible other old.0 old.1 is).0
+        (let P : Pkg → Type 0 = λ pkg. ConflictsWith pkg (pkg_of other) in subst P new conflicts)
+    each found other (inr old) (inl new) present is differ conflicts = (compatible found old.0 old.1 present).1
+        (let P : Pkg → Type 0 = λ pkg. ConflictsWith (pkg_of found) pkg in subst P new conflicts)
+    each found other (inr old) (inr also) present is differ conflicts =
+        at_peace db quiet found other old.0 also.0 present is differ conflicts
+
+-- the result of an unpacking of what is there, or of nothing
+quiet_listed : (listed : Option Listed) (name version : List ℕ) (db : List Record) → OnListed (HasNoConflict db) listed → IsQuiet db
+    → IsQuiet (result_of listed (step.Unpack name version) db)
+quiet_listed None name version db apart quiet = quiet
+quiet_listed (Some found) name version db apart quiet = quiet_unpack found db apart quiet
+
+-- every allowed action keeps a quiet database quiet
+pub quiet_kept : (u : Universe) (db : List Record) (taken : Step) → HasDistinctNames db → IsQuiet db → Allowed u db taken
+    → IsQuiet (after u db taken)
+unfolding Allowed
+quiet_kept u db (step.Unpack name version) distinct quiet allowed =
+    quiet_listed (listed_of u name version) name version db (allowed 4 rule.Conflict (lit< tt)) quiet
+quiet_kept u db (step.Deconfigure name) distinct quiet allowed =
+    quiet_deconfigure db name distinct (allowed 0 rule.WrongState (lit< tt)) quiet
+quiet_kept u db (step.Configure names) distinct quiet allowed =
+    quiet_configure db names distinct (allowed 0 rule.WrongState (lit< tt)) quiet
+quiet_kept u db (step.Remove name) distinct quiet allowed = quiet_remove db name quiet
+quiet_kept u db (step.Purge name) distinct quiet allowed = quiet_filter (λ found. not (is_named name found)) db quiet
+
+-- a run from distinct names has distinct names at its end
+pub distinct_after_run : (u : Universe) (start reached : List Record) (steps : List Step) → HasDistinctNames start
+    → Run u start steps reached → HasDistinctNames reached
+distinct_after_run u start reached [] distinct run = subst HasDistinctNames (sym run) distinct
+distinct_after_run u start reached (taken ∷ rest) distinct run = distinct_after_run u (after u start taken) reached rest
+    (distinct_names_kept (listed_for u taken) taken start distinct) run.1
+
+-- a run from a quiet start is quiet at its end
+pub quiet_after_run : (u : Universe) (start reached : List Record) (steps : List Step) → HasDistinctNames start → IsQuiet start
+    → Run u start steps reached → IsQuiet reached
+quiet_after_run u start reached [] distinct quiet run = subst IsQuiet (sym run) quiet
+quiet_after_run u start reached (taken ∷ rest) distinct quiet run = quiet_after_run u (after u start taken) reached rest
+    (distinct_names_kept (listed_for u taken) taken start distinct) (quiet_kept u start taken distinct quiet run.0) run.1
