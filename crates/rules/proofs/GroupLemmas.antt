@@ -305,3 +305,7 @@ dec_IsIndivisible db names = dec_like (indivisible_from_others db names) (others
         at ([], found) = yes (λ part other. empty_from_none part (λ n there.
             Contains-nil n (All-contains (Contains []) part n (found.greatest part other.within other.passes) there)))
         at (first ∷ rest, found) = no (λ empty. absurd (let e : first ∷ rest ≡ [] = empty (first ∷ rest) found in cc))
+
+pub indivisible_by_others : (db : List Record) (names : List (List ℕ)) → IsIndivisible db names
+    ↔ All (λ name. (part : List (List ℕ)) → IsGreatestPart db (others_of name names) part → part ≡ []) names
+indivisible_by_others db names = (others_empty db names, indivisible_from_others db names)

@@ -4,5 +4,6 @@ pub mod DecidedSteps
 pub mod GroupLemmas
 pub mod LegalLemmas
 pub mod Members
+pub mod PlanLemmas
 pub mod QuietLemmas
 pub mod RunLemmas

@@ -7,6 +7,7 @@ pub mod LegalLaws
 pub mod Minimal
 pub mod Name
 pub mod Package
+pub mod PlanLaws
 pub mod Priority
 pub mod Remove
 pub mod Run

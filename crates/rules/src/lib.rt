@@ -4,6 +4,7 @@
 #![tactic(auto)]
 
 mod goal;
+mod laws;
 mod name;
 mod op;
 mod release;
@@ -12,6 +13,11 @@ mod step;
 mod text;
 
 pub use goal::{Goal, Restriction};
+pub use laws::{
+    allowed_or_failing, allowed_where_none_fails, distinct_names_kept, good_plan_is_kept, has_greatest_part,
+    indivisible_by_others, one_end, one_first_failing, quiet_after_run, quiet_kept, run_goes_on, run_or_stops,
+    union_passes,
+};
 pub use name::{Name, Names, VersionText};
 pub use op::Op;
 pub use release::{Pin, PinnedNames, Preference, Release, ReleaseItem, ReleaseKey};
