@@ -1,8 +1,8 @@
 -- Groups that pass the tests of a configuring: their union, their greatest part, and when none is proper.
-use Rattle.std.proofs.Common.{◌≡◌, ◌≢◌, ℕ, zero, suc, ◌<◌, ◌≤◌, ◌+◌, Bool, true, false, not, cond, List, [], ◌∷◌, ◌++◌, map, length, ◌⊎◌, refl, sym, ap, subst, ◌∙◌, arith, bytes_eq}
-use Rattle.std.specs.Prelude.{◌↔◌, IsTrue}
-use Rattle.std.specs.List.{All, Any, Contains, filter, list_any}
-use Rattle.std.proofs.lemmas.List.Elements.{All-append, All-contains, All-weaker, All-nil, All-contains_itself, Contains-append_left, Contains-append_right, Contains-append_cases, All-head, All-cons, All-tail}
+use Rattle.std.proofs.Common.{◌≡◌, ◌≢◌, ℕ, zero, suc, ◌<◌, ◌≤◌, Bool, true, false, not, cond, List, [], ◌∷◌, ◌++◌, length, ◌⊎◌, refl, sym, ap, subst, ◌∙◌, arith, bytes_eq}
+use Rattle.std.specs.Prelude.{◌↔◌}
+use Rattle.std.specs.List.{All, Any, Contains, filter}
+use Rattle.std.proofs.lemmas.List.Elements.{All-contains, All-weaker, All-contains_itself, Contains-append_left, Contains-append_right, Contains-append_cases, All-head}
 use Rattle.std.proofs.lemmas.Slice.Eq.{bytes_eq-Decides}
 use Rattle.rules.specs.Configure.{IsConfigurable, AreConfigurable, ArePreDependsInstalled, AreDependsInstalled, IsUnbroken, AreUnbroken, GroupPasses, members_of, others_of, IsGreatestPart, IsProperPart, IsIndivisible}
 use Rattle.rules.specs.Database.{Record, HasRecord, ForMembers, pkg_of, installed_of}
@@ -13,7 +13,7 @@ use Rattle.rules.specs.Step.{is_among, is_named}
 use Rattle.rules.proofs.Decided.{dec_IsTrue, dec_and, dec_implies, dec_text, dec_All, dec_like, all_or_some}
 use Rattle.rules.proofs.DecidedPackages.{dec_MeetsClauses}
 use Rattle.rules.proofs.DecidedSteps.{dec_HasRecord, dec_IsUnbroken}
-use Rattle.rules.proofs.Members.{All-intro, Any-intro, Any-elim, Any-weaker, Any-contains, Any-from_list_any, list_any-from_contains, Contains-head, Contains-cons, Contains-rest, Contains-nil, Contains-map, Contains-map_intro, Contains-filter, Contains-filter_intro}
+use Rattle.rules.proofs.Members.{All-intro, Any-intro, Any-elim, Any-contains, Any-from_list_any, list_any-from_contains, Contains-head, Contains-cons, Contains-nil, Contains-map, Contains-map_intro, Contains-filter, Contains-filter_intro}
 use mathlib.Core.Logic.{inl, inr}
 
 -- equal texts pass the test, and only they
@@ -129,12 +129,12 @@ GroupPasses-append db names others first second = GroupPasses-from_each db (name
           (GroupPasses-each db others second name there) ])
 
 -- of a record of a name, where it is decided of each record
-dec_named : (P : Record → Type 0) → ((member : Record) → Dec (P member)) → (name : List ℕ) (db : List Record)
+unfoldable pub dec_named : (P : Record → Type 0) → ((member : Record) → Dec (P member)) → (name : List ℕ) (db : List Record)
     → Dec (All (λ member. member.name ≡ name → P member) db)
 dec_named P each name db = dec_All (λ member. member.name ≡ name → P member)
     (λ member. dec_implies (dec_text member.name name) (each member)) db
 
-pub dec_MemberPasses : (db : List Record) (group : List (List ℕ)) (name : List ℕ) → Dec (MemberPasses db group name)
+unfoldable pub dec_MemberPasses : (db : List Record) (group : List (List ℕ)) (name : List ℕ) → Dec (MemberPasses db group name)
 dec_MemberPasses db group name = dec_like
     (λ all. record { configurable = all.0.0; pre_depends = all.0.1; depends = all.1.0; unbroken = all.1.1 })
     (λ passes. ((passes.configurable, passes.pre_depends), (passes.depends, passes.unbroken)))
@@ -165,7 +165,7 @@ contains-others_of name names other within differs = Contains-filter_intro (λ n
     fails true is = absurd (differs (bytes_eq-true other name is))
 
 -- a list is no shorter than what a test keeps of it
-length-filter_le : {X : Type 0} (p : X → Bool) (xs : List X) → length (filter p xs) ≤ length xs
+pub length-filter_le : {X : Type 0} (p : X → Bool) (xs : List X) → length (filter p xs) ≤ length xs
 length-filter_le p [] = omega arith
 length-filter_le p (x ∷ xs) = at (p x) (length-filter_le p xs)
   where
@@ -174,7 +174,7 @@ length-filter_le p (x ∷ xs) = at (p x) (length-filter_le p xs)
     at false shorter = omega arith
 
 -- and longer where an element fails
-length-filter_lt : {X : Type 0} (p : X → Bool) (xs : List X) (x : X) → Contains xs x → p x ≡ false
+pub length-filter_lt : {X : Type 0} (p : X → Bool) (xs : List X) (x : X) → Contains xs x → p x ≡ false
     → length (filter p xs) < length xs
 length-filter_lt p [] x within fails = absurd (Contains-nil x within)
 length-filter_lt {X} p (y ∷ ys) x within fails = at (Contains-cons y ys x within) (p y) refl (length-filter_le p ys)
@@ -189,13 +189,13 @@ length-filter_lt {X} p (y ∷ ys) x within fails = at (Contains-cons y ys x with
     at (inr there) false is shorter later = let below = later there in omega arith
 
 -- a name that fails isn't in a part that passes
-fails_in_part : (db : List Record) (names part : List (List ℕ)) → All (Contains names) part → GroupPasses db part
+pub fails_in_part : (db : List Record) (names part : List (List ℕ)) → All (Contains names) part → GroupPasses db part
     → (name : List ℕ) → ¬ MemberPasses db names name → ¬ Contains part name
 fails_in_part db names part within passes name fails there = fails (MemberPasses-more db part names
     (λ n inside. All-contains (Contains names) part n within inside) name (GroupPasses-each db part passes name there))
 
 -- each group of at most this many names has a greatest part that passes: leave out a name that fails, and go on
-greatest_upto : (most : ℕ) (db : List Record) (names : List (List ℕ)) → length names ≤ most
+unfoldable pub greatest_upto : (most : ℕ) (db : List Record) (names : List (List ℕ)) → length names ≤ most
     → (part : List (List ℕ)) × IsGreatestPart db names part
 greatest_upto zero db names short = (names, whole)
   where
@@ -241,7 +241,7 @@ greatest_upto (suc most) db names short =
         (found.0, without some.1 within some.4 found.0 found.1)
 
 -- each group has a greatest part that passes
-pub greatest_part : (db : List Record) (names : List (List ℕ)) → (part : List (List ℕ)) × IsGreatestPart db names part
+unfoldable pub greatest_part : (db : List Record) (names : List (List ℕ)) → (part : List (List ℕ)) × IsGreatestPart db names part
 greatest_part db names = greatest_upto (length names) db names (omega arith)
 
 -- a list that has no element is empty
@@ -270,7 +270,7 @@ others_empty db names indivisible = All-intro _ names each
         (λ first there. indivisible part (proper name within part found first there) found.passes)
 
 -- a list with an element isn't within the empty list
-none_of : (part : List (List ℕ)) → 0 < length part → All (Contains []) part → ⊥
+pub none_of : (part : List (List ℕ)) → 0 < length part → All (Contains []) part → ⊥
 none_of [] some all = absurd (omega arith)
 none_of (first ∷ rest) some all = Contains-nil first (All-head (Contains []) first rest all)
 
@@ -293,7 +293,7 @@ indivisible_from_others db names empty part proper passes =
               subst P nothing (found.1.greatest part inside passes))
 
 -- whether a group is indivisible is decided
-pub dec_IsIndivisible : (db : List Record) (names : List (List ℕ)) → Dec (IsIndivisible db names)
+unfoldable pub dec_IsIndivisible : (db : List Record) (names : List (List ℕ)) → Dec (IsIndivisible db names)
 dec_IsIndivisible db names = dec_like (indivisible_from_others db names) (others_empty db names)
     (dec_All (λ name. (part : List (List ℕ)) → IsGreatestPart db (others_of name names) part → part ≡ []) each names)
   where

@@ -1,9 +1,9 @@
 -- The first rule that fails: there is one where a step isn't allowed, and no second one.
-use Rattle.std.proofs.Common.{◌≡◌, ℕ, List, [], ◌∷◌, ◌⊎◌, Option, Some, None, refl, sym, ◌∙◌, Bool, true, false}
-use Rattle.std.specs.Prelude.{◌↔◌, IsSome, is_some, ⊤}
+use Rattle.std.proofs.Common.{◌≡◌, ℕ, List, [], ◌∷◌, ◌⊎◌, refl, sym, ◌∙◌}
+use Rattle.std.specs.Prelude.{◌↔◌, is_some}
 use Rattle.std.specs.List.{All}
 use Rattle.std.proofs.lemmas.List.Elements.{All-nil, All-cons, All-head, All-tail}
-use Rattle.rules.specs.Database.{Record, HasRecord, IsPresent, IsInstalled, IsRemoved, HasSoundFlag, IsEssential, is_essential}
+use Rattle.rules.specs.Database.{Record, IsPresent, IsInstalled, IsRemoved, HasSoundFlag, IsEssential, is_essential}
 use Rattle.rules.specs.Legal.{UnpackAsks, ConfigureAsks, RemoveAsks, DeconfigureAsks, PurgeAsks, Asks, rules_of, Allowed, IsFirstUnkept, IsFirstFailing}
 use Rattle.rules.specs.State.{is_present_state, is_installed_state, is_config_files_state, is_sound_flag}
 use Rattle.rules.specs.Universe.{Universe, listed_of}
@@ -17,7 +17,7 @@ use Rattle.rules.proofs.DecidedSteps.{dec_HasRecord, dec_HasPreDepends, dec_HasN
 use Rattle.rules.proofs.GroupLemmas.{dec_IsIndivisible}
 use mathlib.Core.Logic.{inl, inr}
 
-dec_UnpackAsks : (u : Universe) (db : List Record) (name version : List ℕ) (asked : Rule) → Dec (UnpackAsks u db name version asked)
+unfoldable pub dec_UnpackAsks : (u : Universe) (db : List Record) (name version : List ℕ) (asked : Rule) → Dec (UnpackAsks u db name version asked)
 dec_UnpackAsks u db name version rule.NotAdmitted = dec_IsTrue (is_some (listed_of u name version))
 dec_UnpackAsks u db name version rule.Held = dec_IsNotHeld db name
 dec_UnpackAsks u db name version rule.WrongState = dec_not (dec_StandsAs db name version)
@@ -26,7 +26,7 @@ dec_UnpackAsks u db name version rule.Conflict = dec_OnListed (HasNoConflict db)
 dec_UnpackAsks u db name version rule.Breaks = dec_OnListed (BreaksNone db) (dec_BreaksNone db) (listed_of u name version)
 dec_UnpackAsks u db name version other = yes tt
 
-dec_ConfigureAsks : (db : List Record) (names : List (List ℕ)) (asked : Rule) → Dec (ConfigureAsks db names asked)
+unfoldable pub dec_ConfigureAsks : (db : List Record) (names : List (List ℕ)) (asked : Rule) → Dec (ConfigureAsks db names asked)
 dec_ConfigureAsks db names rule.WrongState = dec_AreConfigurable db names
 dec_ConfigureAsks db names rule.PreDepends = dec_ArePreDependsInstalled db names
 dec_ConfigureAsks db names rule.Depends = dec_AreDependsInstalled db names
@@ -34,7 +34,7 @@ dec_ConfigureAsks db names rule.Breaks = dec_AreUnbroken db names
 dec_ConfigureAsks db names rule.Group = dec_IsIndivisible db names
 dec_ConfigureAsks db names other = yes tt
 
-dec_RemoveAsks : (db : List Record) (name : List ℕ) (asked : Rule) → Dec (RemoveAsks db name asked)
+unfoldable pub dec_RemoveAsks : (db : List Record) (name : List ℕ) (asked : Rule) → Dec (RemoveAsks db name asked)
 dec_RemoveAsks db name rule.WrongState = dec_HasRecord (λ found. IsPresent found × HasSoundFlag found)
     (λ found. dec_and (dec_IsTrue (is_present_state found.state)) (dec_IsTrue (is_sound_flag found.flag))) name db
 dec_RemoveAsks db name rule.Held = dec_IsNotHeld db name
@@ -42,17 +42,17 @@ dec_RemoveAsks db name rule.Essential = dec_not (dec_HasRecord IsEssential (λ f
 dec_RemoveAsks db name rule.NeededBy = dec_IsNotNeeded db name
 dec_RemoveAsks db name other = yes tt
 
-dec_DeconfigureAsks : (db : List Record) (name : List ℕ) (asked : Rule) → Dec (DeconfigureAsks db name asked)
+unfoldable pub dec_DeconfigureAsks : (db : List Record) (name : List ℕ) (asked : Rule) → Dec (DeconfigureAsks db name asked)
 dec_DeconfigureAsks db name rule.WrongState = dec_HasRecord IsInstalled (λ found. dec_IsTrue (is_installed_state found.state)) name db
 dec_DeconfigureAsks db name other = yes tt
 
-dec_PurgeAsks : (db : List Record) (name : List ℕ) (asked : Rule) → Dec (PurgeAsks db name asked)
+unfoldable pub dec_PurgeAsks : (db : List Record) (name : List ℕ) (asked : Rule) → Dec (PurgeAsks db name asked)
 dec_PurgeAsks db name rule.WrongState = dec_HasRecord IsRemoved (λ found. dec_IsTrue (is_config_files_state found.state)) name db
 dec_PurgeAsks db name rule.Held = dec_IsNotHeld db name
 dec_PurgeAsks db name other = yes tt
 
 -- whether a step keeps a rule is decided
-pub dec_Asks : (u : Universe) (db : List Record) (taken : Step) (asked : Rule) → Dec (Asks u db taken asked)
+unfoldable pub dec_Asks : (u : Universe) (db : List Record) (taken : Step) (asked : Rule) → Dec (Asks u db taken asked)
 dec_Asks u db (step.Unpack name version) asked = dec_UnpackAsks u db name version asked
 dec_Asks u db (step.Deconfigure name) asked = dec_DeconfigureAsks db name asked
 dec_Asks u db (step.Configure names) asked = dec_ConfigureAsks db names asked
@@ -60,7 +60,7 @@ dec_Asks u db (step.Remove name) asked = dec_RemoveAsks db name asked
 dec_Asks u db (step.Purge name) asked = dec_PurgeAsks db name asked
 
 -- each list of rules is kept or has a first that isn't
-kept_or_first : (P : Rule → Type 0) → ((asked : Rule) → Dec (P asked)) → (asked : List Rule)
+unfoldable pub kept_or_first : (P : Rule → Type 0) → ((asked : Rule) → Dec (P asked)) → (asked : List Rule)
     → All P asked ⊎ ((unkept : Rule) × IsFirstUnkept P asked unkept)
 kept_or_first P each [] = inl (All-nil P)
 kept_or_first P each (first ∷ rest) = at (each first) (kept_or_first P each rest)
@@ -86,7 +86,7 @@ one_unkept P (topmost ∷ rest) first second (inl here) (inr later) = absurd (he
 one_unkept P (topmost ∷ rest) first second (inr later) (inl there) = absurd (there.1 later.0)
 one_unkept P (topmost ∷ rest) first second (inr later) (inr other) = one_unkept P rest first second later.1 other.1
 
-pub allowed_or_failing : (u : Universe) (db : List Record) (taken : Step)
+unfoldable pub allowed_or_failing : (u : Universe) (db : List Record) (taken : Step)
     → Allowed u db taken ⊎ ((failing : Rule) × IsFirstFailing u db taken failing)
 unfolding Allowed IsFirstFailing
 allowed_or_failing u db taken = kept_or_first (Asks u db taken) (dec_Asks u db taken) (rules_of taken)

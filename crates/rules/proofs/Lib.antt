@@ -1,9 +1,14 @@
+pub mod CandidateRows
 pub mod Decided
 pub mod DecidedPackages
 pub mod DecidedSteps
+pub mod EndRows
 pub mod GroupLemmas
 pub mod LegalLemmas
+pub mod MatchRows
 pub mod Members
 pub mod PlanLemmas
 pub mod QuietLemmas
+pub mod Rows
 pub mod RunLemmas
+pub mod StepRows

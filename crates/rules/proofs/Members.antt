@@ -1,8 +1,7 @@
 -- What holds of each element, of some element, and what the elements of changed lists are.
-use Rattle.std.proofs.Common.{◌||◌, ◌≡◌, ℕ, zero, suc, ◌<◌, Bool, true, false, cond, List, [], ◌∷◌, ◌++◌, map, length, ◌⊎◌, refl, sym, ap, subst, ◌∙◌, arith, get_or}
-use Rattle.std.specs.List.{All, Any, AllPairs, Contains, filter, list_any}
-use Rattle.std.proofs.lemmas.List.Elements.{All-weaker, All-contains_itself, All-contains, All-map, All-filter, filter_passes, Contains-get_or}
-use Rattle.std.proofs.lemmas.List.{get_or-map}
+use Rattle.std.proofs.Common.{◌||◌, ◌≡◌, zero, suc, Bool, true, false, cond, List, [], ◌∷◌, map, ◌⊎◌, refl, ap, subst, ◌∙◌, arith}
+use Rattle.std.specs.List.{All, Any, Contains, filter, list_any}
+use Rattle.std.proofs.lemmas.List.Elements.{All-weaker, All-contains_itself, All-contains, All-filter, filter_passes}
 use mathlib.Core.Logic.{inl, inr}
 
 -- what holds of each element by itself holds of all

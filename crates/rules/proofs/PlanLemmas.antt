@@ -1,14 +1,14 @@
 -- A good plan keeps its promise.
-use Rattle.std.proofs.Common.{◌≡◌, ◌≢◌, ℕ, List, [], ◌∷◌, ◌++◌, map, Option, Some, None, MatchOption, refl, sym, ap, subst, ◌∙◌}
+use Rattle.std.proofs.Common.{◌≡◌, ◌≢◌, ℕ, List, ◌∷◌, ◌++◌, Option, Some, MatchOption, subst}
 use Rattle.std.specs.Prelude.{IsTrue}
-use Rattle.std.specs.List.{All, Any, Contains, filter}
+use Rattle.std.specs.List.{All, Contains, filter}
 use Rattle.std.proofs.lemmas.List.Elements.{All-contains}
-use Rattle.rules.specs.Database.{Record, HasDistinctNames, IsQuiet, IsInstalled, IsUnfinished, pkg_of, installed_of}
+use Rattle.rules.specs.Database.{Record, HasDistinctNames, IsInstalled, IsUnfinished, pkg_of, installed_of}
 use Rattle.rules.specs.Legal.{Allowed}
 use Rattle.rules.specs.Package.{Pkg, Atom, MatchesSome, ConflictsWith, BreaksOther}
 use Rattle.rules.specs.PlanLaws.{HoldsOn, IsEssentialIn, IsSatisfiedIn, IsAsAsked, IsKept}
-use Rattle.rules.specs.Run.{Run, IsGoodEnd, IsGoodPlan, after}
-use Rattle.rules.specs.Sound.{MeetsClauses, MatchedByNoOther, IsContent, IsSound, Fulfils, FulfilsAll, HasMember, HasVersion, KeepsHold, KeepsEssential, IsFitting}
+use Rattle.rules.specs.Run.{Run, IsGoodEnd, IsGoodPlan}
+use Rattle.rules.specs.Sound.{MatchedByNoOther, IsContent, IsSound, FulfilsAll, HasMember, HasVersion, KeepsHold, KeepsEssential}
 use Rattle.rules.specs.State.{is_installed_state}
 use Rattle.rules.specs.Universe.{Universe, Start}
 use Rattle.rules.specs.declared.step.Step.{Step}

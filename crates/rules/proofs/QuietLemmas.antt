@@ -1,14 +1,14 @@
 -- Every action keeps names distinct, and every allowed one keeps a quiet database quiet.
-use Rattle.std.proofs.Common.{lit<, ◌≡◌, ◌≢◌, ℕ, zero, suc, ◌<◌, ◌+◌, Bool, true, false, not, cond, List, [], ◌∷◌, ◌++◌, map, length, ◌⊎◌, Option, Some, None, refl, sym, ap, subst, ◌∙◌, arith, bytes_eq, get_or}
-use Rattle.std.specs.Prelude.{IsTrue, ⊤}
-use Rattle.std.specs.List.{All, Any, AllPairs, Contains, filter, list_any}
+use Rattle.std.proofs.Common.{lit<, ◌≡◌, ◌≢◌, ℕ, zero, suc, ◌<◌, Bool, true, false, not, cond, List, [], ◌∷◌, ◌++◌, map, length, ◌⊎◌, Option, Some, None, refl, sym, ap, subst, ◌∙◌, arith, get_or}
+use Rattle.std.specs.Prelude.{IsTrue}
+use Rattle.std.specs.List.{All, AllPairs, Contains, filter, list_any}
 use Rattle.std.proofs.lemmas.List.{get_or-map}
 use Rattle.std.proofs.lemmas.List.Quantifiers.{all_pairs_push}
-use Rattle.std.proofs.lemmas.List.Elements.{All-contains, Contains-get_or, Contains-append_cases, All-head, All-filter}
+use Rattle.std.proofs.lemmas.List.Elements.{All-contains, Contains-get_or, Contains-append_cases, All-filter}
 use Rattle.std.proofs.Math.ListN.{length-map}
 use Rattle.rules.specs.Configure.{IsConfigurable, AreConfigurable}
 use Rattle.rules.specs.Database.{IsInstalled, Record, HasRecord, HasDistinctNames, IsAtPeaceWith, IsQuiet, IsPresent, pkg_of}
-use Rattle.rules.specs.Legal.{Allowed, Asks, UnpackAsks}
+use Rattle.rules.specs.Legal.{Allowed}
 use Rattle.rules.specs.Package.{Pkg, ConflictsWith}
 use Rattle.rules.specs.Run.{Run, after}
 use Rattle.rules.specs.State.{is_present_state, is_unconfigured_state, is_installed_state}
@@ -21,7 +21,7 @@ use Rattle.rules.specs.declared.step.Rule.TheVariants as rule
 use Rattle.rules.specs.declared.step.Step.{Step}
 use Rattle.rules.specs.declared.step.Step.TheVariants as step
 use Rattle.rules.proofs.GroupLemmas.{bytes_eq-true, bytes_eq-same, contains-is_among}
-use Rattle.rules.proofs.Members.{All-intro, Any-intro, Any-elim, Contains-head, Contains-cons, Contains-rest, Contains-nil, Contains-map, Contains-map_intro, Contains-filter, Contains-filter_intro, list_any-from_contains}
+use Rattle.rules.proofs.Members.{All-intro, Any-elim, Contains-cons, Contains-nil, Contains-map, Contains-filter, list_any-from_contains}
 use mathlib.Core.Logic.{inl, inr}
 
 -- a change that keeps each name keeps names distinct

@@ -1,5 +1,5 @@
 -- What a group of packages needs to be configured together (Policy 7.2 and 7.3).
-use Rattle.std.specs.Prelude.{◌≢◌, ℕ, ◌<◌, not, List, ◌++◌, map, length, bytes_eq}
+use Rattle.std.specs.Prelude.{ℕ, ◌<◌, not, List, ◌++◌, map, length, bytes_eq}
 use Rattle.std.specs.List.{Any, All, Contains, filter}
 use Rattle.rules.specs.Database.{Record, HasRecord, IsPresent, IsUnconfigured, HasSoundFlag, ForOthers, ForMembers, pkg_of, installed_of}
 use Rattle.rules.specs.Package.{Pkg, BreaksOther}

@@ -2,7 +2,7 @@
 -- by, in the order of the tests, and what each rule asks of it. What is said of holds and of admitted versions
 -- is this project's own.
 use Rattle.std.specs.Prelude.{◌≡◌, ℕ, List, [], ◌∷◌, ◌⊎◌, ⊤, IsSome}
-use Rattle.std.specs.List.{Any, All}
+use Rattle.std.specs.List.{All}
 use Rattle.rules.specs.Configure.{AreConfigurable, ArePreDependsInstalled, AreDependsInstalled, AreUnbroken, IsIndivisible}
 use Rattle.rules.specs.Database.{Record, HasRecord, IsPresent, IsInstalled, IsRemoved, HasSoundFlag, IsHeld, IsEssential}
 use Rattle.rules.specs.Remove.{IsNotNeeded}

@@ -1,5 +1,5 @@
 -- What a good plan promises, as a reader would say it.
-use Rattle.std.specs.Prelude.{◌≡◌, ◌≢◌, ℕ, List, ◌∷◌, ◌++◌, IsTrue, Option, Some}
+use Rattle.std.specs.Prelude.{◌≡◌, ◌≢◌, ℕ, List, ◌∷◌, ◌++◌, IsTrue, Some}
 use Rattle.std.specs.List.{All, Any, Contains}
 use Rattle.rules.specs.Database.{Record, HasDistinctNames, IsQuiet, IsInstalled, IsUnfinished, pkg_of, installed_of}
 use Rattle.rules.specs.Legal.{Allowed}

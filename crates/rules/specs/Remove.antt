@@ -1,6 +1,6 @@
 -- What a package needs to be removed: that no other needs it (Policy 7.2).
-use Rattle.std.specs.Prelude.{◌≡◌, ◌≢◌, ℕ, List, ◌++◌}
-use Rattle.std.specs.List.{Any, All}
+use Rattle.std.specs.Prelude.{◌≡◌, ℕ, List, ◌++◌}
+use Rattle.std.specs.List.{All}
 use Rattle.rules.specs.Database.{Record, IsInstalled, Stands, ForOthers, SomeOther, pkg_of}
 use Rattle.rules.specs.Package.{Atom, MatchesSome}
 

@@ -1,5 +1,5 @@
 -- What follows for runs: they go on, they have one end, and they keep names distinct and packages at peace.
-use Rattle.std.specs.Prelude.{◌≡◌, List, ◌++◌, ◌∷◌, ◌⊎◌, ◌↔◌, ℕ, Option}
+use Rattle.std.specs.Prelude.{◌≡◌, List, ◌++◌, ◌⊎◌, ◌↔◌, ℕ, Option}
 use Rattle.rules.specs.Database.{Record, HasDistinctNames, IsQuiet}
 use Rattle.rules.specs.Legal.{Allowed}
 use Rattle.rules.specs.Run.{Run, StopsAt, after}

@@ -1,6 +1,6 @@
 -- What a package needs to be unpacked (Policy 7.2, 7.3 and 7.4). That an unpacked package which was configured
 -- before satisfies Pre-Depends also by what it provides is this project's own.
-use Rattle.std.specs.Prelude.{◌≡◌, ◌≢◌, ℕ, false, List, ◌⊎◌, ⊤, Option, MatchOption}
+use Rattle.std.specs.Prelude.{◌≡◌, ℕ, false, List, ◌⊎◌, ⊤, Option, MatchOption}
 use Rattle.std.specs.List.{Any, All}
 use Rattle.rules.specs.Database.{Record, IsPresent, IsUnconfigured, IsInstalled, ForOthers, SomeOther, version_of, pkg_of}
 use Rattle.rules.specs.Package.{Pkg, Atom, Meets, Matches, FitsByProvides, ConflictsWith, BreaksOther}
