@@ -16,12 +16,20 @@ use Rattle.rules.proofs.Rows.{package_of, record_of}
 
 abbrev stable : Release
 stable = record {
-  archive = None; suite = Some (codes "stable"); codename = None; version = None; component = None; origin = None;
-  label = None; host = []; not_automatic = false; but_automatic_upgrades = false
+  archive = None;
+  suite = Some (codes "stable");
+  codename = None;
+  version = None;
+  component = None;
+  origin = None;
+  label = None;
+  host = [];
+  not_automatic = false;
+  but_automatic_upgrades = false;
 }
 
 abbrev foo_1 : Listed
-foo_1 = record { pkg = package_of (codes "foo") (codes "1") no_relations; fields = []; bytes = [] }
+foo_1 = record { pkg = package_of (codes "foo") (codes "1") no_relations; is_essential = false; stanza = record { fields = []; bytes = None } }
 
 abbrev pinned_at : ℤ → Inputs
 pinned_at priority = record {
@@ -30,10 +38,10 @@ pinned_at priority = record {
   preferences = record {
     names = pinned.Listed (codes "foo" ∷ []);
     pin = pin.Release (record { key = key.Archive; value = codes "stable" } ∷ []);
-    priority = priority
+    priority = priority;
   } ∷ [];
   target = None;
-  goals = []
+  goals = [];
 }
 
 -- the record decides the priority of `foo 1`

@@ -2,7 +2,7 @@
 use Rattle.std.proofs.Common.{◌≡◌, ◌≢◌, ℕ, List, ◌++◌, Some, None, Option, MatchOption}
 use Rattle.std.specs.List.{Contains}
 use Rattle.rules.specs.Configure.{IsConfigurable, AreConfigurable, ArePreDependsInstalled, AreDependsInstalled, IsUnbroken, AreUnbroken, members_of}
-use Rattle.rules.specs.Database.{Record, HasRecord, ForOthers, SomeOther, ForMembers, IsPresent, IsInstalled, Stands, IsHeld, stands, version_of, pkg_of, installed_of}
+use Rattle.rules.specs.Database.{Record, HasRecord, ForOthers, SomeOther, ForMembers, IsPresent, IsInstalled, Stands, IsHeld, stands, pkg_of, installed_of}
 use Rattle.rules.specs.Legal.{IsNotHeld}
 use Rattle.rules.specs.Package.{Pkg, Atom, MatchesSome, BreaksOther}
 use Rattle.rules.specs.Remove.{ManagesWithout, NeedsNot, IsNotNeeded}
@@ -34,7 +34,7 @@ dec_ForMembers P each names db = dec_All (λ member. Contains names member.name 
 unfoldable pub dec_FitsThenAndNow : (found : Record) (atom : Atom) (config_version : List ℕ) → Dec (FitsThenAndNow found atom config_version)
 unfolding FitsThenAndNow
 dec_FitsThenAndNow found atom config_version = dec_or
-    (dec_and3 (dec_text found.name atom.name) (dec_Meets (version_of found) atom.restriction) (dec_Meets config_version atom.restriction))
+    (dec_and3 (dec_text found.name atom.name) (dec_Meets found.version atom.restriction) (dec_Meets config_version atom.restriction))
     (dec_FitsByProvides (pkg_of found) atom)
 
 -- of what is there, where it is decided of each
@@ -85,8 +85,8 @@ dec_IsNotHeld db name = dec_not (dec_HasRecord IsHeld (λ found. dec_IsTrue (is_
 
 unfoldable pub dec_StandsAs : (db : List Record) (name version : List ℕ) → Dec (StandsAs db name version)
 unfolding StandsAs
-dec_StandsAs db name version = dec_HasRecord (λ found. Stands found × SameVersion (version_of found) version)
-    (λ found. dec_and (dec_IsTrue (stands found)) (dec_SameVersion (version_of found) version)) name db
+dec_StandsAs db name version = dec_HasRecord (λ found. Stands found × SameVersion found.version version)
+    (λ found. dec_and (dec_IsTrue (stands found)) (dec_SameVersion found.version version)) name db
 
 unfoldable pub dec_AreConfigurable : (db : List Record) (names : List (List ℕ)) → Dec (AreConfigurable db names)
 unfolding AreConfigurable
@@ -116,7 +116,7 @@ unfoldable pub dec_ManagesWithout : (db : List Record) (removed : Record) (claus
 unfolding ManagesWithout
 dec_ManagesWithout db removed clause = dec_implies (dec_MatchesSome (pkg_of removed) clause)
     (dec_SomeOther (λ other. Stands other × MatchesSome (pkg_of other) clause)
-      (λ other. dec_and (dec_IsTrue (stands other)) (dec_MatchesSome (pkg_of other) clause)) removed.name db)
+    (λ other. dec_and (dec_IsTrue (stands other)) (dec_MatchesSome (pkg_of other) clause)) removed.name db)
 
 unfoldable pub dec_NeedsNot : (db : List Record) (removed other : Record) → Dec (NeedsNot db removed other)
 unfolding NeedsNot

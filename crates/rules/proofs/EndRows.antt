@@ -31,7 +31,7 @@ pub nothing_done : IsFirstAgainst u [] (reason.Goal 1)
 unfolding IsUnfulfilled
 nothing_done = record {
   against = (0, goal.Install (codes "foo") None, omega arith, refl, λ fulfilled. absurd (omega (arith, fulfilled.0.2)));
-  least = least
+  least = least;
 }
   where
     least : (other : Reason) → IsAgainst u [] other → ¬ (reason_cmp other (reason.Goal 1) ≡ Less)
@@ -47,7 +47,7 @@ left_unpacked = record_of Installed (Some (codes "1.0")) bar_1 ∷ record_of Unp
 pub foo_unfinished : IsFirstAgainst u left_unpacked (reason.Unfinished (codes "foo"))
 foo_unfinished = record {
   against = (1, record_of Unpacked None foo_1, lit< tt, refl, (refl, refl));
-  least = least
+  least = least;
 }
   where
     later : (name : List ℕ) (found : Record) → (record_of Unpacked None foo_1 ≡ found) ⊎ Contains [] found → found.name ≡ name
@@ -68,7 +68,7 @@ foo_unfinished = record {
     least : (other : Reason) → IsAgainst u left_unpacked other → ¬ (reason_cmp other (reason.Unfinished (codes "foo")) ≡ Less)
     least (reason.Unfinished name) against is = Any-elim (λ found. (found.name ≡ name) × IsUnfinished found) left_unpacked ⊥
         (λ found within both. unfinished name found
-          (Contains-cons (record_of Installed (Some (codes "1.0")) bar_1) (record_of Unpacked None foo_1 ∷ []) found within) both.0 both.1 is) against
+        (Contains-cons (record_of Installed (Some (codes "1.0")) bar_1) (record_of Unpacked None foo_1 ∷ []) found within) both.0 both.1 is) against
     least (reason.Relation name) against is = absurd (let e : Greater ≡ Less = is in cc)
     least (reason.Essential name) against is = absurd (let e : Greater ≡ Less = is in cc)
     least (reason.Goal number) against is = absurd (let e : Greater ≡ Less = is in cc)

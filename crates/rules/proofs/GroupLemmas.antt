@@ -55,15 +55,16 @@ members_of-more db names more within member there =
     let kept = Contains-filter (is_among names) db from.0 from.1 in
     let among : is_among more from.0 ≡ true = is_among-contains more from.0 (within from.0.name (contains-is_among names from.0 kept.1)) in
     subst (Contains (members_of more db)) from.2
-        (Contains-map_intro pkg_of (filter (is_among more) db) from.0 (Contains-filter_intro (is_among more) db from.0 kept.0 among))
+    (Contains-map_intro pkg_of (filter (is_among more) db) from.0 (Contains-filter_intro (is_among more) db from.0 kept.0 among))
 
 -- the members of a group and the installed packages, of more names
 pub available-more : (db : List Record) (names more : List (List ℕ)) → ((name : List ℕ) → Contains names name → Contains more name)
     → (member : Pkg) → Contains (installed_of db ++ members_of names db) member
     → Contains (installed_of db ++ members_of more db) member
-available-more db names more within member there = elim (Contains-append_cases (installed_of db) (members_of names db) member there)
-    [ inl installed ↦ Contains-append_left (installed_of db) (members_of more db) member installed
-    | inr grouped ↦ Contains-append_right (installed_of db) (members_of more db) member (members_of-more db names more within member grouped) ]
+available-more db names more within member there = elim (Contains-append_cases (installed_of db) (members_of names db) member there) [
+  | inl installed ↦ Contains-append_left (installed_of db) (members_of more db) member installed
+  | inr grouped ↦ Contains-append_right (installed_of db) (members_of more db) member (members_of-more db names more within member grouped)
+]
 
 -- what the tests ask of one name of a group
 pub record MemberPasses (db : List Record) (group : List (List ℕ)) (name : List ℕ) : Type 0 where
@@ -92,7 +93,7 @@ GroupPasses-each db group passes name within = record {
   configurable = All-contains (λ n. HasRecord IsConfigurable n db) group name passes.configurable within;
   pre_depends = ForMembers-each (λ member. MeetsClauses (installed_of db) member.relations.pre_depends) group db passes.pre_depends name within;
   depends = ForMembers-each (λ member. MeetsClauses (installed_of db ++ members_of group db) member.relations.depends) group db passes.depends name within;
-  unbroken = ForMembers-each (IsUnbroken db) group db passes.unbroken name within
+  unbroken = ForMembers-each (IsUnbroken db) group db passes.unbroken name within;
 }
 
 pub GroupPasses-from_each : (db : List Record) (group : List (List ℕ)) → ((name : List ℕ) → Contains group name → MemberPasses db group name)
@@ -102,7 +103,7 @@ GroupPasses-from_each db group each = record {
   configurable = All-intro (λ n. HasRecord IsConfigurable n db) group (λ name within. (each name within).configurable);
   pre_depends = ForMembers-from_each (λ member. MeetsClauses (installed_of db) member.relations.pre_depends) group db (λ name within. (each name within).pre_depends);
   depends = ForMembers-from_each (λ member. MeetsClauses (installed_of db ++ members_of group db) member.relations.depends) group db (λ name within. (each name within).depends);
-  unbroken = ForMembers-from_each (IsUnbroken db) group db (λ name within. (each name within).unbroken)
+  unbroken = ForMembers-from_each (IsUnbroken db) group db (λ name within. (each name within).unbroken);
 }
 
 -- a name that passes in a group passes in one of more names
@@ -112,21 +113,22 @@ MemberPasses-more db names more within name passes = record {
   configurable = passes.configurable;
   pre_depends = passes.pre_depends;
   depends = All-weaker (λ member. member.name ≡ name → MeetsClauses (installed_of db ++ members_of names db) member.relations.depends)
-    (λ member. member.name ≡ name → MeetsClauses (installed_of db ++ members_of more db) member.relations.depends)
-    (λ member holds same. MeetsClauses-more (installed_of db ++ members_of names db) (installed_of db ++ members_of more db)
+      (λ member. member.name ≡ name → MeetsClauses (installed_of db ++ members_of more db) member.relations.depends)
+      (λ member holds same. MeetsClauses-more (installed_of db ++ members_of names db) (installed_of db ++ members_of more db)
       (available-more db names more within) member.relations.depends (holds same)) db passes.depends;
-  unbroken = passes.unbroken
+  unbroken = passes.unbroken;
 }
 
 -- two groups that pass do so together
 pub GroupPasses-append : (db : List Record) (names others : List (List ℕ)) → GroupPasses db names → GroupPasses db others
     → GroupPasses db (names ++ others)
 GroupPasses-append db names others first second = GroupPasses-from_each db (names ++ others) (λ name within.
-    elim (Contains-append_cases names others name within)
-      [ inl here ↦ MemberPasses-more db names (names ++ others) (λ n there. Contains-append_left names others n there) name
+    elim (Contains-append_cases names others name within) [
+      | inl here ↦ MemberPasses-more db names (names ++ others) (λ n there. Contains-append_left names others n there) name
           (GroupPasses-each db names first name here)
       | inr there ↦ MemberPasses-more db others (names ++ others) (λ n there. Contains-append_right names others n there) name
-          (GroupPasses-each db others second name there) ])
+          (GroupPasses-each db others second name there)
+    ])
 
 -- of a record of a name, where it is decided of each record
 unfoldable pub dec_named : (P : Record → Type 0) → ((member : Record) → Dec (P member)) → (name : List ℕ) (db : List Record)
@@ -139,14 +141,14 @@ dec_MemberPasses db group name = dec_like
     (λ all. record { configurable = all.0.0; pre_depends = all.0.1; depends = all.1.0; unbroken = all.1.1 })
     (λ passes. ((passes.configurable, passes.pre_depends), (passes.depends, passes.unbroken)))
     (dec_and
-      (dec_and
-        (dec_HasRecord IsConfigurable (λ found. dec_and (dec_IsTrue (is_unconfigured_state found.state)) (dec_IsTrue (is_sound_flag found.flag))) name db)
-        (dec_named (λ member. MeetsClauses (installed_of db) member.relations.pre_depends)
-          (λ member. dec_MeetsClauses (installed_of db) member.relations.pre_depends) name db))
-      (dec_and
-        (dec_named (λ member. MeetsClauses (installed_of db ++ members_of group db) member.relations.depends)
-          (λ member. dec_MeetsClauses (installed_of db ++ members_of group db) member.relations.depends) name db)
-        (dec_named (IsUnbroken db) (dec_IsUnbroken db) name db)))
+    (dec_and
+    (dec_HasRecord IsConfigurable (λ found. dec_and (dec_IsTrue (is_unconfigured_state found.state)) (dec_IsTrue (is_sound_flag found.flag))) name db)
+    (dec_named (λ member. MeetsClauses (installed_of db) member.relations.pre_depends)
+    (λ member. dec_MeetsClauses (installed_of db) member.relations.pre_depends) name db))
+    (dec_and
+    (dec_named (λ member. MeetsClauses (installed_of db ++ members_of group db) member.relations.depends)
+    (λ member. dec_MeetsClauses (installed_of db ++ members_of group db) member.relations.depends) name db)
+    (dec_named (IsUnbroken db) (dec_IsUnbroken db) name db)))
 
 -- the others of a group are names of it, and not this one
 pub others_of-contains : (name : List ℕ) (names : List (List ℕ)) (other : List ℕ) → Contains (others_of name names) other
@@ -206,7 +208,7 @@ greatest_upto zero db names short = (names, whole)
     whole = record {
       within = All-contains_itself names;
       passes = GroupPasses-from_each db names (λ name within. absurd (empty name within));
-      greatest = λ other within passes. within
+      greatest = λ other within passes. within;
     }
 greatest_upto (suc most) db names short =
     at (all_or_some (MemberPasses db names) (dec_MemberPasses db names) names) (λ fewer below. greatest_upto most db fewer below)
@@ -219,22 +221,25 @@ greatest_upto (suc most) db names short =
         → (part : List (List ℕ)) → IsGreatestPart db (others_of name names) part → IsGreatestPart db names part
     without name within fails part found = record {
       within = All-weaker (Contains (others_of name names)) (Contains names)
-        (λ other there. (others_of-contains name names other there).0) part found.within;
+          (λ other there. (others_of-contains name names other there).0) part found.within;
       passes = found.passes;
       greatest = λ other inside passes. found.greatest other
-        (All-intro (Contains (others_of name names)) other (λ n there. contains-others_of name names n
+          (All-intro (Contains (others_of name names)) other (λ n there. contains-others_of name names n
           (All-contains (Contains names) other n inside there)
-          (λ same. fails_in_part db names other inside passes name fails (subst (Contains other) same there)))) passes
+          (λ same. fails_in_part db names other inside passes name fails (subst (Contains other) same there)))) passes;
     }
 
     at : All (MemberPasses db names) names ⊎ Any (λ name. ¬ MemberPasses db names name) names
         → ((fewer : List (List ℕ)) → length fewer ≤ most → (part : List (List ℕ)) × IsGreatestPart db fewer part)
         → (part : List (List ℕ)) × IsGreatestPart db names part
-    at (inl all) go_on = (names, record {
-      within = All-contains_itself names;
-      passes = GroupPasses-from_each db names (λ name within. All-contains (MemberPasses db names) names name all within);
-      greatest = λ other within passes. within
-    })
+    at (inl all) go_on = (
+      names,
+      record {
+        within = All-contains_itself names;
+        passes = GroupPasses-from_each db names (λ name within. All-contains (MemberPasses db names) names name all within);
+        greatest = λ other within passes. within;
+      },
+    )
     at (inr some) go_on =
         let within = Any-contains (λ name. ¬ MemberPasses db names name) names some in
         let found = go_on (others_of some.1 names) (fewer_names some.1 within) in
@@ -260,9 +265,9 @@ others_empty db names indivisible = All-intro _ names each
     proper name within part found first there = record {
       some = let h = there.1 in omega arith;
       within = All-weaker (Contains (others_of name names)) (Contains names)
-        (λ other inside. (others_of-contains name names other inside).0) part found.within;
+          (λ other inside. (others_of-contains name names other inside).0) part found.within;
       proper = Any-intro (λ n. ¬ Contains part n) names name within
-        (λ inside. (others_of-contains name names name (All-contains (Contains (others_of name names)) part name found.within inside)).1 refl)
+          (λ inside. (others_of-contains name names name (All-contains (Contains (others_of name names)) part name found.within inside)).1 refl);
     }
 
     each : (name : List ℕ) → Contains names name → (part : List (List ℕ)) → IsGreatestPart db (others_of name names) part → part ≡ []
@@ -285,12 +290,12 @@ indivisible_from_others db names empty part proper passes =
     missing name within outside =
         let found = greatest_part db (others_of name names) in
         let nothing : found.0 ≡ [] = All-contains (λ n. (other : List (List ℕ)) → IsGreatestPart db (others_of n names) other → other ≡ [])
-              names name empty within found.0 found.1 in
+        names name empty within found.0 found.1 in
         let inside : All (Contains (others_of name names)) part = All-intro (Contains (others_of name names)) part
-              (λ n there. contains-others_of name names n (All-contains (Contains names) part n proper.within there)
-                (λ same. outside (subst (Contains part) same there))) in
+        (λ n there. contains-others_of name names n (All-contains (Contains names) part n proper.within there)
+        (λ same. outside (subst (Contains part) same there))) in
         none_of part proper.some (let P : List (List ℕ) → Type 0 = λ other. All (Contains other) part in
-              subst P nothing (found.1.greatest part inside passes))
+        subst P nothing (found.1.greatest part inside passes))
 
 -- whether a group is indivisible is decided
 unfoldable pub dec_IsIndivisible : (db : List Record) (names : List (List ℕ)) → Dec (IsIndivisible db names)

@@ -3,7 +3,7 @@ use Rattle.std.proofs.Common.{◌≡◌, ℕ, List, [], ◌∷◌, ◌⊎◌, re
 use Rattle.std.specs.Prelude.{◌↔◌, is_some}
 use Rattle.std.specs.List.{All}
 use Rattle.std.proofs.lemmas.List.Elements.{All-nil, All-cons, All-head, All-tail}
-use Rattle.rules.specs.Database.{Record, IsPresent, IsInstalled, IsRemoved, HasSoundFlag, IsEssential, is_essential}
+use Rattle.rules.specs.Database.{Record, IsPresent, IsInstalled, IsRemoved, HasSoundFlag, IsEssential}
 use Rattle.rules.specs.Legal.{UnpackAsks, ConfigureAsks, RemoveAsks, DeconfigureAsks, PurgeAsks, Asks, rules_of, Allowed, IsFirstUnkept, IsFirstFailing}
 use Rattle.rules.specs.State.{is_present_state, is_installed_state, is_config_files_state, is_sound_flag}
 use Rattle.rules.specs.Universe.{Universe, listed_of}
@@ -38,7 +38,7 @@ unfoldable pub dec_RemoveAsks : (db : List Record) (name : List ℕ) (asked : Ru
 dec_RemoveAsks db name rule.WrongState = dec_HasRecord (λ found. IsPresent found × HasSoundFlag found)
     (λ found. dec_and (dec_IsTrue (is_present_state found.state)) (dec_IsTrue (is_sound_flag found.flag))) name db
 dec_RemoveAsks db name rule.Held = dec_IsNotHeld db name
-dec_RemoveAsks db name rule.Essential = dec_not (dec_HasRecord IsEssential (λ found. dec_IsTrue (is_essential found)) name db)
+dec_RemoveAsks db name rule.Essential = dec_not (dec_HasRecord IsEssential (λ found. dec_IsTrue found.is_essential) name db)
 dec_RemoveAsks db name rule.NeededBy = dec_IsNotNeeded db name
 dec_RemoveAsks db name other = yes tt
 
@@ -103,5 +103,7 @@ one_first_failing u db taken first second found other = one_unkept (Asks u db ta
 
 pub allowed_where_none_fails : (u : Universe) (db : List Record) (taken : Step)
     → Allowed u db taken ↔ ((failing : Rule) → ¬ IsFirstFailing u db taken failing)
-allowed_where_none_fails u db taken = (λ allowed failing. allowed_fails_none u db taken failing allowed,
-    λ none. elim (allowed_or_failing u db taken) [ inl allowed ↦ allowed | inr found ↦ absurd (none found.0 found.1) ])
+allowed_where_none_fails u db taken = (
+  λ allowed failing. allowed_fails_none u db taken failing allowed,
+  λ none. elim (allowed_or_failing u db taken) [ inl allowed ↦ allowed | inr found ↦ absurd (none found.0 found.1) ],
+)

@@ -3,6 +3,7 @@ pub mod Decided
 pub mod DecidedPackages
 pub mod DecidedSteps
 pub mod EndRows
+pub mod EntryLemmas
 pub mod GroupLemmas
 pub mod LegalLemmas
 pub mod MatchRows

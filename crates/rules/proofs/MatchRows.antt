@@ -32,6 +32,11 @@ bar = any_of (codes "bar")
 pub matches_rows : Matches x_5 bar_from_1_0 × (¬ Matches y_1 bar_from_1_0) × (¬ Matches bar_0_9 bar_from_1_0)
     × Matches x_5 bar × Matches y_1 bar × Matches bar_0_9 bar
 unfolding version_cmp dec_Decides dec_IsTrue dec_IsFalse dec_and dec_and3 dec_or dec_like dec_Any dec_text dec_MeetsRestriction dec_Meets dec_MeetsAsProvided dec_FitsByName dec_FitsProvided dec_FitsByProvides dec_Matches
-matches_rows = (so (dec_Matches x_5 bar_from_1_0) refl, not_so (dec_Matches y_1 bar_from_1_0) refl,
-    not_so (dec_Matches bar_0_9 bar_from_1_0) refl, so (dec_Matches x_5 bar) refl, so (dec_Matches y_1 bar) refl,
-    so (dec_Matches bar_0_9 bar) refl)
+matches_rows = (
+  so (dec_Matches x_5 bar_from_1_0) refl,
+  not_so (dec_Matches y_1 bar_from_1_0) refl,
+  not_so (dec_Matches bar_0_9 bar_from_1_0) refl,
+  so (dec_Matches x_5 bar) refl,
+  so (dec_Matches y_1 bar) refl,
+  so (dec_Matches bar_0_9 bar) refl,
+)

@@ -46,32 +46,36 @@ Contains-nil y within = omega (arith, within.1)
 pub Contains-map : {X Y : Type 0} (f : X → Y) (xs : List X) (y : Y) → Contains (map f xs) y
     → (x : X) × Contains xs x × (f x ≡ y)
 Contains-map f [] y within = absurd (Contains-nil y within)
-Contains-map f (x ∷ xs) y within = elim (Contains-cons (f x) (map f xs) y within)
-    [ inl same ↦ (x, Contains-head x xs, same)
-    | inr later ↦ let found = Contains-map f xs y later in (found.0, Contains-rest x xs found.0 found.1, found.2) ]
+Contains-map f (x ∷ xs) y within = elim (Contains-cons (f x) (map f xs) y within) [
+  | inl same ↦ (x, Contains-head x xs, same)
+  | inr later ↦ let found = Contains-map f xs y later in (found.0, Contains-rest x xs found.0 found.1, found.2)
+]
 
 -- what an element becomes is an element of the mapped list
 pub Contains-map_intro : {X Y : Type 0} (f : X → Y) (xs : List X) (x : X) → Contains xs x → Contains (map f xs) (f x)
 Contains-map_intro f [] y within = absurd (Contains-nil y within)
-Contains-map_intro {X} f (x ∷ xs) y within = elim (Contains-cons x xs y within)
-    [ inl same ↦ let P : X → Type 0 = λ z. Contains (f x ∷ map f xs) (f z) in subst P same (Contains-head (f x) (map f xs))
-    | inr later ↦ Contains-rest (f x) (map f xs) (f y) (Contains-map_intro f xs y later) ]
+Contains-map_intro {X} f (x ∷ xs) y within = elim (Contains-cons x xs y within) [
+  | inl same ↦ let P : X → Type 0 = λ z. Contains (f x ∷ map f xs) (f z) in subst P same (Contains-head (f x) (map f xs))
+  | inr later ↦ Contains-rest (f x) (map f xs) (f y) (Contains-map_intro f xs y later)
+]
 
 -- an element of a filtered list is an element that passes
 pub Contains-filter : {X : Type 0} (p : X → Bool) (xs : List X) (y : X) → Contains (filter p xs) y
     → Contains xs y × (p y ≡ true)
 Contains-filter p xs y within = (
-    All-contains (Contains xs) (filter p xs) y (All-filter p (Contains xs) xs (All-contains_itself xs)) within,
-    All-contains (λ x. p x ≡ true) (filter p xs) y (filter_passes p xs) within)
+  All-contains (Contains xs) (filter p xs) y (All-filter p (Contains xs) xs (All-contains_itself xs)) within,
+  All-contains (λ x. p x ≡ true) (filter p xs) y (filter_passes p xs) within,
+)
 
 -- an element that passes is an element of the filtered list
 pub Contains-filter_intro : {X : Type 0} (p : X → Bool) (xs : List X) (y : X) → Contains xs y → p y ≡ true
     → Contains (filter p xs) y
 Contains-filter_intro p [] y within passes = absurd (Contains-nil y within)
-Contains-filter_intro {X} p (x ∷ xs) y within passes = elim (Contains-cons x xs y within)
-    [ inl same ↦ rw (ap p same ∙ passes)
-        (let P : X → Type 0 = λ z. Contains (x ∷ filter p xs) z in subst P same (Contains-head x (filter p xs)))
-    | inr later ↦ past x (p x) (filter p xs) (Contains-filter_intro p xs y later passes) ]
+Contains-filter_intro {X} p (x ∷ xs) y within passes = elim (Contains-cons x xs y within) [
+  | inl same ↦ rw (ap p same ∙ passes)
+      (let P : X → Type 0 = λ z. Contains (x ∷ filter p xs) z in subst P same (Contains-head x (filter p xs)))
+  | inr later ↦ past x (p x) (filter p xs) (Contains-filter_intro p xs y later passes)
+]
   where
     past : (x : X) (b : Bool) (kept : List X) → Contains kept y → Contains (cond b (x ∷ kept) kept) y
     past x true kept there = Contains-rest x kept y there
@@ -94,9 +98,10 @@ Any-from_list_any {X} p (x ∷ xs) passes = at (p x) refl passes (Any-from_list_
 -- where an element passes, the test passes some element
 pub list_any-from_contains : {X : Type 0} (p : X → Bool) (xs : List X) (x : X) → Contains xs x → p x ≡ true → list_any p xs ≡ true
 list_any-from_contains p [] x within passes = absurd (Contains-nil x within)
-list_any-from_contains p (y ∷ ys) x within passes = elim (Contains-cons y ys x within)
-    [ inl same ↦ rw (ap p same ∙ passes) refl
-    | inr later ↦ rw (list_any-from_contains p ys x later passes) (or_true (p y)) ]
+list_any-from_contains p (y ∷ ys) x within passes = elim (Contains-cons y ys x within) [
+  | inl same ↦ rw (ap p same ∙ passes) refl
+  | inr later ↦ rw (list_any-from_contains p ys x later passes) (or_true (p y))
+]
   where
     or_true : (b : Bool) → (b || true) ≡ true
     or_true true = refl

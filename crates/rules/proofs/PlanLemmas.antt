@@ -34,12 +34,12 @@ satisfied_in : (db : List Record) → IsSound (installed_of db) → (found : Rec
 unfolding IsSound ConflictsWith BreaksOther
 satisfied_in db sound found within is =
     let content : IsContent (installed_of db) (pkg_of found) =
-          All-contains (IsContent (installed_of db)) (installed_of db) (pkg_of found) sound (installed_contains db found within is) in
+    All-contains (IsContent (installed_of db)) (installed_of db) (pkg_of found) sound (installed_contains db found within is) in
     record {
       pre_depends = content.pre_depends;
       depends = content.depends;
       conflicts = no_other db found found.relations.conflicts content.conflicts;
-      breaks = no_other db found found.relations.breaks content.breaks
+      breaks = no_other db found found.relations.breaks content.breaks;
     }
 
 -- a hold that is kept
@@ -50,9 +50,9 @@ held_version u members keeps name version holds = Any-elim
     (λ (start : Start). (start.name ≡ name) × IsTrue start.is_held × (start.standing ≡ Some version)) u.starts
     (HasVersion name version members)
     (λ (start : Start) within found.
-      let P : Option (List ℕ) → Type 0 = λ standing. MatchOption standing (Unit {0}) (λ v. HasVersion start.name v members) in
-      let there = subst P found.2 (All-contains (KeepsHold members) u.starts start keeps within found.1) in
-      let Q : List ℕ → Type 0 = λ n. HasVersion n version members in subst Q found.0 there) holds
+    let P : Option (List ℕ) → Type 0 = λ standing. MatchOption standing (Unit {0}) (λ v. HasVersion start.name v members) in
+    let there = subst P found.2 (All-contains (KeepsHold members) u.starts start keeps within found.1) in
+    let Q : List ℕ → Type 0 = λ n. HasVersion n version members in subst Q found.0 there) holds
 
 essential_member : (u : Universe) (members : List Pkg) → All (KeepsEssential members) u.starts → (name : List ℕ)
     → IsEssentialIn u name → HasMember name members
@@ -61,8 +61,8 @@ essential_member u members keeps name essential = Any-elim
     (λ (start : Start). (start.name ≡ name) × IsTrue start.is_essential × IsTrue start.is_present) u.starts
     (HasMember name members)
     (λ (start : Start) within found.
-      let Q : List ℕ → Type 0 = λ n. HasMember n members in
-      subst Q found.0 (All-contains (KeepsEssential members) u.starts start keeps within found.1 found.2)) essential
+    let Q : List ℕ → Type 0 = λ n. HasMember n members in
+    subst Q found.0 (All-contains (KeepsEssential members) u.starts start keeps within found.1 found.2)) essential
 
 as_asked : (u : Universe) (db : List Record) → IsGoodEnd u db → IsAsAsked u db
 unfolding FulfilsAll
@@ -71,7 +71,7 @@ as_asked u db good = record {
   held = held_version u (installed_of db) good.fitting.held;
   essential = essential_member u (installed_of db) good.fitting.essential;
   satisfied = satisfied_in db good.fitting.sound;
-  finished = λ found within. All-contains (λ r. ¬ IsUnfinished r) db found good.finished within
+  finished = λ found within. All-contains (λ r. ¬ IsUnfinished r) db found good.finished within;
 }
 
 -- the part of a run before a place
@@ -93,8 +93,8 @@ pub good_plan_is_kept : (u : Universe) (start : List Record) (steps : List Step)
 good_plan_is_kept u start steps distinct plan = record {
   reaches = λ before rest place. let parts = reaches u start plan.finish steps before rest plan.run place in (parts.0, parts.1);
   allowed = λ before rest step reached place here.
-    step_allowed u start plan.finish reached steps before rest step plan.run place here;
+      step_allowed u start plan.finish reached steps before rest step plan.run place here;
   quiet = λ before rest reached place here. quiet_after_run u start reached before distinct plan.quiet here;
   as_asked = λ finish run.
-    as_asked u finish (subst (IsGoodEnd u) (one_end u start plan.finish finish steps plan.run run) plan.good)
+      as_asked u finish (subst (IsGoodEnd u) (one_end u start plan.finish finish steps plan.run run) plan.good);
 }

@@ -32,9 +32,9 @@ distinct_map change keeps db distinct i j d before within same =
     let long : j < length db = subst (λ n. j < n) (length-map db change) within in
     let short : i < length db = omega arith in
     let first : (get_or (map change db) i d).name ≡ (get_or db i d).name =
-          ap (λ (r : Record). r.name) (get_or-map change db i d d short) ∙ keeps (get_or db i d) in
+    ap (λ (r : Record). r.name) (get_or-map change db i d d short) ∙ keeps (get_or db i d) in
     let second : (get_or (map change db) j d).name ≡ (get_or db j d).name =
-          ap (λ (r : Record). r.name) (get_or-map change db j d d long) ∙ keeps (get_or db j d) in
+    ap (λ (r : Record). r.name) (get_or-map change db j d d long) ∙ keeps (get_or db j d) in
     distinct i j d before long (sym first ∙ same ∙ second)
 
 -- each pair of a list: the first with each of the rest, and each pair of the rest
@@ -85,10 +85,10 @@ unfolding HasDistinctNames
 distinct_unpack listed db distinct = at (list_any (is_named listed.pkg.name) db) refl
   where
     at : (b : Bool) → list_any (is_named listed.pkg.name) db ≡ b
-        → HasDistinctNames (cond b (changed (is_named listed.pkg.name) (unpacked_over listed) db) (db ++ unpacked_with listed None [] ∷ []))
+        → HasDistinctNames (cond b (changed (is_named listed.pkg.name) (unpacked_over listed) db) (db ++ unpacked_with listed None ∷ []))
     at true some = distinct_changed (is_named listed.pkg.name) (unpacked_over listed)
         (λ found is. sym (bytes_eq-true found.name listed.pkg.name is)) db distinct
-    at false none = all_pairs_push (λ (a b : Record). a.name ≢ b.name) db (unpacked_with listed None []) distinct
+    at false none = all_pairs_push (λ (a b : Record). a.name ≢ b.name) db (unpacked_with listed None) distinct
         (λ k d within. unnamed listed.pkg.name db none (get_or db k d) (Contains-get_or db k d within))
 
 distinct_filter : (p : Record → Bool) (db : List Record) → HasDistinctNames db → HasDistinctNames (filter p db)
@@ -114,7 +114,7 @@ unfolding HasDistinctNames
 one_record [] distinct found other within there same = absurd (Contains-nil found within)
 one_record (first ∷ rest) distinct found other within there same =
     at (Contains-cons first rest found within) (Contains-cons first rest other there)
-      (λ later behind. one_record rest (AllPairs-tail (λ (a b : Record). a.name ≢ b.name) first rest distinct) found other later behind same)
+    (λ later behind. one_record rest (AllPairs-tail (λ (a b : Record). a.name ≢ b.name) first rest distinct) found other later behind same)
   where
     alone : (record_ : Record) → Contains rest record_ → first.name ≢ record_.name
     alone r behind = All-contains (λ (b : Record). first.name ≢ b.name) rest r
@@ -165,14 +165,14 @@ quiet_stems old db quiet stem = quiet_from db each
         let first = stem found within present in
         let second = stem other there also in
         at_peace old quiet first.from second.from first.within second.within first.present second.present
-          (λ same. differ (ap (λ (pkg : Pkg). pkg.name) (sym first.same) ∙ same ∙ ap (λ (pkg : Pkg). pkg.name) second.same))
-          (let P : Pkg → Type 0 = λ pkg. ConflictsWith pkg (pkg_of second.from) in subst P (sym first.same)
-            (let Q : Pkg → Type 0 = λ pkg. ConflictsWith (pkg_of found) pkg in subst Q (sym second.same) conflicts))
+        (λ same. differ (ap (λ (pkg : Pkg). pkg.name) (sym first.same) ∙ same ∙ ap (λ (pkg : Pkg). pkg.name) second.same))
+        (let P : Pkg → Type 0 = λ pkg. ConflictsWith pkg (pkg_of second.from) in subst P (sym first.same)
+        (let Q : Pkg → Type 0 = λ pkg. ConflictsWith (pkg_of found) pkg in subst Q (sym second.same) conflicts))
 
 -- where a change keeps each record's package, and what it makes present was so, a quiet database stays quiet
 quiet_changed : (test : Record → Bool) (change : Record → Record) (db : List Record)
     → ((found : Record) → Contains db found → test found ≡ true → IsPresent (change found)
-        → IsPresent found × (pkg_of found ≡ pkg_of (change found)))
+    → IsPresent found × (pkg_of found ≡ pkg_of (change found)))
     → IsQuiet db → IsQuiet (changed test change db)
 quiet_changed test change db keeps quiet = quiet_stems db (changed test change db) quiet stem
   where
@@ -218,9 +218,11 @@ quiet_deconfigure db name distinct has = quiet_changed (is_named name) deconfigu
 quiet_configure : (db : List Record) (names : List (List ℕ)) → HasDistinctNames db → AreConfigurable db names → IsQuiet db
     → IsQuiet (changed (is_among names) configured db)
 unfolding AreConfigurable
-quiet_configure db names distinct has = quiet_changed (is_among names) configured db (λ found within is present.
-    (unconfigured_present found.state (the_record IsConfigurable db distinct found within
-        (All-contains (λ name. HasRecord IsConfigurable name db) names found.name has (contains-is_among names found is))).0, refl))
+quiet_configure db names distinct has = quiet_changed (is_among names) configured db (λ found within is present. (
+  unconfigured_present found.state (the_record IsConfigurable db distinct found within
+      (All-contains (λ name. HasRecord IsConfigurable name db) names found.name has (contains-is_among names found is))).0,
+  refl,
+))
 
 quiet_remove : (db : List Record) (name : List ℕ) → IsQuiet db → IsQuiet (changed (is_named name) removed db)
 quiet_remove db name = quiet_changed (is_named name) removed db
@@ -239,19 +241,23 @@ after_unpack_parts listed db found = at (list_any (is_named listed.pkg.name) db)
         → cond b (unpacked_over listed old) old ≡ found
         → (pkg_of found ≡ listed.pkg) ⊎ (Contains db found × (found.name ≢ listed.pkg.name))
     named old within true is same = inl (ap pkg_of (sym same))
-    named old within false is same = inr (subst (Contains db) same within, λ equal. absurd (let e : true ≡ false =
-        sym (bytes_eq-same old.name listed.pkg.name (ap (λ (r : Record). r.name) same ∙ equal)) ∙ is in cc))
+    named old within false is same = inr (
+      subst (Contains db) same within,
+      λ equal. absurd (let e : true ≡ false =
+          sym (bytes_eq-same old.name listed.pkg.name (ap (λ (r : Record). r.name) same ∙ equal)) ∙ is in cc),
+    )
 
     at : (b : Bool) → list_any (is_named listed.pkg.name) db ≡ b
-        → Contains (cond b (changed (is_named listed.pkg.name) (unpacked_over listed) db) (db ++ unpacked_with listed None [] ∷ [])) found
+        → Contains (cond b (changed (is_named listed.pkg.name) (unpacked_over listed) db) (db ++ unpacked_with listed None ∷ [])) found
         → (pkg_of found ≡ listed.pkg) ⊎ (Contains db found × (found.name ≢ listed.pkg.name))
     at true some within =
         let old = Contains-map (λ r. cond (is_named listed.pkg.name r) (unpacked_over listed r) r) db found within in
         named old.0 old.1 (is_named listed.pkg.name old.0) refl old.2
-    at false none within = elim (Contains-append_cases db (unpacked_with listed None [] ∷ []) found within)
-        [ inl there ↦ inr (there, unnamed listed.pkg.name db none found there)
-        | inr last ↦ elim (Contains-cons (unpacked_with listed None []) [] found last)
-            [ inl same ↦ inl (ap pkg_of (sym same)) | inr none ↦ absurd (Contains-nil found none) ] ]
+    at false none within = elim (Contains-append_cases db (unpacked_with listed None ∷ []) found within) [
+      | inl there ↦ inr (there, unnamed listed.pkg.name db none found there)
+      | inr last ↦ elim (Contains-cons (unpacked_with listed None) [] found last)
+          [ inl same ↦ inl (ap pkg_of (sym same)) | inr none ↦ absurd (Contains-nil found none) ]
+    ]
 
 quiet_unpack : (listed : Listed) (db : List Record) → HasNoConflict db listed.pkg → IsQuiet db → IsQuiet (after_unpack listed db)
 unfolding HasNoConflict IsCompatible

@@ -77,15 +77,15 @@ record_of state config_version pkg = record {
   state = state;
   want = want.Install;
   flag = Sound;
-  version = Some pkg.version;
+  version = pkg.version;
   config_version = config_version;
   relations = pkg.relations;
-  stanza = record { fields = []; bytes = None }
+  is_essential = false;
 }
 
 -- the pair of a package that an index has
 abbrev pub indexed : Pkg → Pair
-indexed pkg = record { pkg = pkg; listed = Some (record { pkg = pkg; fields = []; bytes = [] }) }
+indexed pkg = record { pkg = pkg; listed = Some (record { pkg = pkg; is_essential = false; stanza = record { fields = []; bytes = None } }) }
 
 -- the pair of a package that no index has
 abbrev pub unindexed : Pkg → Pair

@@ -29,8 +29,10 @@ Run-append u start reached finish (step ∷ rest) more run later =
 pub run_goes_on : (u : Universe) (start finish : List Record) (steps more : List Step)
     → Run u start (steps ++ more) finish
     ↔ ((reached : List Record) × Run u start steps reached × Run u reached more finish)
-run_goes_on u start finish steps more = (Run-parts u start finish steps more,
-    λ found. Run-append u start found.0 finish steps more found.1 found.2)
+run_goes_on u start finish steps more = (
+  Run-parts u start finish steps more,
+  λ found. Run-append u start found.0 finish steps more found.1 found.2,
+)
 
 -- a run has one end
 pub one_end : (u : Universe) (start first second : List Record) (steps : List Step)
@@ -49,7 +51,7 @@ stops_later u start step rest number rule allowed stop = record {
   place = ap (λ steps. step ∷ steps) stop.place;
   number_is = let e = stop.number_is in omega arith;
   run = (allowed, stop.run);
-  failing = stop.failing
+  failing = stop.failing;
 }
 
 -- each list of steps is a run to some end or stops at a step
@@ -60,10 +62,22 @@ run_or_stops u start (step ∷ rest) = at (allowed_or_failing u start step) (run
   where
     at : Allowed u start step ⊎ ((rule : Rule) × IsFirstFailing u start step rule)
         → ((finish : List Record) × Run u (after u start step) rest finish)
-          ⊎ ((number : ℕ) × (rule : Rule) × StopsAt u (after u start step) rest number rule)
+        ⊎ ((number : ℕ) × (rule : Rule) × StopsAt u (after u start step) rest number rule)
         → ((finish : List Record) × Run u start (step ∷ rest) finish)
-          ⊎ ((number : ℕ) × (rule : Rule) × StopsAt u start (step ∷ rest) number rule)
-    at (inr found) later = inr (1, found.0, record {
-      before = []; step = step; rest = rest; reached = start; place = refl; number_is = omega arith; run = refl; failing = found.1 })
+        ⊎ ((number : ℕ) × (rule : Rule) × StopsAt u start (step ∷ rest) number rule)
+    at (inr found) later = inr (
+      1,
+      found.0,
+      record {
+        before = [];
+        step = step;
+        rest = rest;
+        reached = start;
+        place = refl;
+        number_is = omega arith;
+        run = refl;
+        failing = found.1;
+      },
+    )
     at (inl allowed) (inl run) = inl (run.0, (allowed, run.1))
     at (inl allowed) (inr stop) = inr (stop.0 + 1, stop.1, stops_later u start step rest stop.0 stop.1 allowed stop.2)

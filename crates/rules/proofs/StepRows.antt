@@ -50,9 +50,10 @@ pub pre_depends_rows :
     × IsFirstFailing (app_universe None) (lib_unpacked None) unpack_app rule.PreDepends
 unfolding version_cmp dec_Decides dec_IsTrue dec_IsFalse dec_and dec_and3 dec_or dec_not dec_implies dec_like dec_All dec_Any dec_text dec_Equal dec_Contains all_or_some dec_MeetsRestriction dec_Meets dec_MeetsAsProvided dec_FitsByName dec_FitsProvided dec_FitsByProvides dec_Matches dec_MatchesSome dec_ConflictsWith dec_BreaksOther dec_MeetsClause dec_MeetsClauses dec_SameVersion dec_HasRecord dec_ForOthers dec_SomeOther dec_ForMembers dec_FitsThenAndNow dec_MatchOption dec_FitsFromBefore dec_SatisfiesAtom dec_IsSatisfied dec_HasPreDepends dec_IsCompatible dec_HasNoConflict dec_BreaksNone dec_OnListed dec_IsNotHeld dec_StandsAs dec_AreConfigurable dec_ArePreDependsInstalled dec_AreDependsInstalled dec_IsUnbroken dec_AreUnbroken dec_ManagesWithout dec_NeedsNot dec_IsNotNeeded dec_named dec_MemberPasses greatest_upto greatest_part dec_IsIndivisible dec_UnpackAsks dec_ConfigureAsks dec_RemoveAsks dec_DeconfigureAsks dec_PurgeAsks dec_Asks kept_or_first allowed_or_failing
 pre_depends_rows = (
-    allowed_so (app_universe (Some (codes "1.5"))) (lib_unpacked (Some (codes "1.5"))) unpack_app refl,
-    fails_so (app_universe (Some (codes "0.9"))) (lib_unpacked (Some (codes "0.9"))) unpack_app rule.PreDepends refl,
-    fails_so (app_universe None) (lib_unpacked None) unpack_app rule.PreDepends refl)
+  allowed_so (app_universe (Some (codes "1.5"))) (lib_unpacked (Some (codes "1.5"))) unpack_app refl,
+  fails_so (app_universe (Some (codes "0.9"))) (lib_unpacked (Some (codes "0.9"))) unpack_app rule.PreDepends refl,
+  fails_so (app_universe None) (lib_unpacked None) unpack_app rule.PreDepends refl,
+)
 
 -- `a 1; Conflicts: b` and `b 1`, both in the index
 abbrev a_against_b : Pkg
@@ -70,8 +71,9 @@ pub conflict_rows :
     × IsFirstFailing against_universe (record_of Unpacked None b_1 ∷ []) (step.Unpack (codes "a") (codes "1")) rule.Conflict
 unfolding version_cmp dec_Decides dec_IsTrue dec_IsFalse dec_and dec_and3 dec_or dec_not dec_implies dec_like dec_All dec_Any dec_text dec_Equal dec_Contains all_or_some dec_MeetsRestriction dec_Meets dec_MeetsAsProvided dec_FitsByName dec_FitsProvided dec_FitsByProvides dec_Matches dec_MatchesSome dec_ConflictsWith dec_BreaksOther dec_MeetsClause dec_MeetsClauses dec_SameVersion dec_HasRecord dec_ForOthers dec_SomeOther dec_ForMembers dec_FitsThenAndNow dec_MatchOption dec_FitsFromBefore dec_SatisfiesAtom dec_IsSatisfied dec_HasPreDepends dec_IsCompatible dec_HasNoConflict dec_BreaksNone dec_OnListed dec_IsNotHeld dec_StandsAs dec_AreConfigurable dec_ArePreDependsInstalled dec_AreDependsInstalled dec_IsUnbroken dec_AreUnbroken dec_ManagesWithout dec_NeedsNot dec_IsNotNeeded dec_named dec_MemberPasses greatest_upto greatest_part dec_IsIndivisible dec_UnpackAsks dec_ConfigureAsks dec_RemoveAsks dec_DeconfigureAsks dec_PurgeAsks dec_Asks kept_or_first allowed_or_failing
 conflict_rows = (
-    fails_so against_universe (record_of Unpacked None a_against_b ∷ []) (step.Unpack (codes "b") (codes "1")) rule.Conflict refl,
-    fails_so against_universe (record_of Unpacked None b_1 ∷ []) (step.Unpack (codes "a") (codes "1")) rule.Conflict refl)
+  fails_so against_universe (record_of Unpacked None a_against_b ∷ []) (step.Unpack (codes "b") (codes "1")) rule.Conflict refl,
+  fails_so against_universe (record_of Unpacked None b_1 ∷ []) (step.Unpack (codes "a") (codes "1")) rule.Conflict refl,
+)
 
 -- `p 1` and `q 1`, installed, and `p 2; Breaks: q (<< 2)` in the index
 abbrev p_1 : Pkg
@@ -96,9 +98,10 @@ pub breaks_rows :
     × Allowed breaking_universe (p_and_q HalfConfigured) (step.Unpack (codes "p") (codes "2"))
 unfolding version_cmp dec_Decides dec_IsTrue dec_IsFalse dec_and dec_and3 dec_or dec_not dec_implies dec_like dec_All dec_Any dec_text dec_Equal dec_Contains all_or_some dec_MeetsRestriction dec_Meets dec_MeetsAsProvided dec_FitsByName dec_FitsProvided dec_FitsByProvides dec_Matches dec_MatchesSome dec_ConflictsWith dec_BreaksOther dec_MeetsClause dec_MeetsClauses dec_SameVersion dec_HasRecord dec_ForOthers dec_SomeOther dec_ForMembers dec_FitsThenAndNow dec_MatchOption dec_FitsFromBefore dec_SatisfiesAtom dec_IsSatisfied dec_HasPreDepends dec_IsCompatible dec_HasNoConflict dec_BreaksNone dec_OnListed dec_IsNotHeld dec_StandsAs dec_AreConfigurable dec_ArePreDependsInstalled dec_AreDependsInstalled dec_IsUnbroken dec_AreUnbroken dec_ManagesWithout dec_NeedsNot dec_IsNotNeeded dec_named dec_MemberPasses greatest_upto greatest_part dec_IsIndivisible dec_UnpackAsks dec_ConfigureAsks dec_RemoveAsks dec_DeconfigureAsks dec_PurgeAsks dec_Asks kept_or_first allowed_or_failing
 breaks_rows = (
-    fails_so breaking_universe (p_and_q Installed) (step.Unpack (codes "p") (codes "2")) rule.Breaks refl,
-    allowed_so breaking_universe (p_and_q Installed) (step.Deconfigure (codes "q")) refl,
-    allowed_so breaking_universe (p_and_q HalfConfigured) (step.Unpack (codes "p") (codes "2")) refl)
+  fails_so breaking_universe (p_and_q Installed) (step.Unpack (codes "p") (codes "2")) rule.Breaks refl,
+  allowed_so breaking_universe (p_and_q Installed) (step.Deconfigure (codes "q")) refl,
+  allowed_so breaking_universe (p_and_q HalfConfigured) (step.Unpack (codes "p") (codes "2")) refl,
+)
 
 -- `a 1; Depends: b`, `b 1; Depends: a` and `c 1`
 abbrev a_needs_b : Pkg
@@ -130,7 +133,7 @@ c_passes = record {
   configurable = so (dec_AreConfigurable ring_unpacked (codes "c" ∷ [])) refl;
   pre_depends = so (dec_ArePreDependsInstalled ring_unpacked (codes "c" ∷ [])) refl;
   depends = so (dec_AreDependsInstalled ring_unpacked (codes "c" ∷ [])) refl;
-  unbroken = so (dec_AreUnbroken ring_unpacked (codes "c" ∷ [])) refl
+  unbroken = so (dec_AreUnbroken ring_unpacked (codes "c" ∷ [])) refl;
 }
 
 -- the group with the third can be divided
@@ -139,22 +142,28 @@ unfolding IsIndivisible dec_Decides dec_text dec_Contains dec_All dec_Any dec_li
 divisible indivisible = indivisible (codes "c" ∷ []) (record {
   some = lit< tt;
   within = so (dec_All (Contains a_b_c) (dec_Contains a_b_c) (codes "c" ∷ [])) refl;
-  proper = so (dec_Any (λ name. ¬ Contains (codes "c" ∷ []) name) (λ name. dec_not (dec_Contains (codes "c" ∷ []) name)) a_b_c) refl
+  proper = so (dec_Any (λ name. ¬ Contains (codes "c" ∷ []) name) (λ name. dec_not (dec_Contains (codes "c" ∷ []) name)) a_b_c) refl;
 }) c_passes
 
 -- two packages that need each other aren't configured together with a third one
 pub group_rows : IsFirstFailing ring_universe ring_unpacked (step.Configure a_b_c) rule.Group
 unfolding version_cmp IsFirstFailing dec_Decides dec_IsTrue dec_IsFalse dec_and dec_and3 dec_or dec_not dec_implies dec_like dec_All dec_Any dec_text dec_Equal dec_Contains all_or_some dec_MeetsRestriction dec_Meets dec_MeetsAsProvided dec_FitsByName dec_FitsProvided dec_FitsByProvides dec_Matches dec_MatchesSome dec_ConflictsWith dec_BreaksOther dec_MeetsClause dec_MeetsClauses dec_SameVersion dec_HasRecord dec_ForOthers dec_SomeOther dec_ForMembers dec_FitsThenAndNow dec_MatchOption dec_FitsFromBefore dec_SatisfiesAtom dec_IsSatisfied dec_HasPreDepends dec_IsCompatible dec_HasNoConflict dec_BreaksNone dec_OnListed dec_IsNotHeld dec_StandsAs dec_AreConfigurable dec_ArePreDependsInstalled dec_AreDependsInstalled dec_IsUnbroken dec_AreUnbroken dec_ManagesWithout dec_NeedsNot dec_IsNotNeeded dec_named dec_MemberPasses greatest_upto greatest_part dec_IsIndivisible dec_UnpackAsks dec_ConfigureAsks dec_RemoveAsks dec_DeconfigureAsks dec_PurgeAsks dec_Asks kept_or_first allowed_or_failing
-group_rows = inr (so (dec_AreConfigurable ring_unpacked a_b_c) refl, inr (so (dec_ArePreDependsInstalled ring_unpacked a_b_c) refl,
-    inr (so (dec_AreDependsInstalled ring_unpacked a_b_c) refl, inr (so (dec_AreUnbroken ring_unpacked a_b_c) refl, inl (refl, divisible)))))
+group_rows = inr (
+  so (dec_AreConfigurable ring_unpacked a_b_c) refl,
+  inr (
+    so (dec_ArePreDependsInstalled ring_unpacked a_b_c) refl,
+    inr (so (dec_AreDependsInstalled ring_unpacked a_b_c) refl, inr (so (dec_AreUnbroken ring_unpacked a_b_c) refl, inl (refl, divisible))),
+  ),
+)
 
 -- nor one without the other
 pub half_rows : IsFirstFailing ring_universe ring_unpacked (step.Configure (codes "a" ∷ [])) rule.Depends
     × Allowed ring_universe ring_unpacked (step.Configure (codes "c" ∷ []))
 unfolding version_cmp dec_Decides dec_IsTrue dec_IsFalse dec_and dec_and3 dec_or dec_not dec_implies dec_like dec_All dec_Any dec_text dec_Equal dec_Contains all_or_some dec_MeetsRestriction dec_Meets dec_MeetsAsProvided dec_FitsByName dec_FitsProvided dec_FitsByProvides dec_Matches dec_MatchesSome dec_ConflictsWith dec_BreaksOther dec_MeetsClause dec_MeetsClauses dec_SameVersion dec_HasRecord dec_ForOthers dec_SomeOther dec_ForMembers dec_FitsThenAndNow dec_MatchOption dec_FitsFromBefore dec_SatisfiesAtom dec_IsSatisfied dec_HasPreDepends dec_IsCompatible dec_HasNoConflict dec_BreaksNone dec_OnListed dec_IsNotHeld dec_StandsAs dec_AreConfigurable dec_ArePreDependsInstalled dec_AreDependsInstalled dec_IsUnbroken dec_AreUnbroken dec_ManagesWithout dec_NeedsNot dec_IsNotNeeded dec_named dec_MemberPasses greatest_upto greatest_part dec_IsIndivisible dec_UnpackAsks dec_ConfigureAsks dec_RemoveAsks dec_DeconfigureAsks dec_PurgeAsks dec_Asks kept_or_first allowed_or_failing
 half_rows = (
-    fails_so ring_universe ring_unpacked (step.Configure (codes "a" ∷ [])) rule.Depends refl,
-    allowed_so ring_universe ring_unpacked (step.Configure (codes "c" ∷ [])) refl)
+  fails_so ring_universe ring_unpacked (step.Configure (codes "a" ∷ [])) rule.Depends refl,
+  allowed_so ring_universe ring_unpacked (step.Configure (codes "c" ∷ [])) refl,
+)
 
 -- of one name that doesn't pass alone, no part passes but the empty one
 alone : (db : List Record) (name : List ℕ) (part : List (List ℕ)) → ¬ MemberPasses db (name ∷ []) name
@@ -169,17 +178,19 @@ alone db name part fails found = empty_from_none part (λ other there. at other 
 -- but they are together: neither passes alone
 pub together_rows : IsIndivisible ring_unpacked a_b × GroupPasses ring_unpacked a_b
 unfolding version_cmp dec_Decides dec_IsTrue dec_IsFalse dec_and dec_and3 dec_or dec_not dec_implies dec_like dec_All dec_Any dec_text dec_Equal dec_Contains all_or_some dec_MeetsRestriction dec_Meets dec_MeetsAsProvided dec_FitsByName dec_FitsProvided dec_FitsByProvides dec_Matches dec_MatchesSome dec_ConflictsWith dec_BreaksOther dec_MeetsClause dec_MeetsClauses dec_SameVersion dec_HasRecord dec_ForOthers dec_SomeOther dec_ForMembers dec_FitsThenAndNow dec_MatchOption dec_FitsFromBefore dec_SatisfiesAtom dec_IsSatisfied dec_HasPreDepends dec_IsCompatible dec_HasNoConflict dec_BreaksNone dec_OnListed dec_IsNotHeld dec_StandsAs dec_AreConfigurable dec_ArePreDependsInstalled dec_AreDependsInstalled dec_IsUnbroken dec_AreUnbroken dec_ManagesWithout dec_NeedsNot dec_IsNotNeeded dec_named dec_MemberPasses greatest_upto greatest_part dec_IsIndivisible dec_UnpackAsks dec_ConfigureAsks dec_RemoveAsks dec_DeconfigureAsks dec_PurgeAsks dec_Asks kept_or_first allowed_or_failing
-together_rows = (indivisible_from_others ring_unpacked a_b (All-cons empty (codes "a") (codes "b" ∷ [])
+together_rows = (
+  indivisible_from_others ring_unpacked a_b (All-cons empty (codes "a") (codes "b" ∷ [])
       (λ part. alone ring_unpacked (codes "b") part (not_so (dec_MemberPasses ring_unpacked (codes "b" ∷ []) (codes "b")) refl))
       (All-cons empty (codes "b") []
-        (λ part. alone ring_unpacked (codes "a") part (not_so (dec_MemberPasses ring_unpacked (codes "a" ∷ []) (codes "a")) refl))
-        (All-nil empty))),
-    record {
-      configurable = so (dec_AreConfigurable ring_unpacked a_b) refl;
-      pre_depends = so (dec_ArePreDependsInstalled ring_unpacked a_b) refl;
-      depends = so (dec_AreDependsInstalled ring_unpacked a_b) refl;
-      unbroken = so (dec_AreUnbroken ring_unpacked a_b) refl
-    })
+      (λ part. alone ring_unpacked (codes "a") part (not_so (dec_MemberPasses ring_unpacked (codes "a" ∷ []) (codes "a")) refl))
+      (All-nil empty))),
+  record {
+    configurable = so (dec_AreConfigurable ring_unpacked a_b) refl;
+    pre_depends = so (dec_ArePreDependsInstalled ring_unpacked a_b) refl;
+    depends = so (dec_AreDependsInstalled ring_unpacked a_b) refl;
+    unbroken = so (dec_AreUnbroken ring_unpacked a_b) refl;
+  },
+)
   where
     empty : List ℕ → Type 0
     empty name = (part : List (List ℕ)) → IsGreatestPart ring_unpacked (others_of name a_b) part → part ≡ []
@@ -196,7 +207,8 @@ pub needed_rows :
     × Allowed ring_universe (record_of HalfConfigured (Some (codes "1")) a_needs_b ∷ []) (step.Remove (codes "a"))
 unfolding version_cmp dec_Decides dec_IsTrue dec_IsFalse dec_and dec_and3 dec_or dec_not dec_implies dec_like dec_All dec_Any dec_text dec_Equal dec_Contains all_or_some dec_MeetsRestriction dec_Meets dec_MeetsAsProvided dec_FitsByName dec_FitsProvided dec_FitsByProvides dec_Matches dec_MatchesSome dec_ConflictsWith dec_BreaksOther dec_MeetsClause dec_MeetsClauses dec_SameVersion dec_HasRecord dec_ForOthers dec_SomeOther dec_ForMembers dec_FitsThenAndNow dec_MatchOption dec_FitsFromBefore dec_SatisfiesAtom dec_IsSatisfied dec_HasPreDepends dec_IsCompatible dec_HasNoConflict dec_BreaksNone dec_OnListed dec_IsNotHeld dec_StandsAs dec_AreConfigurable dec_ArePreDependsInstalled dec_AreDependsInstalled dec_IsUnbroken dec_AreUnbroken dec_ManagesWithout dec_NeedsNot dec_IsNotNeeded dec_named dec_MemberPasses greatest_upto greatest_part dec_IsIndivisible dec_UnpackAsks dec_ConfigureAsks dec_RemoveAsks dec_DeconfigureAsks dec_PurgeAsks dec_Asks kept_or_first allowed_or_failing
 needed_rows = (
-    fails_so ring_universe (ring_installed Installed) (step.Remove (codes "a")) rule.NeededBy refl,
-    allowed_so ring_universe (ring_installed Installed) (step.Deconfigure (codes "a")) refl,
-    allowed_so ring_universe (ring_installed HalfConfigured) (step.Remove (codes "b")) refl,
-    allowed_so ring_universe (record_of HalfConfigured (Some (codes "1")) a_needs_b ∷ []) (step.Remove (codes "a")) refl)
+  fails_so ring_universe (ring_installed Installed) (step.Remove (codes "a")) rule.NeededBy refl,
+  allowed_so ring_universe (ring_installed Installed) (step.Deconfigure (codes "a")) refl,
+  allowed_so ring_universe (ring_installed HalfConfigured) (step.Remove (codes "b")) refl,
+  allowed_so ring_universe (record_of HalfConfigured (Some (codes "1")) a_needs_b ∷ []) (step.Remove (codes "a")) refl,
+)

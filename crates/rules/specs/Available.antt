@@ -4,7 +4,7 @@ use Rattle.std.specs.Prelude.{ℕ, Bool, List, ◌&&◌, Option, IsSome, bytes_e
 use Rattle.std.specs.List.{find, flat_map}
 use Rattle.std.specs.Option.{option_map, option_or}
 use Rattle.std.specs.Ordering.{is_eq}
-use Rattle.rules.specs.Database.{Record, stands, version_of, pkg_of}
+use Rattle.rules.specs.Database.{Record, stands, pkg_of}
 use Rattle.rules.specs.Package.{Pkg}
 use Rattle.rules.specs.Step.{Listed, is_named}
 use Rattle.rules.specs.Version.{version_cmp}
@@ -41,7 +41,7 @@ is_of name version pkg = bytes_eq pkg.name name && same_version pkg.version vers
 -- the record of the name, where it stands in this version
 abbrev pub standing_record : List Record → List ℕ → List ℕ → Option Record
 standing_record db name version =
-    find (λ found. is_named name found && stands found && same_version (version_of found) version) db
+    find (λ found. is_named name found && stands found && same_version found.version version) db
 
 -- the index package of a pair: that of the earliest stanza of an index
 abbrev pub index_package : List Index → List ℕ → List ℕ → Option Listed

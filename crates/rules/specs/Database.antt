@@ -1,33 +1,28 @@
 -- The status database (dpkg(1), "Package states"): a list of records in file order, with distinct names.
-use Rattle.std.specs.Prelude.{◌≡◌, ◌≢◌, ℕ, Bool, not, List, [], map, ◌&&◌, ◌||◌, IsTrue, Option, unwrap_or}
-use Rattle.std.specs.List.{Any, All, AllPairs, Contains, list_any, filter}
+use Rattle.std.specs.Prelude.{◌≡◌, ◌≢◌, ℕ, Bool, not, List, map, ◌&&◌, ◌||◌, IsTrue, Option}
+use Rattle.std.specs.List.{Any, All, AllPairs, Contains, filter}
 use Rattle.rules.specs.Package.{Pkg, Relations, ConflictsWith}
-use Rattle.rules.specs.Stanza.{Stanza, marks_essential}
 use Rattle.rules.specs.State.{is_present_state, is_unconfigured_state, is_unfinished_state, is_installed_state, is_not_installed_state, is_config_files_state, is_sound_flag, is_hold}
 use Rattle.rules.specs.declared.status.Flag.{Flag}
 use Rattle.rules.specs.declared.status.State.{State}
 use Rattle.rules.specs.declared.status.Want.{Want}
 
 -- what the database knows of a name
--- the relations are those of a present package's stanza, and none of another's
--- the config version is the version last configured
+-- the version is that of its stanza, and empty where that has none; the relations are those of a present
+-- package's stanza, and none of another's; the config version is the version last configured
 pub record Record : Type 0 where
   pub name : List ℕ
   pub state : State
   pub want : Want
   pub flag : Flag
-  pub version : Option (List ℕ)
+  pub version : List ℕ
   pub config_version : Option (List ℕ)
   pub relations : Relations
-  pub stanza : Stanza
+  pub is_essential : Bool
 
 -- stands, as a test
 abbrev pub stands : Record → Bool
 stands found = (is_unconfigured_state found.state || is_installed_state found.state) && is_sound_flag found.flag
-
--- essential, as a test
-abbrev pub is_essential : Record → Bool
-is_essential found = list_any marks_essential found.stanza.fields
 
 -- unfinished, as a test: in a state in which something is left to be done, or not sound
 abbrev pub is_unfinished : Record → Bool
@@ -66,17 +61,13 @@ Stands found = IsTrue (stands found)
 abbrev pub IsHeld : Record → Type 0
 IsHeld found = IsTrue (is_hold found.want)
 
--- essential: marked so in the stanza
+-- essential: marked so in the stanza (Policy 5.6.9)
 abbrev pub IsEssential : Record → Type 0
-IsEssential found = IsTrue (is_essential found)
-
--- the version of a record, which a present one has
-abbrev pub version_of : Record → List ℕ
-version_of found = unwrap_or found.version []
+IsEssential found = IsTrue found.is_essential
 
 -- the package of a present record, as its stanza gives it
 abbrev pub pkg_of : Record → Pkg
-pkg_of found = record { name = found.name; version = version_of found; relations = found.relations }
+pkg_of found = record { name = found.name; version = found.version; relations = found.relations }
 
 -- the record of the name has the property
 abbrev pub HasRecord : (Record → Type 0) → List ℕ → List Record → Type 0

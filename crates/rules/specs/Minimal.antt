@@ -49,7 +49,7 @@ Needs pkg needed = Any (MatchesSome needed) (pkg.relations.pre_depends ++ pkg.re
 pub record IsClosed (u : Universe) (selection set : ℕ → Bool) : Type 0 where
   pub wanted : (number : ℕ) (pkg : Pkg) → IsSelected u selection number pkg → IsWanted u pkg → IsTrue (set number)
   pub needed : (number other : ℕ) (pkg needed : Pkg) → IsSelected u selection number pkg
-    → IsSelected u selection other needed → IsTrue (set number) → Needs pkg needed → IsTrue (set other)
+      → IsSelected u selection other needed → IsTrue (set number) → Needs pkg needed → IsTrue (set other)
 
 -- each member is reached: it is in every set that has the wanted members and what they need in turn
 unfoldable pub IsReached : Universe → (ℕ → Bool) → Type 0
@@ -69,9 +69,9 @@ with_pair selection added number = selection number || (number == added)
 pub record IsLocallyMinimal (u : Universe) (selection : ℕ → Bool) : Type 0 where
   pub reached : IsReached u selection
   pub needed : (number : ℕ) (pkg : Pkg) → IsSelected u selection number pkg → ¬ WasPresent u pkg.name
-    → ¬ IsAcceptable u (without_pair selection number)
+      → ¬ IsAcceptable u (without_pair selection number)
   pub changed : (number former : ℕ) (pkg stood : Pkg) → IsSelected u selection number pkg → pkg_at u former ≡ Some stood
-    → stood.name ≡ pkg.name → Stood u stood → ¬ Stood u pkg
-    → ¬ IsAcceptable u (with_pair (without_pair selection number) former)
+      → stood.name ≡ pkg.name → Stood u stood → ¬ Stood u pkg
+      → ¬ IsAcceptable u (with_pair (without_pair selection number) former)
   pub removed : (number : ℕ) (pkg : Pkg) → pkg_at u number ≡ Some pkg → WasPresent u pkg.name
-    → ¬ HasMember pkg.name (selected u selection) → ¬ IsAcceptable u (with_pair selection number)
+      → ¬ HasMember pkg.name (selected u selection) → ¬ IsAcceptable u (with_pair selection number)

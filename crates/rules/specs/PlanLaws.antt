@@ -23,9 +23,9 @@ pub record IsSatisfiedIn (db : List Record) (found : Record) : Type 0 where
   pub pre_depends : MeetsClauses (installed_of db) found.relations.pre_depends
   pub depends : MeetsClauses (installed_of db) found.relations.depends
   pub conflicts : (other : Record) → Contains db other → IsInstalled other → other.name ≢ found.name
-    → ¬ ConflictsWith (pkg_of found) (pkg_of other)
+      → ¬ ConflictsWith (pkg_of found) (pkg_of other)
   pub breaks : (other : Record) → Contains db other → IsInstalled other → other.name ≢ found.name
-    → ¬ BreaksOther (pkg_of found) (pkg_of other)
+      → ¬ BreaksOther (pkg_of found) (pkg_of other)
 
 -- at this end every goal is met, every held name that stood has its version, every essential name that was
 -- present has a package, and every installed package is satisfied
@@ -41,9 +41,9 @@ pub record IsAsAsked (u : Universe) (db : List Record) : Type 0 where
 pub record IsKept (u : Universe) (start : List Record) (steps : List Step) : Type 0 where
   pub reaches : (before rest : List Step) → steps ≡ before ++ rest → (reached : List Record) × Run u start before reached
   pub allowed : (before rest : List Step) (step : Step) (reached : List Record) → steps ≡ before ++ step ∷ rest
-    → Run u start before reached → Allowed u reached step
+      → Run u start before reached → Allowed u reached step
   pub quiet : (before rest : List Step) (reached : List Record) → steps ≡ before ++ rest → Run u start before reached
-    → IsQuiet reached
+      → IsQuiet reached
   pub as_asked : (finish : List Record) → Run u start steps finish → IsAsAsked u finish
 
 -- a good plan keeps its promise

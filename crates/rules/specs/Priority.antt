@@ -5,7 +5,7 @@ use Rattle.std.specs.List.{All, Contains, list_any, list_all, filter, find, star
 use Rattle.std.specs.Option.{option_map_or}
 use Rattle.std.specs.declared.cmp.Ordering.TheVariants.{Less, Greater}
 use Rattle.rules.specs.Available.{Index, Inputs, counting_package, is_of, same_version, standing_record}
-use Rattle.rules.specs.Database.{Stands, HasRecord, version_of}
+use Rattle.rules.specs.Database.{Stands, HasRecord}
 use Rattle.rules.specs.Version.{version_cmp}
 use Rattle.rules.specs.declared.release.Pin.{Pin}
 use Rattle.rules.specs.declared.release.Pin.TheVariants as pin
@@ -45,10 +45,18 @@ index_origin index = record { release = index.release; by_default = default_prio
 abbrev pub status_origin : Origin
 status_origin = record {
   release = record {
-    archive = None; suite = None; codename = None; version = None; component = None; origin = None; label = None;
-    host = []; not_automatic = false; but_automatic_upgrades = false
+    archive = None;
+    suite = None;
+    codename = None;
+    version = None;
+    component = None;
+    origin = None;
+    label = None;
+    host = [];
+    not_automatic = false;
+    but_automatic_upgrades = false;
   };
-  by_default = pos 100
+  by_default = pos 100;
 }
 
 -- the indices that have the version of the name
@@ -60,7 +68,7 @@ indices_with indices name version =
 abbrev pub origins_of : Inputs → List ℕ → List ℕ → List Origin
 origins_of inputs name version =
     (if is_some (standing_record inputs.start name version) then status_origin ∷ [] else [])
-      ++ map index_origin (indices_with inputs.indices name version)
+    ++ map index_origin (indices_with inputs.indices name version)
 
 -- the release has this value for the key
 abbrev pub has_key : Release → ReleaseKey → List ℕ → Bool
@@ -92,7 +100,7 @@ names_all (pinned.Listed names) = false
 abbrev pub deciding_record : Inputs → List ℕ → List ℕ → Option Preference
 deciding_record inputs name version = find
     (λ preference. names_it name preference.names
-      && list_any (λ origin. pin_matches preference.pin version origin.release) (origins_of inputs name version))
+    && list_any (λ origin. pin_matches preference.pin version origin.release) (origins_of inputs name version))
     inputs.preferences
 
 -- the first record for every name that matches the version in this origin
@@ -125,7 +133,7 @@ HasPriority inputs name version priority =
 -- the version is lower than the one of the name that stands
 unfoldable pub IsDowngrade : Inputs → List ℕ → List ℕ → Type 0
 IsDowngrade inputs name version =
-    HasRecord (λ found. Stands found × (version_cmp version (version_of found) ≡ Less)) name inputs.start
+    HasRecord (λ found. Stands found × (version_cmp version found.version ≡ Less)) name inputs.start
 
 -- the version may be chosen by itself: its priority is above 0, and it is no downgrade with a priority below 1000
 unfoldable pub IsEligible : Inputs → List ℕ → List ℕ → ℤ → Type 0
@@ -141,4 +149,4 @@ IsUpTo version priority other other_priority = (priority <ℤ other_priority)
 pub record IsCandidate (inputs : Inputs) (name version : List ℕ) (priority : ℤ) : Type 0 where
   pub eligible : IsEligible inputs name version priority
   pub greatest : (other : List ℕ) (other_priority : ℤ) → IsEligible inputs name other other_priority
-    → IsUpTo other other_priority version priority
+      → IsUpTo other other_priority version priority

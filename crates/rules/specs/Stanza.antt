@@ -81,8 +81,8 @@ with_config_version config_version field =
 abbrev pub touched_fields : Field → Option (List ℕ) → List Field → List Field
 touched_fields status config_version fields =
     fields_called (codes "Package") fields ++ status
-      ∷ flat_map (with_config_version config_version)
-          (fields_without (codes "Package" ∷ codes "Status" ∷ codes "Config-Version" ∷ []) fields)
+    ∷ flat_map (with_config_version config_version)
+    (fields_without (codes "Package" ∷ codes "Status" ∷ codes "Config-Version" ∷ []) fields)
 
 -- the fields that an index has and a status file doesn't
 abbrev pub index_only : List (List ℕ)
@@ -93,4 +93,4 @@ index_only = codes "Filename" ∷ codes "Size" ∷ codes "MD5sum" ∷ codes "SHA
 abbrev pub unpacked_fields : Field → Option (List ℕ) → List Field → List Field → List Field
 unpacked_fields status config_version index_fields old_fields =
     touched_fields status config_version (fields_without index_only index_fields)
-      ++ fields_called (codes "Conffiles") old_fields
+    ++ fields_called (codes "Conffiles") old_fields

@@ -5,7 +5,7 @@ use Rattle.std.specs.List.{filter, list_any}
 use Rattle.std.specs.Option.{option_map_or}
 use Rattle.rules.specs.Database.{Record}
 use Rattle.rules.specs.Package.{Pkg, Relations}
-use Rattle.rules.specs.Stanza.{Stanza, Field, status_field, touched_fields, unpacked_fields}
+use Rattle.rules.specs.Stanza.{Stanza}
 use Rattle.rules.specs.declared.status.Flag.TheVariants.{Sound}
 use Rattle.rules.specs.declared.status.State.{State}
 use Rattle.rules.specs.declared.status.State.TheVariants.{NotInstalled, ConfigFiles, HalfInstalled, Unpacked, HalfConfigured, Installed}
@@ -14,48 +14,27 @@ use Rattle.rules.specs.declared.status.Want.TheVariants.{Install, Deinstall}
 use Rattle.rules.specs.declared.step.Step.{Step}
 use Rattle.rules.specs.declared.step.Step.TheVariants.{Unpack, Deconfigure, Configure, Remove, Purge}
 
--- a stanza of an index: its package, its fields in order and its bytes
+-- a stanza of an index: its package, whether it is marked essential, and its text
 pub record Listed : Type 0 where
   pub pkg : Pkg
-  pub fields : List Field
-  pub bytes : List ℕ
+  pub is_essential : Bool
+  pub stanza : Stanza
 
 -- no relations
 abbrev pub no_relations : Relations
 no_relations = record { pre_depends = []; depends = []; conflicts = []; breaks = []; provides = [] }
 
--- the stanza that says this, from the fields of the one before
-abbrev pub touched_stanza : Want → State → Record → Option (List ℕ) → Stanza
-touched_stanza want state old config_version = record {
-  fields = touched_fields (status_field want old.flag state) config_version old.stanza.fields;
-  bytes = None
-}
-
--- the record with another want, state, config version and relations, and its stanza to that effect
--- the stanza of an installed package has no field Config-Version
-abbrev pub moved : Want → State → Option (List ℕ) → Option (List ℕ) → Relations → Record → Record
-moved want state config_version written relations old = record {
-  name = old.name;
-  state = state;
-  want = want;
-  flag = old.flag;
-  version = old.version;
-  config_version = config_version;
-  relations = relations;
-  stanza = touched_stanza want state old written
-}
-
 -- deconfigured: half-configured, and its version is the one last configured
 abbrev pub deconfigured : Record → Record
-deconfigured old = moved old.want HalfConfigured old.version old.version old.relations old
+deconfigured old = record old { state = HalfConfigured; config_version = Some old.version }
 
 -- configured: installed, and its version is the one last configured
 abbrev pub configured : Record → Record
-configured old = moved old.want Installed old.version None old.relations old
+configured old = record old { state = Installed; config_version = Some old.version }
 
 -- removed: config files alone are left, and deinstall is wanted
 abbrev pub removed : Record → Record
-removed old = moved Deinstall ConfigFiles old.config_version old.config_version no_relations old
+removed old = record old { state = ConfigFiles; want = Deinstall; relations = no_relations }
 
 -- the config version of a package that is unpacked over this state: the version that was configured, if files of it are there
 abbrev pub kept_config_version : State → Option (List ℕ) → Option (List ℕ)
@@ -66,26 +45,22 @@ kept_config_version Unpacked config_version = config_version
 kept_config_version HalfConfigured config_version = config_version
 kept_config_version Installed config_version = config_version
 
--- the record of a package of an index unpacked, with this config version, and with Conffiles from these old fields
-abbrev pub unpacked_with : Listed → Option (List ℕ) → List Field → Record
-unpacked_with listed config_version old_fields = record {
+-- the record of a package of an index unpacked, with this config version
+abbrev pub unpacked_with : Listed → Option (List ℕ) → Record
+unpacked_with listed config_version = record {
   name = listed.pkg.name;
   state = Unpacked;
   want = Install;
   flag = Sound;
-  version = Some listed.pkg.version;
+  version = listed.pkg.version;
   config_version = config_version;
   relations = listed.pkg.relations;
-  stanza = record {
-    fields = unpacked_fields (status_field Install Sound Unpacked) config_version listed.fields old_fields;
-    bytes = None
-  }
+  is_essential = listed.is_essential;
 }
 
 -- unpacked over the record before
 abbrev pub unpacked_over : Listed → Record → Record
-unpacked_over listed old =
-    unpacked_with listed (kept_config_version old.state old.config_version) old.stanza.fields
+unpacked_over listed old = unpacked_with listed (kept_config_version old.state old.config_version)
 
 -- the record has the name, as a test
 abbrev pub is_named : List ℕ → Record → Bool
@@ -104,7 +79,7 @@ abbrev pub after_unpack : Listed → List Record → List Record
 after_unpack listed db =
     if list_any (is_named listed.pkg.name) db
     then changed (is_named listed.pkg.name) (unpacked_over listed) db
-    else db ++ unpacked_with listed None [] ∷ []
+    else db ++ unpacked_with listed None ∷ []
 
 -- the database after the step, where an unpacked package comes from this stanza of an index
 -- an unpacking without a stanza leaves all as it was

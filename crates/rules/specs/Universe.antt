@@ -6,7 +6,7 @@ use Rattle.std.specs.Ordering.{then_cmp, on}
 use Rattle.std.specs.declared.cmp.Ordering.{Ordering}
 use Rattle.std.specs.declared.cmp.Ordering.TheVariants.{Less}
 use Rattle.rules.specs.Available.{Inputs, IsAvailable, counting_package, index_package, is_of}
-use Rattle.rules.specs.Database.{Record, Stands, IsHeld, HasRecord, is_essential, stands, version_of}
+use Rattle.rules.specs.Database.{Record, Stands, IsHeld, HasRecord, stands}
 use Rattle.rules.specs.State.{is_present_state, is_hold}
 use Rattle.rules.specs.Name.{name_cmp}
 use Rattle.rules.specs.Package.{Pkg}
@@ -50,9 +50,9 @@ abbrev pub start_of : Record → Start
 start_of found = record {
   name = found.name;
   is_present = is_present_state found.state;
-  standing = if stands found then Some (version_of found) else None;
+  standing = if stands found then Some found.version else None;
   is_held = is_hold found.want;
-  is_essential = is_essential found
+  is_essential = found.is_essential;
 }
 
 -- the facts of the start, in file order
@@ -76,7 +76,7 @@ NamesExactly name version goal.NoRemove = ⊥
 
 -- the version is the one of the name that stands
 unfoldable pub StandsAs : List Record → List ℕ → List ℕ → Type 0
-StandsAs db name version = HasRecord (λ found. Stands found × SameVersion (version_of found) version) name db
+StandsAs db name version = HasRecord (λ found. Stands found × SameVersion found.version version) name db
 
 -- the version is the candidate of the name, or available and asked for by an install goal with `=`
 unfoldable pub IsOffered : Inputs → List ℕ → List ℕ → Type 0
@@ -121,5 +121,5 @@ pub record IsUniverse (inputs : Inputs) (u : Universe) : Type 0 where
   pub starts : u.starts ≡ starts_of inputs.start
   pub candidates : All (λ candidate. (priority : ℤ) × IsCandidate inputs candidate.name candidate.version priority) u.candidates
   pub every_candidate : (name version : List ℕ) (priority : ℤ) → IsCandidate inputs name version priority
-    → Any (λ candidate. (candidate.name ≡ name) × SameVersion candidate.version version) u.candidates
+      → Any (λ candidate. (candidate.name ≡ name) × SameVersion candidate.version version) u.candidates
   pub one_candidate : AllPairs (λ earlier later. earlier.name ≢ later.name) u.candidates

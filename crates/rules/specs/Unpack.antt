@@ -2,15 +2,15 @@
 -- before satisfies Pre-Depends also by what it provides is this project's own.
 use Rattle.std.specs.Prelude.{◌≡◌, ℕ, false, List, ◌⊎◌, ⊤, Option, MatchOption}
 use Rattle.std.specs.List.{Any, All}
-use Rattle.rules.specs.Database.{Record, IsPresent, IsUnconfigured, IsInstalled, ForOthers, SomeOther, version_of, pkg_of}
+use Rattle.rules.specs.Database.{Record, IsPresent, IsUnconfigured, IsInstalled, ForOthers, SomeOther, pkg_of}
 use Rattle.rules.specs.Package.{Pkg, Atom, Meets, Matches, FitsByProvides, ConflictsWith, BreaksOther}
 use Rattle.rules.specs.Step.{Listed}
 
 -- what the record's package was when it was last configured, and what it is now, both fit the atom
 unfoldable pub FitsThenAndNow : Record → Atom → List ℕ → Type 0
 FitsThenAndNow found atom config_version =
-    ((found.name ≡ atom.name) × Meets (version_of found) atom.restriction × Meets config_version atom.restriction)
-      ⊎ FitsByProvides (pkg_of found) atom
+    ((found.name ≡ atom.name) × Meets found.version atom.restriction × Meets config_version atom.restriction)
+    ⊎ FitsByProvides (pkg_of found) atom
 
 -- the record is unpacked or half-configured, was configured before, and fits the atom
 unfoldable pub FitsFromBefore : Record → Atom → Type 0

@@ -1,7 +1,8 @@
 // What a request asks for.
 
-use crate::name::{Name, VersionText};
+use crate::name::Name;
 use crate::op::Op;
+use crate::version_text::VersionText;
 
 /// A restriction to some versions (Policy 7.1).
 #[derive(Debug, Drop)]

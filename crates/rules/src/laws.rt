@@ -1,5 +1,6 @@
 // Laws that follow from the definitions: each function has an empty body, and its contract is the law.
 
+ghost use Rattle.rules.specs.Entry.{WrittenAsLeft};
 ghost use Rattle.rules.specs.GroupLaws.{UnionPasses, HasGreatestPart, IndivisibleByOthers};
 ghost use Rattle.rules.specs.LegalLaws.{OneFirstFailing, AllowedOrFailing, AllowedWhereNoneFails};
 ghost use Rattle.rules.specs.PlanLaws.{GoodPlanIsKept};
@@ -8,80 +9,72 @@ ghost use Rattle.rules.specs.RunLaws.{RunGoesOn, OneEnd, RunOrStops, DistinctNam
 /// A step has one first failing rule at most.
 pub fn one_first_failing()
     ensures { OneFirstFailing }
-{
-}
+{}
 
 /// Each step is allowed or has a first failing rule.
 pub fn allowed_or_failing()
     ensures { AllowedOrFailing }
-{
-}
+{}
 
 /// A step is allowed exactly where no rule of its table is the first to fail.
 pub fn allowed_where_none_fails()
     ensures { AllowedWhereNoneFails }
-{
-}
+{}
 
 /// A run of two lists of steps in a row is a run of the first, and from its end one of the second.
 pub fn run_goes_on()
     ensures { RunGoesOn }
-{
-}
+{}
 
 /// A run has one end.
 pub fn one_end()
     ensures { OneEnd }
-{
-}
+{}
 
 /// Each list of steps is a run to some end or stops at a step.
 pub fn run_or_stops()
     ensures { RunOrStops }
-{
-}
+{}
 
 /// Two groups that pass the tests of a configuring pass them together.
 pub fn union_passes()
     ensures { UnionPasses }
-{
-}
+{}
 
 /// Each group has a greatest part that passes.
 pub fn has_greatest_part()
     ensures { HasGreatestPart }
-{
-}
+{}
 
 /// No proper part of a group passes by itself exactly where, for each member, the greatest passing part of
 /// the others is empty.
 pub fn indivisible_by_others()
     ensures { IndivisibleByOthers }
-{
-}
+{}
+
+/// The records of what an action writes are what it leaves.
+pub fn written_as_left()
+    ensures { WrittenAsLeft }
+{}
 
 /// Every action keeps the names of the database distinct.
 pub fn distinct_names_kept()
     ensures { DistinctNamesKept }
-{
-}
+{}
 
 /// Every allowed action keeps a quiet database quiet.
 pub fn quiet_kept()
     ensures { QuietKept }
-{
-}
+{}
 
 /// After every beginning of a run from a quiet start the database is quiet.
 pub fn quiet_after_run()
     ensures { QuietAfterRun }
-{
-}
+{}
 
 /// A good plan keeps its promise: each step is allowed when its turn comes, the database is quiet after each
 /// beginning of the steps, and at the end every goal is met, every hold and every essential name is kept, and
 /// every Pre-Depends, Depends, Conflicts and Breaks of an installed package is satisfied.
 pub fn good_plan_is_kept()
     ensures { GoodPlanIsKept }
-{
-}
+{}

@@ -11,16 +11,18 @@ mod release;
 mod status;
 mod step;
 mod text;
+mod version_text;
 
 pub use goal::{Goal, Restriction};
 pub use laws::{
-    allowed_or_failing, allowed_where_none_fails, distinct_names_kept, good_plan_is_kept, has_greatest_part,
-    indivisible_by_others, one_end, one_first_failing, quiet_after_run, quiet_kept, run_goes_on, run_or_stops,
-    union_passes,
+    allowed_or_failing, allowed_where_none_fails, distinct_names_kept, good_plan_is_kept,
+    has_greatest_part, indivisible_by_others, one_end, one_first_failing, quiet_after_run,
+    quiet_kept, run_goes_on, run_or_stops, union_passes, written_as_left,
 };
-pub use name::{Name, Names, VersionText};
+pub use name::{Name, Names};
 pub use op::Op;
 pub use release::{Pin, PinnedNames, Preference, Release, ReleaseItem, ReleaseKey};
 pub use status::{Flag, State, Want};
 pub use step::{Reason, Rule, Step};
 pub use text::{Items, Text};
+pub use version_text::VersionText;

@@ -1,4 +1,4 @@
-// Owned names, versions and groups of names, which a contract sees as their bytes.
+// Owned names and groups of names, which a contract sees as their bytes.
 
 ghost use Rattle.std.specs.Prelude.{◌≡◌, ℕ, ◌<◌, List, length, IfOk, IsTrue};
 ghost use Rattle.rules.specs.Name.{is_name, IsAscending};
@@ -33,7 +33,8 @@ impl Name {
 
     /// The bytes of the name.
     pub fn as_bytes(&self) -> &[u8]
-        ensures { result.now ≡ self.now }
+        ensures bytes { result.now ≡ self.now }
+        ensures valid { IsTrue (is_name self.now) }
     {
         self.bytes.as_slice()
     }
@@ -42,48 +43,7 @@ impl Name {
     pub fn try_copy(&self, alloc: Global) -> Result<Name, AllocError>
         ensures { IfOk result (λ name. name ≡ self.now) }
     {
-        Ok(Name {
-            bytes: self.bytes.as_slice().to_vec(alloc)?,
-        })
-    }
-}
-
-/// The text of a version (Policy 5.6.12), which owns its bytes.
-#[derive(Debug, Drop)]
-pub struct VersionText {
-    bytes: Vec<u8>,
-}
-
-impl Model for VersionText {
-    ghost Value = { List ℕ };
-
-    ghost view = { λ version. version.bytes.items };
-}
-
-impl VersionText {
-    /// A copy of a version's text. Memory alone can fail.
-    pub fn copied_from(alloc: Global, bytes: &[u8]) -> Result<VersionText, AllocError>
-        ensures { IfOk result (λ version. version ≡ bytes.now) }
-    {
-        Ok(VersionText {
-            bytes: bytes.to_vec(alloc)?,
-        })
-    }
-
-    /// The bytes of the text.
-    pub fn as_bytes(&self) -> &[u8]
-        ensures { result.now ≡ self.now }
-    {
-        self.bytes.as_slice()
-    }
-
-    /// An equal text. Memory alone can fail.
-    pub fn try_copy(&self, alloc: Global) -> Result<VersionText, AllocError>
-        ensures { IfOk result (λ version. version ≡ self.now) }
-    {
-        Ok(VersionText {
-            bytes: self.bytes.as_slice().to_vec(alloc)?,
-        })
+        Name::copied_from(alloc, self.as_bytes())
     }
 }
 
@@ -113,7 +73,9 @@ impl Names {
 
     /// The names, ascending.
     pub fn as_slice(&self) -> &[Name]
-        ensures { result.now ≡ self.now }
+        ensures names { result.now ≡ self.now }
+        ensures ascending { IsAscending self.now }
+        ensures some { 0 < length self.now }
     {
         self.names.as_slice()
     }

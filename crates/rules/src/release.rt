@@ -1,7 +1,8 @@
 // What is known of an index and of the preferences of the administrator (apt_preferences(5)).
 
-use crate::name::{Name, VersionText};
+use crate::name::Name;
 use crate::text::{Items, Text};
+use crate::version_text::VersionText;
 
 /// The release keys of an index. A key that is absent is matched by no release pin.
 #[derive(Debug, Drop)]

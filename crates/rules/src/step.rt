@@ -2,9 +2,9 @@
 
 ghost use Rattle.std.specs.Prelude.{◌≡◌, IfOk};
 
+use crate::name::{Name, Names};
+use crate::version_text::VersionText;
 use std::alloc::{AllocError, Global};
-
-use crate::name::{Name, Names, VersionText};
 
 /// A step of a plan: one action of dpkg on a package, or the configuring of a group at once.
 #[derive(Debug, Drop)]

@@ -1,0 +1,58 @@
+-- The records of what an action writes are what it leaves.
+use Rattle.std.proofs.Common.{◌≡◌, ℕ, Bool, true, false, not, cond, List, [], ◌∷◌, ◌++◌, map, Option, Some, None, refl, ap, ◌∙◌}
+use Rattle.std.specs.List.{filter, list_any}
+use Rattle.rules.specs.Database.{Record}
+use Rattle.rules.specs.Entry.{Entry, records_of, touched_entry, unpacked_entry, new_entry, changed_entries, entries_after_unpack, entries_after}
+use Rattle.rules.specs.Step.{Listed, is_named, is_among, changed, deconfigured, configured, removed, unpacked_over, unpacked_with, after_unpack, result_of}
+use Rattle.rules.specs.declared.step.Step.{Step}
+use Rattle.rules.specs.declared.step.Step.TheVariants as step
+
+-- where a change of entries is that of their records
+records_changed : (test : Record → Bool) (change : Record → Record) (written : Entry → Entry)
+    → ((entry : Entry) → (written entry).found ≡ change entry.found) → (entries : List Entry)
+    → records_of (changed_entries test written entries) ≡ changed test change (records_of entries)
+records_changed test change written agrees [] = refl
+records_changed test change written agrees (entry ∷ rest) =
+    at (test entry.found) (records_changed test change written agrees rest)
+  where
+    at : (b : Bool) → records_of (changed_entries test written rest) ≡ changed test change (records_of rest)
+        → (cond b (written entry) entry).found ∷ records_of (changed_entries test written rest)
+        ≡ cond b (change entry.found) entry.found ∷ changed test change (records_of rest)
+    at true later = rw (agrees entry, later) refl
+    at false later = rw later refl
+
+records_filtered : (test : Record → Bool) (entries : List Entry)
+    → records_of (filter (λ entry. test entry.found) entries) ≡ filter test (records_of entries)
+records_filtered test [] = refl
+records_filtered test (entry ∷ rest) = at (test entry.found) (records_filtered test rest)
+  where
+    at : (b : Bool) → records_of (filter (λ e. test e.found) rest) ≡ filter test (records_of rest)
+        → records_of (cond b (entry ∷ filter (λ e. test e.found) rest) (filter (λ e. test e.found) rest))
+        ≡ cond b (entry.found ∷ filter test (records_of rest)) (filter test (records_of rest))
+    at true later = rw later refl
+    at false later = later
+
+records_appended : (entries : List Entry) (entry : Entry) → records_of (entries ++ entry ∷ []) ≡ records_of entries ++ entry.found ∷ []
+records_appended [] entry = refl
+records_appended (first ∷ rest) entry = rw (records_appended rest entry) refl
+
+records_unpacked : (listed : Listed) (entries : List Entry)
+    → records_of (entries_after_unpack listed entries) ≡ after_unpack listed (records_of entries)
+records_unpacked listed entries = at (list_any (is_named listed.pkg.name) (records_of entries))
+  where
+    at : (b : Bool) → records_of (cond b (changed_entries (is_named listed.pkg.name) (unpacked_entry listed) entries) (entries ++ new_entry listed ∷ []))
+        ≡ cond b (changed (is_named listed.pkg.name) (unpacked_over listed) (records_of entries)) (records_of entries ++ unpacked_with listed None ∷ [])
+    at true = records_changed (is_named listed.pkg.name) (unpacked_over listed) (unpacked_entry listed) (λ entry. refl) entries
+    at false = records_appended entries (new_entry listed)
+
+pub written_as_left : (listed : Option Listed) (taken : Step) (entries : List Entry)
+    → records_of (entries_after listed taken entries) ≡ result_of listed taken (records_of entries)
+written_as_left None (step.Unpack name version) entries = refl
+written_as_left (Some listed) (step.Unpack name version) entries = records_unpacked listed entries
+written_as_left listed (step.Deconfigure name) entries =
+    records_changed (is_named name) deconfigured (touched_entry deconfigured) (λ entry. refl) entries
+written_as_left listed (step.Configure names) entries =
+    records_changed (is_among names) configured (touched_entry configured) (λ entry. refl) entries
+written_as_left listed (step.Remove name) entries =
+    records_changed (is_named name) removed (touched_entry removed) (λ entry. refl) entries
+written_as_left listed (step.Purge name) entries = records_filtered (λ found. not (is_named name found)) entries
