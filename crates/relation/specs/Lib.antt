@@ -1,0 +1,4 @@
+pub mod Bytes
+pub mod Error
+pub mod Shape
+pub mod Spelling

@@ -1,0 +1,11 @@
+//! Relation fields of packages (Debian Policy, chapter 7): their values, the packages that have them, and
+//! which package matches which atom. It stands on `rules`, which says what matches, on `stanza` and on
+//! `debversion`. `check` tests a value without taking memory, `parse_clauses` and its kin read it.
+#![tactic(auto)]
+
+mod cut;
+mod error;
+mod shape;
+
+pub use error::{RelationError, RelationFault};
+pub use shape::Form;
