@@ -1,1 +1,4 @@
 pub mod Version
+pub mod VersionLaws
+pub mod VersionOrderLaws
+pub mod VersionPartLaws

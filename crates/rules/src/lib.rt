@@ -4,5 +4,10 @@
 #![tactic(auto)]
 
 mod op;
+mod version_order;
 
 pub use op::Op;
+pub use version_order::{
+    first_difference_decides, pieces_are_fronts, same_version_is_equivalence,
+    same_versions_compare_alike, version_order_is_total,
+};
