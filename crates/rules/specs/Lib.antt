@@ -1,4 +1,6 @@
 pub mod Version
 pub mod VersionLaws
 pub mod VersionOrderLaws
-pub mod VersionPartLaws
+pub mod VersionPieceLaws
+pub mod VersionFrontLaws
+pub mod VersionSharedLaws

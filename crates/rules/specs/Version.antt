@@ -26,15 +26,21 @@ epoch_of version = if list_any is_colon version then before_first is_colon versi
 abbrev pub after_epoch : List ℕ → List ℕ
 after_epoch version = if list_any is_colon version then after_first is_colon version else version
 
--- the upstream version: what precedes the last hyphen, or all where there is none
-abbrev pub upstream_of : List ℕ → List ℕ
-upstream_of version =
-    if list_any is_hyphen (after_epoch version) then before_last is_hyphen (after_epoch version) else after_epoch version
+-- what precedes the last hyphen, or all where there is none
+abbrev pub before_revision : List ℕ → List ℕ
+before_revision rest = if list_any is_hyphen rest then before_last is_hyphen rest else rest
 
--- the revision: what follows the last hyphen, or nothing where there is none
+-- what follows the last hyphen, or nothing where there is none
+abbrev pub after_upstream : List ℕ → List ℕ
+after_upstream rest = if list_any is_hyphen rest then after_last is_hyphen rest else []
+
+-- the upstream version: of what follows the epoch, what precedes the last hyphen
+abbrev pub upstream_of : List ℕ → List ℕ
+upstream_of version = before_revision (after_epoch version)
+
+-- the revision: of what follows the epoch, what follows the last hyphen
 abbrev pub revision_of : List ℕ → List ℕ
-revision_of version =
-    if list_any is_hyphen (after_epoch version) then after_last is_hyphen (after_epoch version) else []
+revision_of version = after_upstream (after_epoch version)
 
 -- a tilde
 abbrev pub is_tilde : ℕ → Bool

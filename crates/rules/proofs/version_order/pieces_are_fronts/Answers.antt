@@ -1,4 +1,4 @@
-use Rattle.rules.specs.VersionPartLaws.{pieces_are_fronts}
+use Rattle.rules.specs.VersionFrontLaws.{pieces_are_fronts}
 use Rattle.rules.proofs.version_order.pieces_are_fronts.Goals as goal
 
 pub returns : goal.returns
