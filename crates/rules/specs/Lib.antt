@@ -11,3 +11,8 @@ pub mod Stanza
 pub mod Step
 pub mod Universe
 pub mod Version
+pub mod VersionLaws
+pub mod VersionOrderLaws
+pub mod VersionPieceLaws
+pub mod VersionFrontLaws
+pub mod VersionSharedLaws

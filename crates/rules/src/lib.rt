@@ -10,6 +10,7 @@ mod release;
 mod status;
 mod step;
 mod text;
+mod version_order;
 
 pub use goal::{Goal, Restriction};
 pub use name::{Name, Names, VersionText};
@@ -18,3 +19,7 @@ pub use release::{Pin, PinnedNames, Preference, Release, ReleaseItem, ReleaseKey
 pub use status::{Flag, State, Want};
 pub use step::{Reason, Rule, Step};
 pub use text::{Items, Text};
+pub use version_order::{
+    first_difference_decides, pieces_are_fronts, same_version_is_equivalence,
+    same_versions_compare_alike, version_order_is_total,
+};

@@ -1,0 +1,2 @@
+pub mod VersionRows
+pub mod WordRows
