@@ -1,1 +1,2 @@
 pub mod ShapeLemmas
+pub mod Parts

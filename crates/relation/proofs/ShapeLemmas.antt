@@ -53,6 +53,7 @@ dead_front form front more dead shape =
     cc
 
 pub live_front : (form : Form) (front : List ℕ) → place_after form Between front ≢ Dead → (more : List ℕ) × HasShape form (front ++ more)
-live_front form front live =
-    (completion_of (place_after form Between front),
-     ap is_end (place_after-append form Between front (completion_of (place_after form Between front))) ∙ completes form (place_after form Between front) live)
+live_front form front live = (
+  completion_of (place_after form Between front),
+  ap is_end (place_after-append form Between front (completion_of (place_after form Between front))) ∙ completes form (place_after form Between front) live,
+)

@@ -2,13 +2,15 @@
 -- and the parts of an atom. That `any`, `native` and the configured architecture are ignored, and that an
 -- atom with another qualifier is foreign, is this project's own.
 use Rattle.std.specs.Prelude.{◌≡◌, ℕ, ◌+◌, ◌-◌, Bool, true, false, not, ◌==◌, ◌||◌, List, [], ◌∷◌, map, filter, length, drop, Option, Some, None, codes, if◌then◌else◌}
-use Rattle.std.specs.List.{prefix_len, take_while, slice_split, list_all, flat_map}
+use Rattle.std.specs.List.{prefix_len, take_while, slice_split, list_all}
 use Rattle.std.specs.Option.{option_map}
 use Rattle.rules.specs.Name.{is_name_byte, same_text}
 use Rattle.rules.specs.Package.{Atom, Provided}
 use Rattle.rules.specs.declared.goal.Restriction.{Restriction}
 use Rattle.rules.specs.declared.op.Op.{Op}
 use Rattle.rules.specs.declared.op.Op.TheVariants.{StrictlyEarlier, EarlierOrEqual, ExactlyEqual, LaterOrEqual, StrictlyLater}
+use Rattle.relation.specs.declared.cut.Separator.{Separator}
+use Rattle.relation.specs.declared.cut.Separator.TheVariants.{Comma, Bar, CommaOrBar}
 use Rattle.relation.specs.Bytes.{is_white, is_comma, is_bar, is_colon, is_opening, is_less, is_greater, is_operator_byte, is_qualifier_byte, is_version_byte}
 
 -- what follows the bytes at the front that pass the test
@@ -80,7 +82,7 @@ abbrev pub atom_of : List ℕ → List ℕ → Atom
 atom_of arch text = record {
   name = name_of text;
   restriction = option_map restriction_in (inside_of text);
-  foreign = is_foreign arch (qualifier_at (after_name text))
+  foreign = is_foreign arch (qualifier_at (after_name text));
 }
 
 -- an item of Provides from its text
@@ -88,29 +90,35 @@ abbrev pub provided_of : List ℕ → List ℕ → Provided
 provided_of arch text = record {
   name = name_of text;
   version = option_map version_in (inside_of text);
-  foreign = is_foreign arch (qualifier_at (after_name text))
+  foreign = is_foreign arch (qualifier_at (after_name text));
 }
+
+-- a byte of these separators
+abbrev pub separates : Separator → ℕ → Bool
+separates Comma b = is_comma b
+separates Bar b = is_bar b
+separates CommaOrBar b = is_comma b || is_bar b
+
+-- what the separators part
+abbrev pub parts_of : Separator → List ℕ → List (List ℕ)
+parts_of separator value = slice_split (separates separator) value
 
 -- the text is white space alone
 abbrev pub is_blank : List ℕ → Bool
 is_blank text = list_all is_white text
 
--- the texts between the separators that aren't white space alone
-abbrev pub texts_between : (ℕ → Bool) → List ℕ → List (List ℕ)
-texts_between is_separator value = filter (λ text. not (is_blank text)) (slice_split is_separator value)
+-- the parts that aren't white space alone
+abbrev pub items_of : List (List ℕ) → List (List ℕ)
+items_of parts = filter (λ text. not (is_blank text)) parts
 
--- the atoms between the separators
-abbrev pub atoms_between : (ℕ → Bool) → List ℕ → List ℕ → List Atom
-atoms_between is_separator arch value = map (atom_of arch) (texts_between is_separator value)
+-- the atoms of a value: what the separators part
+abbrev pub atoms_between : Separator → List ℕ → List ℕ → List Atom
+atoms_between separator arch value = map (atom_of arch) (items_of (parts_of separator value))
 
--- the atoms of a value: what commas separate
-abbrev pub atoms_of : List ℕ → List ℕ → List Atom
-atoms_of = atoms_between is_comma
-
--- the clauses of a value: what commas separate, each as its alternatives, which bars separate
+-- the clauses of a value: what commas part, each as its alternatives, which bars part
 abbrev pub clauses_of : List ℕ → List ℕ → List (List Atom)
-clauses_of arch value = map (atoms_between is_bar arch) (texts_between is_comma value)
+clauses_of arch value = map (atoms_between Bar arch) (items_of (parts_of Comma value))
 
--- the items of a Provides value
+-- the items of a Provides value: what commas part
 abbrev pub provided_items_of : List ℕ → List ℕ → List Provided
-provided_items_of arch value = map (provided_of arch) (texts_between is_comma value)
+provided_items_of arch value = map (provided_of arch) (items_of (parts_of Comma value))

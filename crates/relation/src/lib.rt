@@ -5,7 +5,10 @@
 
 mod cut;
 mod error;
+mod refusal;
 mod shape;
 
 pub use error::{RelationError, RelationFault};
+pub use refusal::check;
 pub use shape::Form;
+pub use shape::{every_other_place_has_a_completion, no_text_goes_on_from_the_dead_place};

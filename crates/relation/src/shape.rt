@@ -284,11 +284,9 @@ pub fn awaits_name(place: Place) -> bool
 /// Nothing that goes on with bytes that lead to the dead place has the shape.
 pub fn no_text_goes_on_from_the_dead_place()
     ensures { (form : FormOf) (front more : List ℕ) → place_after form Between front ≡ Dead → HasShape form (front ++ more) → ⊥ }
-{
-}
+{}
 
 /// Bytes that don't lead to the dead place go on to a whole value.
 pub fn every_other_place_has_a_completion()
     ensures { (form : FormOf) (front : List ℕ) → place_after form Between front ≢ Dead → (more : List ℕ) × HasShape form (front ++ more) }
-{
-}
+{}
