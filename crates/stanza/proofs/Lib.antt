@@ -5,3 +5,4 @@ pub mod NameLemmas
 pub mod FaultLemmas
 pub mod StanzaLemmas
 pub mod FrontLemmas
+pub mod CollectLemmas

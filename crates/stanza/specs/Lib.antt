@@ -5,3 +5,4 @@ pub mod Fault
 pub mod Seen
 pub mod Stanza
 pub mod Front
+pub mod Collect

@@ -10,6 +10,8 @@ mod front;
 mod lines;
 mod names;
 mod seen;
+#[cfg(test)]
+mod tests;
 mod values;
 mod view;
 mod walk;
