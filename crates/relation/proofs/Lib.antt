@@ -1,2 +1,4 @@
 pub mod ShapeLemmas
 pub mod Parts
+pub mod SplitTwice
+pub mod GoodVersions

@@ -4,3 +4,4 @@ pub mod Error
 pub mod Refusal
 pub mod Shape
 pub mod Spelling
+pub mod Value

@@ -3,12 +3,15 @@
 //! `debversion`. `check` tests a value without taking memory, `parse_clauses` and its kin read it.
 #![tactic(auto)]
 
+mod atom;
 mod cut;
 mod error;
+mod parse;
 mod refusal;
 mod shape;
 
+pub use atom::{Atom, Clause, Provided};
 pub use error::{RelationError, RelationFault};
+pub use parse::{parse_atoms, parse_clauses, parse_provides};
 pub use refusal::check;
-pub use shape::Form;
-pub use shape::{every_other_place_has_a_completion, no_text_goes_on_from_the_dead_place};
+pub use shape::{Form, every_other_place_has_a_completion, no_text_goes_on_from_the_dead_place};

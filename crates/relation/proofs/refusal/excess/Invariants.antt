@@ -9,7 +9,7 @@ abbrev pub invariant-loop-left : goal.invariant-loop-left
 invariant-loop-left l = record {
   within : len_left l.left ≤ length l.value + 1;
   same : excess_from l.more (length l.value + 1 - len_left l.left) (parts_left l.separator l.left)
-    ≡ excess_from most_atoms 0 (parts_of l.separator l.value)
+      ≡ excess_from most_atoms 0 (parts_of l.separator l.value);
 }
 
 abbrev pub decreases-loop-left : goal.decreases-loop-left

@@ -9,7 +9,7 @@ abbrev pub invariant-loop-left : goal.invariant-loop-left
 invariant-loop-left l = record {
   within : len_left l.left ≤ length l.value + 1;
   same : version_refusal_from (length l.value + 1 - len_left l.left) (parts_left l.separator l.left)
-    ≡ version_refusal_from 0 (parts_of l.separator l.value)
+      ≡ version_refusal_from 0 (parts_of l.separator l.value);
 }
 
 abbrev pub decreases-loop-left : goal.decreases-loop-left
