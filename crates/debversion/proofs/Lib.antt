@@ -1,2 +1,4 @@
 pub mod Cuts
 pub mod DigitValues
+pub mod Skips
+pub mod NumeralLemmas
