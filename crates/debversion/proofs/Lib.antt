@@ -1,4 +1,5 @@
 pub mod Cuts
 pub mod DigitValues
-pub mod Skips
 pub mod NumeralLemmas
+pub mod Pieces
+pub mod Skips

@@ -2,11 +2,12 @@
 // What two parts share in front is skipped, back to where a number begins; what follows is compared piece by piece,
 // each the longest front without digits and the longest front of digits after it.
 
-ghost use Rattle.std.specs.Prelude.{◌≡◌, ◌<◌, ◌≤◌, ◌-◌, false, not, length, drop, take, slice_index};
+ghost use Rattle.std.specs.Prelude.{◌≡◌, ◌↔◌, ◌<◌, ◌≤◌, ◌+◌, ◌-◌, IsTrue, false, not, length, drop, take, slice_index};
 ghost use Rattle.std.specs.Char.{is_ascii_digit};
 ghost use Rattle.std.specs.List.{AllPass, prefix_len};
-ghost use Rattle.rules.specs.Version.{number_cmp, part_cmp, weight_of, word_cmp};
-ghost use Rattle.rules.specs.VersionLaws.{after_piece, after_word, front_digits, front_word};
+ghost use Rattle.std.specs.Ordering.{ordering_then};
+ghost use Rattle.rules.specs.Version.{number_cmp, part_cmp, piece_cmp, weight_of, word_cmp};
+ghost use Rattle.rules.specs.VersionLaws.{after_piece, after_word, first_piece, front_digits, front_word};
 ghost use Rattle.debversion.specs.Weight.{weight_at};
 ghost use Rattle.debversion.specs.Zeros.{without_zeros};
 
@@ -85,6 +86,7 @@ fn digits_len(part: &[u8]) -> usize
 pub fn split_piece(part: &[u8]) -> (&[u8], &[u8], &[u8])
     ensures word { result.0.now ≡ front_word part.now }
     ensures digits { result.1.now ≡ front_digits (after_word part.now) }
+    ensures digits_alone { AllPass is_ascii_digit result.1.now }
     ensures rest { result.2.now ≡ after_piece part.now }
 {
     let (word, after_word) = part.split_at(word_len(part));
@@ -148,4 +150,54 @@ fn number_cmp(a: &[u8], b: &[u8]) -> Ordering
 {
     let (a, b) = (without_zeros(a), without_zeros(b));
     a.len().cmp(&b.len()).then(a.cmp(b))
+}
+
+// The order of the first pieces of two parts, and what follows each.
+fn first_cmp<'a>(a: &'a [u8], b: &'a [u8]) -> (Ordering, &'a [u8], &'a [u8])
+    ensures ordering { result.0 ≡ piece_cmp (first_piece a.now) (first_piece b.now) }
+    ensures left { result.1.now ≡ after_piece a.now }
+    ensures right { result.2.now ≡ after_piece b.now }
+{
+    let (left_word, left_digits, left) = split_piece(a);
+    let (right_word, right_digits, right) = split_piece(b);
+    let ordering = match word_cmp(left_word, right_word) {
+        Ordering::Equal => number_cmp(left_digits, right_digits),
+        decided => decided,
+    };
+    (ordering, left, right)
+}
+
+// What the first pieces of two parts decide behind what both share, and what is left to compare.
+fn next_cmp<'a>(a: &'a [u8], b: &'a [u8]) -> (Ordering, &'a [u8], &'a [u8])
+    ensures decides { part_cmp a.now b.now ≡ ordering_then result.0 (part_cmp result.1.now result.2.now) }
+    ensures shorter { 0 < length a.now + length b.now
+        → length result.1.now + length result.2.now < length a.now + length b.now }
+{
+    let skipped = skipped_len(a, b);
+    let (_, left) = a.split_at(skipped);
+    let (_, right) = b.split_at(skipped);
+    first_cmp(left, right)
+}
+
+fn is_left(a: &[u8], b: &[u8]) -> bool
+    ensures { IsTrue result ↔ (0 < length a.now + length b.now) }
+{
+    !a.is_empty() || !b.is_empty()
+}
+
+/// The order of two parts, upstream versions or revisions. One pass over both, and no memory is taken.
+pub fn part_cmp(a: &[u8], b: &[u8]) -> Ordering
+    ensures { result ≡ part_cmp a.now b.now }
+{
+    let mut left = a;
+    let mut right = b;
+    while is_left(left, right) {
+        let (ordering, after_left, after_right) = next_cmp(left, right);
+        if ordering != Ordering::Equal {
+            return ordering;
+        }
+        left = after_left;
+        right = after_right;
+    }
+    Ordering::Equal
 }
