@@ -1,6 +1,7 @@
 -- A text cut at the first or the last byte that passes a test, in std's words.
 use Rattle.std.proofs.Common.{◌≡◌, ℕ, suc, ◌+◌, ◌-◌, ◌<◌, ◌≤◌, Bool, true, false, not, Some, None, List, [], ◌∷◌, length, take, drop, get_or, ltb, refl, sym, ap, ◌∙◌, arith, inl, inr}
 use Rattle.std.proofs.lemmas.Bool.{cases_Bool, ltb-false, ltb-true, not_from_false, not_from_true}
+use Rattle.std.proofs.lemmas.List.{take-take}
 use Rattle.std.proofs.lemmas.List.Sums.{fails_before_first, passes_at_first, suffix_len_is}
 use Rattle.std.proofs.lemmas.List.Folds.{list_any_at}
 use Rattle.std.specs.List.{after_first, after_last, before_first, before_last, list_any, position, position_or_len, suffix_len}
@@ -76,3 +77,7 @@ first-position test bytes i e = elim (cases_Bool (ltb (position_or_len test byte
       }
   | inr past ↦ cc (e, position-past test bytes past)
 ]
+
+-- two texts with the same front have each shorter front the same
+pub take-same-le : (n m : ℕ) (xs ys : List ℕ) → n ≤ m → take m xs ≡ take m ys → take n xs ≡ take n ys
+take-same-le n m xs ys le same = sym (take-take n m xs le) ∙ ap (take n) same ∙ take-take n m ys le

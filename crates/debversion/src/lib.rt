@@ -3,6 +3,7 @@
 // it borrows its text, and nothing here takes memory.
 #![tactic(auto)]
 
+mod compare;
 mod error;
 mod parse;
 mod version;
