@@ -88,6 +88,13 @@ impl<'a> Atom<'a> {
         self.name
     }
 
+    /// The operator and the version of the restriction, if there is one.
+    pub fn restriction(&self) -> &Option<(Op, Version<'a>)>
+        ensures { option_map restriction_by result.now ≡ self.now.restriction }
+    {
+        &self.restriction
+    }
+
     /// Whether the qualifier names another architecture.
     pub fn is_foreign(&self) -> bool
         ensures { result ≡ self.now.foreign }
@@ -126,6 +133,13 @@ impl<'a> Provided<'a> {
         ensures { result.now ≡ self.now.name }
     {
         self.name
+    }
+
+    /// The version in which it is provided, if there is one.
+    pub fn version(&self) -> &Option<Version<'a>>
+        ensures { result.now ≡ self.now.version }
+    {
+        &self.version
     }
 
     /// Whether the qualifier names another architecture: such an item provides nothing.

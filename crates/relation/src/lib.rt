@@ -6,12 +6,15 @@
 mod atom;
 mod cut;
 mod error;
+mod matching;
 mod parse;
+mod pkg;
 mod refusal;
 mod shape;
 
 pub use atom::{Atom, Clause, Provided};
 pub use error::{RelationError, RelationFault};
 pub use parse::{parse_atoms, parse_clauses, parse_provides};
+pub use pkg::{Pkg, Relations};
 pub use refusal::check;
 pub use shape::{Form, every_other_place_has_a_completion, no_text_goes_on_from_the_dead_place};
