@@ -5,3 +5,5 @@ pub mod Refusal
 pub mod Shape
 pub mod Spelling
 pub mod Value
+pub mod PkgText
+pub mod Found

@@ -63,7 +63,7 @@ fn white_len(text: &[u8]) -> usize
     text.iter().take_while(|byte| is_white(**byte)).count()
 }
 
-fn name_len(text: &[u8]) -> usize
+pub fn name_len(text: &[u8]) -> usize
     ensures value { result ≡ prefix_len is_name_byte text.now }
     ensures within { result ≤ length text.now }
 {

@@ -6,6 +6,8 @@
 mod atom;
 mod cut;
 mod error;
+mod found;
+mod from_stanza;
 mod matching;
 mod parse;
 mod pkg;
@@ -13,7 +15,7 @@ mod refusal;
 mod shape;
 
 pub use atom::{Atom, Clause, Provided};
-pub use error::{RelationError, RelationFault};
+pub use error::{PkgError, PkgFault, RelationError, RelationFault, RequiredField};
 pub use parse::{parse_atoms, parse_clauses, parse_provides};
 pub use pkg::{Pkg, Relations};
 pub use refusal::check;

@@ -14,7 +14,7 @@ use crate::shape::Form;
 use std::alloc::{AllocError, Global};
 
 // The atoms that the separators part, of which no version is refused.
-fn atoms_between<'a>(
+pub fn atoms_between<'a>(
     alloc: Global,
     separator: Separator,
     value: &'a [u8],
@@ -36,7 +36,7 @@ fn atoms_between<'a>(
 }
 
 // The clauses of a value, of which no version is refused.
-fn clauses_of<'a>(
+pub fn clauses_of<'a>(
     alloc: Global,
     value: &'a [u8],
     arch: &[u8],
@@ -57,7 +57,7 @@ fn clauses_of<'a>(
 }
 
 // The items of a Provides value, of which no version is refused.
-fn provided_items_of<'a>(
+pub fn provided_items_of<'a>(
     alloc: Global,
     value: &'a [u8],
     arch: &[u8],
