@@ -11,11 +11,11 @@ use Rattle.relation.specs.declared.shape.Form.{Form}
 use Rattle.relation.specs.declared.shape.Place.TheVariants.{Between}
 use Rattle.relation.proofs.SplitTwice.{split_twice}
 
-none_mapped : {A B : Type 0} (f : A → B) (option : Option A) → option_map f option ≡ None → option ≡ None
+pub none_mapped : {A B : Type 0} (f : A → B) (option : Option A) → option_map f option ≡ None → option ≡ None
 none_mapped f None e = refl
 none_mapped f (Some x) e = cc
 
-none_or : {A : Type 0} (first second : Option A) → option_or first second ≡ None → (first ≡ None) × (second ≡ None)
+pub none_or : {A : Type 0} (first second : Option A) → option_or first second ≡ None → (first ≡ None) × (second ≡ None)
 none_or None second e = (refl, e)
 none_or (Some x) second e = cc
 

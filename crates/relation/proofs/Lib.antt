@@ -2,4 +2,5 @@ pub mod ShapeLemmas
 pub mod Parts
 pub mod SplitTwice
 pub mod GoodVersions
-pub mod FoundMore
+pub mod FieldsMore
+pub mod GoodFields

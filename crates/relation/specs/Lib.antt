@@ -6,4 +6,4 @@ pub mod Shape
 pub mod Spelling
 pub mod Value
 pub mod PkgText
-pub mod Found
+pub mod PkgFields

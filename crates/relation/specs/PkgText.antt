@@ -8,7 +8,7 @@ use Rattle.rules.specs.Name.{is_name, is_name_byte}
 use Rattle.rules.specs.Package.{Pkg, Relations}
 use Rattle.stanza.specs.Field.{FieldText}
 use Rattle.stanza.specs.Stanza.{StanzaText}
-use Rattle.relation.specs.Found.{found_in}
+use Rattle.relation.specs.PkgFields.{fields_of}
 use Rattle.relation.specs.Refusal.{fault_of}
 use Rattle.relation.specs.Spelling.{atoms_between, clauses_of, provided_items_of}
 use Rattle.relation.specs.declared.cut.Separator.TheVariants.{Comma}
@@ -19,7 +19,7 @@ use Rattle.relation.specs.declared.error.PkgFault.TheVariants.{MissingField, Bad
 use Rattle.relation.specs.declared.error.RelationFault.{RelationFault}
 use Rattle.relation.specs.declared.error.RelationFault.TheVariants as relation
 use Rattle.relation.specs.declared.error.RequiredField.TheVariants as required
-use Rattle.relation.specs.declared.found.Found.{Found}
+use Rattle.relation.specs.declared.fields.PkgFields.{PkgFields}
 use Rattle.relation.specs.declared.shape.Form.{Form}
 use Rattle.relation.specs.declared.shape.Form.TheVariants.{Clauses, Atoms, Provides}
 
@@ -63,62 +63,56 @@ abbrev pub relation_fault_in : Form → Option FieldText → Option PkgFault
 relation_fault_in form field = option_and_then (relation_fault form) field
 
 -- the first refusal of the relation fields, in this order
-unfoldable pub relations_fault : Found → Option PkgFault
-relations_fault found =
-    option_or (relation_fault_in Clauses found.pre_depends)
-    (option_or (relation_fault_in Clauses found.depends)
-    (option_or (relation_fault_in Atoms found.conflicts)
-    (option_or (relation_fault_in Atoms found.breaks)
-    (relation_fault_in Provides found.provides))))
+unfoldable pub relations_fault : PkgFields → Option PkgFault
+relations_fault fields =
+    option_or (relation_fault_in Clauses fields.pre_depends)
+    (option_or (relation_fault_in Clauses fields.depends)
+    (option_or (relation_fault_in Atoms fields.conflicts)
+    (option_or (relation_fault_in Atoms fields.breaks)
+    (relation_fault_in Provides fields.provides))))
 
 -- the relations that the fields spell
-abbrev pub relations_of : List ℕ → Found → Relations
-relations_of arch found = record {
-  pre_depends = clauses_of arch (value_in found.pre_depends);
-  depends = clauses_of arch (value_in found.depends);
-  conflicts = atoms_between Comma arch (value_in found.conflicts);
-  breaks = atoms_between Comma arch (value_in found.breaks);
-  provides = provided_items_of arch (value_in found.provides);
+abbrev pub relations_of : List ℕ → PkgFields → Relations
+relations_of arch fields = record {
+  pre_depends = clauses_of arch (value_in fields.pre_depends);
+  depends = clauses_of arch (value_in fields.depends);
+  conflicts = atoms_between Comma arch (value_in fields.conflicts);
+  breaks = atoms_between Comma arch (value_in fields.breaks);
+  provides = provided_items_of arch (value_in fields.provides);
 }
 
 -- the package that the fields spell
-abbrev pub pkg_of : List ℕ → Found → Pkg
-pkg_of arch found = record {
-  name = value_in found.name;
-  version = value_in found.version;
-  relations = relations_of arch found;
+abbrev pub pkg_of : List ℕ → PkgFields → Pkg
+pkg_of arch fields = record {
+  name = value_in fields.name;
+  version = value_in fields.version;
+  relations = relations_of arch fields;
 }
 
--- the first refusal of the fields of a stanza that begins on this line: of Package, then Version, then the relations
-abbrev pub fields_fault : ℕ → Found → Option PkgFault
-fields_fault line found =
-    option_or (name_fault_in line found.name)
-    (option_or (version_fault_in line found.version) (relations_fault found))
+-- the refusal of the name that the fields give
+abbrev pub pkg_name_fault : PkgFields → Option PkgFault
+pkg_name_fault fields = name_fault_in fields.line fields.name
 
--- the refusal of a stanza's name
-abbrev pub stanza_name_fault : StanzaText → Option PkgFault
-stanza_name_fault stanza = name_fault_in stanza.line (found_in stanza.fields).name
+-- the refusal of the version that the fields give
+abbrev pub pkg_version_fault : PkgFields → Option PkgFault
+pkg_version_fault fields = version_fault_in fields.line fields.version
 
--- the refusal of a stanza's version
-abbrev pub stanza_version_fault : StanzaText → Option PkgFault
-stanza_version_fault stanza = version_fault_in stanza.line (found_in stanza.fields).version
-
--- the first refusal of a stanza's relations
-abbrev pub stanza_relations_fault : StanzaText → Option PkgFault
-stanza_relations_fault stanza = relations_fault (found_in stanza.fields)
-
--- the first refusal of a stanza as a package
-unfoldable pub stanza_fault : StanzaText → Option PkgFault
-stanza_fault stanza = fields_fault stanza.line (found_in stanza.fields)
+-- the first refusal of the fields: of Package, then Version, then the relations
+abbrev pub pkg_fault : PkgFields → Option PkgFault
+pkg_fault fields = option_or (pkg_name_fault fields) (option_or (pkg_version_fault fields) (relations_fault fields))
 
 -- what the fields spell, unless they are refused
 abbrev pub unless_fault : {A : Type 0} → Option PkgFault → A → Result A PkgFault
 unless_fault None read = Ok read
 unless_fault (Some fault) read = Err fault
 
+-- the relations of the fields, or their first refusal
+abbrev pub read_relations : List ℕ → PkgFields → Result Relations PkgFault
+read_relations arch fields = unless_fault (relations_fault fields) (relations_of arch fields)
+
 -- the package of a stanza, or its first refusal
 abbrev pub read_pkg : List ℕ → StanzaText → Result Pkg PkgFault
-read_pkg arch stanza = unless_fault (stanza_fault stanza) (pkg_of arch (found_in stanza.fields))
+read_pkg arch stanza = unless_fault (pkg_fault (fields_of stanza)) (pkg_of arch (fields_of stanza))
 
 -- a refusal as an error
 abbrev pub pkg_error_of : PkgFault → PkgError

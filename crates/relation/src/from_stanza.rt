@@ -4,17 +4,22 @@ ghost use Rattle.std.specs.List.{list_all};
 ghost use Rattle.rules.specs.Name.{is_name, is_name_byte};
 ghost use Rattle.stanza.specs.Field.{same_name};
 ghost use Rattle.relation.specs.PkgText as Spec;
-ghost use Rattle.relation.specs.PkgText.{relations_fault, value_in};
+ghost use Rattle.relation.specs.PkgText.{IsPkgFault, read_pkg, read_relations, relations_fault, value_in};
+ghost use Rattle.relation.specs.Spelling.{atoms_between, clauses_of, provided_items_of};
+ghost use Rattle.relation.specs.declared.cut.Separator.TheVariants.{Comma};
+ghost use Rattle.relation.specs.declared.shape.Form.TheVariants.{Atoms, Clauses, Provides};
 
-use crate::cut::name_len;
+use crate::atom::{Atom, Clause, Provided};
+use crate::cut::{Separator, name_len};
 use crate::error::{PkgError, PkgFault, RelationFault, RequiredField};
-use crate::found::{Found, found_in};
+use crate::fields::PkgFields;
 use crate::parse::{atoms_between, clauses_of, provided_items_of};
+use crate::pkg::{Pkg, Relations};
 use crate::refusal::check;
 use crate::shape::{Form, is_name_byte};
 use debversion::Version;
 use stanza::{Field, Stanza};
-use std::alloc::Global;
+use std::alloc::{AllocError, Global};
 
 // How many bytes of the text go on as a name does.
 fn name_front(text: &[u8]) -> usize
@@ -103,13 +108,111 @@ fn check_field(form: Form, field: &Option<Field<'_>>) -> Result<(), PkgFault>
     }
 }
 
-#[tactic(auto, unfolding(crate::specs::PkgText::relations_fault))]
-fn check_found(found: &Found<'_>) -> Result<(), PkgFault>
-    ensures { MatchResult result (λ _. relations_fault found.now ≡ None) (λ fault. relations_fault found.now ≡ Some fault) }
+// The clauses of a field that isn't refused.
+fn clauses_in<'a>(
+    alloc: Global,
+    field: &Option<Field<'a>>,
+    arch: &[u8],
+) -> Result<Vec<Clause<'a>>, AllocError>
+    requires { Spec.relation_fault_in Clauses field.now ≡ None }
+    ensures { IfOk result (λ clauses. clauses.items ≡ clauses_of arch.now (value_in field.now)) }
 {
-    check_field(Form::Clauses, &found.pre_depends)?;
-    check_field(Form::Clauses, &found.depends)?;
-    check_field(Form::Atoms, &found.conflicts)?;
-    check_field(Form::Atoms, &found.breaks)?;
-    check_field(Form::Provides, &found.provides)
+    match field {
+        None => Ok(Vec::new(alloc)),
+        Some(field) => clauses_of(alloc, field.value(), arch),
+    }
+}
+
+// The atoms of a field that isn't refused.
+fn atoms_in<'a>(
+    alloc: Global,
+    field: &Option<Field<'a>>,
+    arch: &[u8],
+) -> Result<Vec<Atom<'a>>, AllocError>
+    requires { Spec.relation_fault_in Atoms field.now ≡ None }
+    ensures { IfOk result (λ atoms. atoms.items ≡ atoms_between Comma arch.now (value_in field.now)) }
+{
+    match field {
+        None => Ok(Vec::new(alloc)),
+        Some(field) => atoms_between(alloc, Separator::Comma, field.value(), arch),
+    }
+}
+
+// The items of a field that isn't refused.
+fn provided_items_in<'a>(
+    alloc: Global,
+    field: &Option<Field<'a>>,
+    arch: &[u8],
+) -> Result<Vec<Provided<'a>>, AllocError>
+    requires { Spec.relation_fault_in Provides field.now ≡ None }
+    ensures { IfOk result (λ items. items.items ≡ provided_items_of arch.now (value_in field.now)) }
+{
+    match field {
+        None => Ok(Vec::new(alloc)),
+        Some(field) => provided_items_of(alloc, field.value(), arch),
+    }
+}
+
+impl<'a> PkgFields<'a> {
+    /// The name of the package, which Package has to give (Policy 5.6.1).
+    pub fn name(&self) -> Result<&'a [u8], PkgFault>
+        ensures read { MatchResult result
+            (λ name. (Spec.pkg_name_fault self.now ≡ None) × (name.now ≡ value_in self.now.name))
+            (λ fault. Spec.pkg_name_fault self.now ≡ Some fault) }
+    {
+        name_in(self.line, &self.name)
+    }
+
+    /// The version of the package, which Version has to give (Policy 5.6.12).
+    pub fn version(&self) -> Result<Version<'a>, PkgFault>
+        ensures { MatchResult result
+            (λ version. (Spec.pkg_version_fault self.now ≡ None) × (version ≡ value_in self.now.version))
+            (λ fault. Spec.pkg_version_fault self.now ≡ Some fault) }
+    {
+        version_in(self.line, &self.version)
+    }
+
+    /// Tests the relation fields in the order Pre-Depends, Depends, Conflicts, Breaks, Provides, and takes no
+    /// memory. Linear in their values.
+    #[tactic(auto, unfolding(crate::specs::PkgText::relations_fault))]
+    pub fn check_relations(&self) -> Result<(), PkgFault>
+        ensures { MatchResult result (λ _. relations_fault self.now ≡ None) (λ fault. relations_fault self.now ≡ Some fault) }
+    {
+        check_field(Form::Clauses, &self.pre_depends)?;
+        check_field(Form::Clauses, &self.depends)?;
+        check_field(Form::Atoms, &self.conflicts)?;
+        check_field(Form::Atoms, &self.breaks)?;
+        check_field(Form::Provides, &self.provides)
+    }
+
+    /// The relations of the package, for the configured architecture `arch`; a field that isn't there has none.
+    pub fn relations(&self, alloc: Global, arch: &[u8]) -> Result<Relations<'a>, PkgError>
+        ensures ok { IfOk result (λ relations. read_relations arch.now self.now ≡ Ok relations) }
+        ensures err { IfErr result (λ e. IsPkgFault e (read_relations arch.now self.now)) }
+    {
+        self.check_relations()?;
+        Ok(Relations::new(
+            clauses_in(alloc, &self.pre_depends, arch)?,
+            clauses_in(alloc, &self.depends, arch)?,
+            atoms_in(alloc, &self.conflicts, arch)?,
+            atoms_in(alloc, &self.breaks, arch)?,
+            provided_items_in(alloc, &self.provides, arch)?,
+        ))
+    }
+}
+
+impl<'a> Pkg<'a> {
+    /// The package of a stanza, for the configured architecture `arch`. The first refusal is that of Package,
+    /// then of Version, then of the relation fields; Architecture isn't looked at. The package borrows the
+    /// stanza's text. Linear in the stanza.
+    pub fn from_stanza(alloc: Global, stanza: &Stanza<'a>, arch: &[u8]) -> Result<Pkg<'a>, PkgError>
+        ensures ok { IfOk result (λ pkg. read_pkg arch.now stanza.now ≡ Ok pkg) }
+        ensures err { IfErr result (λ e. IsPkgFault e (read_pkg arch.now stanza.now)) }
+    {
+        let fields = PkgFields::in_stanza(stanza);
+        let name = fields.name()?;
+        let version = fields.version()?;
+        let relations = fields.relations(alloc, arch)?;
+        Ok(Pkg::new(name, version, relations))
+    }
 }

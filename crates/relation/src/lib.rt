@@ -6,7 +6,7 @@
 mod atom;
 mod cut;
 mod error;
-mod found;
+mod fields;
 mod from_stanza;
 mod matching;
 mod parse;
@@ -16,6 +16,7 @@ mod shape;
 
 pub use atom::{Atom, Clause, Provided};
 pub use error::{PkgError, PkgFault, RelationError, RelationFault, RequiredField};
+pub use fields::PkgFields;
 pub use parse::{parse_atoms, parse_clauses, parse_provides};
 pub use pkg::{Pkg, Relations};
 pub use refusal::check;

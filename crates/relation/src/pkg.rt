@@ -48,6 +48,31 @@ impl<'a> Model for Relations<'a> {
 }
 
 impl<'a> Relations<'a> {
+    /// The relations of these fields.
+    pub fn new(
+        pre_depends: Vec<Clause<'a>>,
+        depends: Vec<Clause<'a>>,
+        conflicts: Vec<Atom<'a>>,
+        breaks: Vec<Atom<'a>>,
+        provides: Vec<Provided<'a>>,
+    ) -> Relations<'a>
+        ensures { result ≡ record {
+          pre_depends = pre_depends.entry.items;
+          depends = depends.entry.items;
+          conflicts = conflicts.entry.items;
+          breaks = breaks.entry.items;
+          provides = provides.entry.items;
+        } }
+    {
+        Relations {
+            pre_depends,
+            depends,
+            conflicts,
+            breaks,
+            provides,
+        }
+    }
+
     /// The clauses of Pre-Depends.
     pub fn pre_depends(&self) -> &[Clause<'a>]
         ensures { result.now ≡ self.now.pre_depends }
@@ -85,6 +110,17 @@ impl<'a> Relations<'a> {
 }
 
 impl<'a> Pkg<'a> {
+    /// The package of this name, version and relations.
+    pub fn new(name: &'a [u8], version: Version<'a>, relations: Relations<'a>) -> Pkg<'a>
+        ensures { result ≡ record { name = name.now; version = version.entry; relations = relations.entry } }
+    {
+        Pkg {
+            name,
+            version,
+            relations,
+        }
+    }
+
     /// The name.
     pub fn name(&self) -> &'a [u8]
         ensures { result.now ≡ self.now.name }

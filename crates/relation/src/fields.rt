@@ -1,20 +1,22 @@
 //! The fields of a package, found in one walk over its stanza.
 ghost use Rattle.std.specs.Prelude.{◌≡◌};
 ghost use Rattle.stanza.specs.Field.{same_name};
-ghost use Rattle.relation.specs.Found.{first_named, found_in, found_with};
+ghost use Rattle.relation.specs.PkgFields.{fields_in, fields_of, first_named, with_field};
 
 use stanza::{Field, Stanza};
 
-/// The first field of each name that a package is read from.
+/// The fields that a package is read from, the first of each name, and the line on which their stanza begins.
+/// A reader takes them once, and tests them in its own order.
 #[derive(Drop)]
-pub struct Found<'a> {
-    pub name: Option<Field<'a>>,
-    pub version: Option<Field<'a>>,
-    pub pre_depends: Option<Field<'a>>,
-    pub depends: Option<Field<'a>>,
-    pub conflicts: Option<Field<'a>>,
-    pub breaks: Option<Field<'a>>,
-    pub provides: Option<Field<'a>>,
+pub struct PkgFields<'a> {
+    pub(crate) line: usize,
+    pub(crate) name: Option<Field<'a>>,
+    pub(crate) version: Option<Field<'a>>,
+    pub(crate) pre_depends: Option<Field<'a>>,
+    pub(crate) depends: Option<Field<'a>>,
+    pub(crate) conflicts: Option<Field<'a>>,
+    pub(crate) breaks: Option<Field<'a>>,
+    pub(crate) provides: Option<Field<'a>>,
 }
 
 fn same_name(name: &[u8], other: &[u8]) -> bool
@@ -39,11 +41,12 @@ fn first_named<'a>(name: &[u8], found: Option<Field<'a>>, field: &Field<'a>) -> 
     }
 }
 
-// What was found, with one more field.
-fn found_with<'a>(found: Found<'a>, field: &Field<'a>) -> Found<'a>
-    ensures { result ≡ found_with found.entry field.now }
+// These, and one more field.
+fn with_field<'a>(found: PkgFields<'a>, field: &Field<'a>) -> PkgFields<'a>
+    ensures { result ≡ with_field found.entry field.now }
 {
-    Found {
+    PkgFields {
+        line: found.line,
         name: first_named(b"Package", found.name, field),
         version: first_named(b"Version", found.version, field),
         pre_depends: first_named(b"Pre-Depends", found.pre_depends, field),
@@ -54,11 +57,12 @@ fn found_with<'a>(found: Found<'a>, field: &Field<'a>) -> Found<'a>
     }
 }
 
-/// The fields of a package in its stanza. One walk over the stanza's lines.
-pub fn found_in<'a>(stanza: &Stanza<'a>) -> Found<'a>
-    ensures { result ≡ found_in stanza.now.fields }
+// One walk over the stanza's lines.
+fn fields_in<'a>(stanza: &Stanza<'a>) -> PkgFields<'a>
+    ensures { result ≡ fields_in stanza.now.line stanza.now.fields }
 {
-    let mut found = Found {
+    let mut found = PkgFields {
+        line: stanza.line(),
         name: None,
         version: None,
         pre_depends: None,
@@ -68,7 +72,16 @@ pub fn found_in<'a>(stanza: &Stanza<'a>) -> Found<'a>
         provides: None,
     };
     for field in stanza.fields() {
-        found = found_with(found, &field);
+        found = with_field(found, &field);
     }
     found
+}
+
+impl<'a> PkgFields<'a> {
+    /// The fields of a package in its stanza. One walk over the stanza's lines.
+    pub fn in_stanza(stanza: &Stanza<'a>) -> PkgFields<'a>
+        ensures { result ≡ fields_of stanza.now }
+    {
+        fields_in(stanza)
+    }
 }

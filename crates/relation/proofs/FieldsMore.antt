@@ -1,9 +1,9 @@
--- What is found among some fields and one more is what was found before, or else that one.
+-- The fields of a package among some and one more are those among the first, or else that one.
 use Rattle.std.proofs.Common.{◌≡◌, ℕ, Bool, true, false, cond, List, [], ◌∷◌, ◌++◌, Option, Some, None, refl, sym, ap, ◌∙◌}
 use Rattle.std.specs.List.{find}
 use Rattle.std.specs.Option.{option_or}
 use Rattle.stanza.specs.Field.{FieldText, same_name}
-use Rattle.relation.specs.Found.{field_named, first_named, found_in, found_with}
+use Rattle.relation.specs.PkgFields.{field_named, fields_in, first_named, with_field}
 
 choice : {A : Type 0} (test : Bool) (x : A) (found later : Option A) → cond test (Some x) (option_or found later) ≡ option_or (cond test (Some x) found) later
 choice true x found later = refl
@@ -17,5 +17,5 @@ find_more test (y ∷ xs) x =
 pub field_named_more : (name : List ℕ) (fields : List FieldText) (field : FieldText) → field_named name (fields ++ field ∷ []) ≡ first_named name (field_named name fields) field
 field_named_more name fields field = find_more (λ field. same_name field.name name) fields field
 
-pub found_more : (fields : List FieldText) (field : FieldText) → found_in (fields ++ field ∷ []) ≡ found_with (found_in fields) field
-found_more fields field = simp field_named_more
+pub fields_more : (line : ℕ) (fields : List FieldText) (field : FieldText) → fields_in line (fields ++ field ∷ []) ≡ with_field (fields_in line fields) field
+fields_more line fields field = simp field_named_more

@@ -3,7 +3,8 @@ use Rattle.std.specs.Prelude.{◌≡◌, ℕ, List, Option, Some, None, codes, i
 use Rattle.std.specs.List.{find}
 use Rattle.std.specs.Option.{option_or}
 use Rattle.stanza.specs.Field.{FieldText, same_name}
-use Rattle.relation.specs.declared.found.Found.{Found}
+use Rattle.stanza.specs.Stanza.{StanzaText}
+use Rattle.relation.specs.declared.fields.PkgFields.{PkgFields}
 
 -- the first field of this name, whatever the case of its letters
 abbrev pub field_named : List ℕ → List FieldText → Option FieldText
@@ -17,9 +18,10 @@ if_named name field = if same_name field.name name then Some field else None
 abbrev pub first_named : List ℕ → Option FieldText → FieldText → Option FieldText
 first_named name found field = option_or found (if_named name field)
 
--- what was found among these fields
-abbrev pub found_in : List FieldText → Found
-found_in fields = record {
+-- the fields of a package among these, of a stanza that begins on this line
+abbrev pub fields_in : ℕ → List FieldText → PkgFields
+fields_in line fields = record {
+  line = line;
   name = field_named (codes "Package") fields;
   version = field_named (codes "Version") fields;
   pre_depends = field_named (codes "Pre-Depends") fields;
@@ -29,9 +31,10 @@ found_in fields = record {
   provides = field_named (codes "Provides") fields;
 }
 
--- what was found, with one more field
-abbrev pub found_with : Found → FieldText → Found
-found_with found field = record {
+-- these, and one more field
+abbrev pub with_field : PkgFields → FieldText → PkgFields
+with_field found field = record {
+  line = found.line;
   name = first_named (codes "Package") found.name field;
   version = first_named (codes "Version") found.version field;
   pre_depends = first_named (codes "Pre-Depends") found.pre_depends field;
@@ -40,3 +43,7 @@ found_with found field = record {
   breaks = first_named (codes "Breaks") found.breaks field;
   provides = first_named (codes "Provides") found.provides field;
 }
+
+-- the fields of a package in a stanza
+abbrev pub fields_of : StanzaText → PkgFields
+fields_of stanza = fields_in stanza.line stanza.fields
