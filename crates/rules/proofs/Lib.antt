@@ -13,3 +13,5 @@ pub mod QuietLemmas
 pub mod Rows
 pub mod RunLemmas
 pub mod StepRows
+pub mod VersionRows
+pub mod WordRows

@@ -20,3 +20,8 @@ pub mod Step
 pub mod Universe
 pub mod Unpack
 pub mod Version
+pub mod VersionFrontLaws
+pub mod VersionLaws
+pub mod VersionOrderLaws
+pub mod VersionPieceLaws
+pub mod VersionSharedLaws

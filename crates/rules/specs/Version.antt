@@ -26,23 +26,37 @@ epoch_of version = if list_any is_colon version then before_first is_colon versi
 abbrev pub after_epoch : List ℕ → List ℕ
 after_epoch version = if list_any is_colon version then after_first is_colon version else version
 
--- the upstream version: what precedes the last hyphen, or all where there is none
-abbrev pub upstream_of : List ℕ → List ℕ
-upstream_of version =
-    if list_any is_hyphen (after_epoch version) then before_last is_hyphen (after_epoch version) else after_epoch version
+-- what precedes the last hyphen, or all where there is none
+abbrev pub before_revision : List ℕ → List ℕ
+before_revision rest = if list_any is_hyphen rest then before_last is_hyphen rest else rest
 
--- the revision: what follows the last hyphen, or nothing where there is none
+-- what follows the last hyphen, or nothing where there is none
+abbrev pub after_upstream : List ℕ → List ℕ
+after_upstream rest = if list_any is_hyphen rest then after_last is_hyphen rest else []
+
+-- the upstream version: of what follows the epoch, what precedes the last hyphen
+abbrev pub upstream_of : List ℕ → List ℕ
+upstream_of version = before_revision (after_epoch version)
+
+-- the revision: of what follows the epoch, what follows the last hyphen
 abbrev pub revision_of : List ℕ → List ℕ
-revision_of version =
-    if list_any is_hyphen (after_epoch version) then after_last is_hyphen (after_epoch version) else []
+revision_of version = after_upstream (after_epoch version)
+
+-- a tilde
+abbrev pub is_tilde : ℕ → Bool
+is_tilde b = b == 126
+
+-- the weight of the end of a word
+abbrev pub end_weight : ℕ
+end_weight = 1
 
 -- the weight of a byte: a tilde below the end of the word, letters above it, and all other bytes above the letters
 abbrev pub weight_of : ℕ → ℕ
-weight_of b = if b == 126 then 0 else if is_ascii_alphabetic b then 2 + b else 258 + b
+weight_of b = if is_tilde b then 0 else if is_ascii_alphabetic b then 2 + b else 258 + b
 
 -- a word as its weights, the end included
 abbrev pub weights_of : List ℕ → List ℕ
-weights_of word = map weight_of word ++ 1 ∷ []
+weights_of word = map weight_of word ++ end_weight ∷ []
 
 -- a word without digits and the number that follows it, as its digits
 pub record Piece : Type 0 where
@@ -75,6 +89,7 @@ pieces_of [] = []
 pieces_of (b ∷ rest) = if is_ascii_digit b then onto_number b (pieces_of rest) else onto_word b (pieces_of rest)
 
 -- the order of two words: at the first weight that differs
+-- ascending: `~~`, `~~a`, `~`, the empty word, `a` (proofs/WordRows.antt)
 abbrev pub word_cmp : List ℕ → List ℕ → Ordering
 word_cmp = on weights_of (slice_cmp nat_cmp)
 

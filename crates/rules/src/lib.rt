@@ -11,6 +11,7 @@ mod release;
 mod status;
 mod step;
 mod text;
+mod version_order;
 mod version_text;
 
 pub use goal::{Goal, Restriction};
@@ -25,4 +26,8 @@ pub use release::{Pin, PinnedNames, Preference, Release, ReleaseItem, ReleaseKey
 pub use status::{Flag, State, Want};
 pub use step::{Reason, Rule, Step};
 pub use text::{Items, Text};
+pub use version_order::{
+    first_difference_decides, pieces_are_fronts, same_version_is_equivalence,
+    same_versions_compare_alike, version_order_is_total,
+};
 pub use version_text::VersionText;

@@ -1,0 +1,26 @@
+use Rattle.std.proofs.Common.{◌≡◌, ◌+◌, ◌-◌, ◌<◌, ◌≤◌, arith, get_or, length, take, true, rules}
+use Rattle.std.proofs.lemmas.Int.Digits.{digits_value_more}
+use Rattle.std.proofs.lemmas.Str.Parse.{digits_value-take-le}
+use Rattle.std.specs.Char.{digit_value}
+use Rattle.std.specs.Str.Parse.{digits_value}
+use Rattle.debversion.proofs.DigitValues.{digit_value-digit}
+use Rattle.debversion.proofs.parse.bounded_value.Goals as goal
+
+pub returns-then-value-gt-GREATEST_EPOCH : goal.returns-then-value-gt-GREATEST_EPOCH
+returns-then-value-gt-GREATEST_EPOCH c =
+    let more = digits_value_more 10 c.args.digits.now c.loop-digit.digit-index c.loop-digit-test.true in
+    let digit = digit_value-digit (get_or c.args.digits.now c.loop-digit.digit-index 0) (c.requires c.loop-digit.digit-index 0 c.loop-digit-test.true) in
+    let part = digits_value-take-le 10 c.args.digits.now (c.loop-digit.digit-index + 1) (omega arith) in
+    let so_far = c.loop-digit.invariant.0 in
+    let read = c.from.ensures in
+    let above = c.if-value-gt-GREATEST_EPOCH.true in
+    omega arith
+
+pub loop-digit-preserved : goal.loop-digit-preserved
+loop-digit-preserved c =
+    let more = digits_value_more 10 c.args.digits.now c.loop-digit.digit-index c.loop-digit-test.true in
+    let digit = digit_value-digit (get_or c.args.digits.now c.loop-digit.digit-index 0) (c.requires c.loop-digit.digit-index 0 c.loop-digit-test.true) in
+    let so_far = c.loop-digit.invariant.0 in
+    let read = c.from.ensures in
+    let within = c.if-value-gt-GREATEST_EPOCH.false in
+    (omega arith, omega arith)

@@ -1,0 +1,4 @@
+pub mod Fault
+pub mod Parts
+pub mod Weight
+pub mod Zeros

@@ -1,0 +1,13 @@
+// Versions of Debian packages: reading, comparing and hashing them (Policy 5.6.12, deb-version(7)).
+// It stands on `rules`, which defines the order. The main type is `Version`, read by `Version::parse`;
+// it borrows its text, and nothing here takes memory.
+#![tactic(auto)]
+
+mod compare;
+mod error;
+mod parse;
+mod version;
+
+pub use error::BadVersion;
+pub use rules::Op;
+pub use version::Version;

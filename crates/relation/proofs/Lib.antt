@@ -1,0 +1,6 @@
+pub mod ShapeLemmas
+pub mod Parts
+pub mod SplitTwice
+pub mod GoodVersions
+pub mod FieldsMore
+pub mod GoodFields

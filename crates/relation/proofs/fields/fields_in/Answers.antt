@@ -1,0 +1,9 @@
+use Rattle.std.proofs.Common.{◌≡◌, sym, ap, ◌∙◌}
+use Rattle.relation.specs.PkgFields.{fields_in, with_field}
+use Rattle.relation.proofs.FieldsMore.{fields_more}
+use Rattle.relation.proofs.fields.fields_in.Goals as goal
+
+pub loop-field-preserved : goal.loop-field-preserved
+loop-field-preserved c =
+    c.with_field-found.ensures ∙ ap (λ found. with_field found c.in-Some.field) c.loop-field.invariant
+    ∙ sym (fields_more c.args.stanza.now.line c.loop-field.yielded c.in-Some.field)

@@ -1,0 +1,6 @@
+use Rattle.relation.specs.declared.shape.Form.TheVariants.{Clauses}
+use Rattle.relation.proofs.GoodVersions.{good_unless_refused}
+use Rattle.relation.proofs.parse.parse_clauses.Goals as goal
+
+pub clauses_of-requires : goal.clauses_of-requires
+clauses_of-requires c = good_unless_refused Clauses c.args.value.now c.in_ok-check.ensures

@@ -1,0 +1,218 @@
+//! The fields of a package in its stanza: their tests, and the package that they spell.
+ghost use Rattle.std.specs.Prelude.{◌≡◌, IfErr, IfOk, IsTrue, MatchOption, MatchResult, None, Ok, Some, codes};
+ghost use Rattle.std.specs.List.{list_all};
+ghost use Rattle.rules.specs.Name.{is_name, is_name_byte};
+ghost use Rattle.stanza.specs.Field.{same_name};
+ghost use Rattle.relation.specs.PkgText as Spec;
+ghost use Rattle.relation.specs.PkgText.{IsPkgFault, read_pkg, read_relations, relations_fault, value_in};
+ghost use Rattle.relation.specs.Spelling.{atoms_between, clauses_of, provided_items_of};
+ghost use Rattle.relation.specs.declared.cut.Separator.TheVariants.{Comma};
+ghost use Rattle.relation.specs.declared.shape.Form.TheVariants.{Atoms, Clauses, Provides};
+
+use crate::atom::{Atom, Clause, Provided};
+use crate::cut::{Separator, name_len};
+use crate::error::{PkgError, PkgFault, RelationFault, RequiredField};
+use crate::fields::PkgFields;
+use crate::parse::{atoms_between, clauses_of, provided_items_of};
+use crate::pkg::{Pkg, Relations};
+use crate::refusal::check;
+use crate::shape::{Form, is_name_byte};
+use debversion::Version;
+use stanza::{Field, Stanza};
+use std::alloc::{AllocError, Global};
+
+// How many bytes of the text go on as a name does.
+fn name_front(text: &[u8]) -> usize
+    ensures { result ≡ Spec.name_front text.now }
+{
+    match text {
+        [first, rest @ ..] if first.is_ascii_alphanumeric() => 1 + name_len(rest),
+        _ => 0,
+    }
+}
+
+fn has_name_bytes(text: &[u8]) -> bool
+    ensures { result ≡ list_all is_name_byte text.now }
+{
+    text.iter().all(|byte| is_name_byte(*byte))
+}
+
+fn is_name(text: &[u8]) -> bool
+    ensures { result ≡ is_name text.now }
+{
+    match text {
+        [first, rest @ ..] => first.is_ascii_alphanumeric() && has_name_bytes(rest),
+        [] => false,
+    }
+}
+
+fn name_fault(field: &Field<'_>) -> Option<PkgFault>
+    ensures { result ≡ Spec.name_fault field.now }
+{
+    if is_name(field.value()) {
+        None
+    } else {
+        Some(PkgFault::BadName(field.line(), name_front(field.value())))
+    }
+}
+
+// The name in the field Package of a stanza that begins on this line.
+fn name_in<'a>(line: usize, field: &Option<Field<'a>>) -> Result<&'a [u8], PkgFault>
+    ensures { MatchResult result
+        (λ name. (Spec.name_fault_in line field.now ≡ None) × (name.now ≡ value_in field.now))
+        (λ fault. Spec.name_fault_in line field.now ≡ Some fault) }
+{
+    match field {
+        None => Err(PkgFault::MissingField(line, RequiredField::Package)),
+        Some(field) => match name_fault(field) {
+            None => Ok(field.value()),
+            Some(fault) => Err(fault),
+        },
+    }
+}
+
+// The version in the field Version of a stanza that begins on this line.
+fn version_in<'a>(line: usize, field: &Option<Field<'a>>) -> Result<Version<'a>, PkgFault>
+    ensures { MatchResult result
+        (λ version. (Spec.version_fault_in line field.now ≡ None) × (version ≡ value_in field.now))
+        (λ fault. Spec.version_fault_in line field.now ≡ Some fault) }
+{
+    match field {
+        None => Err(PkgFault::MissingField(line, RequiredField::Version)),
+        Some(field) => match Version::parse(field.value()) {
+            Ok(version) => Ok(version),
+            Err(kind) => Err(PkgFault::BadVersion(field.line(), kind)),
+        },
+    }
+}
+
+fn on_line(line: usize, fault: RelationFault) -> PkgFault
+    ensures { result ≡ Spec.on_line line fault }
+{
+    match fault {
+        RelationFault::BadRelation(offset) => PkgFault::BadRelation(line, offset),
+        RelationFault::BadName(offset) => PkgFault::BadName(line, offset),
+        RelationFault::TooLarge => PkgFault::TooLarge,
+    }
+}
+
+fn check_field(form: Form, field: &Option<Field<'_>>) -> Result<(), PkgFault>
+    ensures { MatchResult result (λ _. Spec.relation_fault_in form field.now ≡ None) (λ fault. Spec.relation_fault_in form field.now ≡ Some fault) }
+{
+    match field {
+        None => Ok(()),
+        Some(field) => match check(form, field.value()) {
+            Ok(()) => Ok(()),
+            Err(fault) => Err(on_line(field.line(), fault)),
+        },
+    }
+}
+
+// The clauses of a field that isn't refused.
+fn clauses_in<'a>(
+    alloc: Global,
+    field: &Option<Field<'a>>,
+    arch: &[u8],
+) -> Result<Vec<Clause<'a>>, AllocError>
+    requires { Spec.relation_fault_in Clauses field.now ≡ None }
+    ensures { IfOk result (λ clauses. clauses.items ≡ clauses_of arch.now (value_in field.now)) }
+{
+    match field {
+        None => Ok(Vec::new(alloc)),
+        Some(field) => clauses_of(alloc, field.value(), arch),
+    }
+}
+
+// The atoms of a field that isn't refused.
+fn atoms_in<'a>(
+    alloc: Global,
+    field: &Option<Field<'a>>,
+    arch: &[u8],
+) -> Result<Vec<Atom<'a>>, AllocError>
+    requires { Spec.relation_fault_in Atoms field.now ≡ None }
+    ensures { IfOk result (λ atoms. atoms.items ≡ atoms_between Comma arch.now (value_in field.now)) }
+{
+    match field {
+        None => Ok(Vec::new(alloc)),
+        Some(field) => atoms_between(alloc, Separator::Comma, field.value(), arch),
+    }
+}
+
+// The items of a field that isn't refused.
+fn provided_items_in<'a>(
+    alloc: Global,
+    field: &Option<Field<'a>>,
+    arch: &[u8],
+) -> Result<Vec<Provided<'a>>, AllocError>
+    requires { Spec.relation_fault_in Provides field.now ≡ None }
+    ensures { IfOk result (λ items. items.items ≡ provided_items_of arch.now (value_in field.now)) }
+{
+    match field {
+        None => Ok(Vec::new(alloc)),
+        Some(field) => provided_items_of(alloc, field.value(), arch),
+    }
+}
+
+impl<'a> PkgFields<'a> {
+    /// The name of the package, which Package has to give (Policy 5.6.1).
+    pub fn name(&self) -> Result<&'a [u8], PkgFault>
+        ensures read { MatchResult result
+            (λ name. (Spec.pkg_name_fault self.now ≡ None) × (name.now ≡ value_in self.now.name))
+            (λ fault. Spec.pkg_name_fault self.now ≡ Some fault) }
+    {
+        name_in(self.line, &self.name)
+    }
+
+    /// The version of the package, which Version has to give (Policy 5.6.12).
+    pub fn version(&self) -> Result<Version<'a>, PkgFault>
+        ensures { MatchResult result
+            (λ version. (Spec.pkg_version_fault self.now ≡ None) × (version ≡ value_in self.now.version))
+            (λ fault. Spec.pkg_version_fault self.now ≡ Some fault) }
+    {
+        version_in(self.line, &self.version)
+    }
+
+    /// Tests the relation fields in the order Pre-Depends, Depends, Conflicts, Breaks, Provides, and takes no
+    /// memory. Linear in their values.
+    #[tactic(auto, unfolding(crate::specs::PkgText::relations_fault))]
+    pub fn check_relations(&self) -> Result<(), PkgFault>
+        ensures { MatchResult result (λ _. relations_fault self.now ≡ None) (λ fault. relations_fault self.now ≡ Some fault) }
+    {
+        check_field(Form::Clauses, &self.pre_depends)?;
+        check_field(Form::Clauses, &self.depends)?;
+        check_field(Form::Atoms, &self.conflicts)?;
+        check_field(Form::Atoms, &self.breaks)?;
+        check_field(Form::Provides, &self.provides)
+    }
+
+    /// The relations of the package, for the configured architecture `arch`; a field that isn't there has none.
+    pub fn relations(&self, alloc: Global, arch: &[u8]) -> Result<Relations<'a>, PkgError>
+        ensures ok { IfOk result (λ relations. read_relations arch.now self.now ≡ Ok relations) }
+        ensures err { IfErr result (λ e. IsPkgFault e (read_relations arch.now self.now)) }
+    {
+        self.check_relations()?;
+        Ok(Relations::new(
+            clauses_in(alloc, &self.pre_depends, arch)?,
+            clauses_in(alloc, &self.depends, arch)?,
+            atoms_in(alloc, &self.conflicts, arch)?,
+            atoms_in(alloc, &self.breaks, arch)?,
+            provided_items_in(alloc, &self.provides, arch)?,
+        ))
+    }
+}
+
+impl<'a> Pkg<'a> {
+    /// The package of a stanza, for the configured architecture `arch`. The first refusal is that of Package,
+    /// then of Version, then of the relation fields; Architecture isn't looked at. The package borrows the
+    /// stanza's text. Linear in the stanza.
+    pub fn from_stanza(alloc: Global, stanza: &Stanza<'a>, arch: &[u8]) -> Result<Pkg<'a>, PkgError>
+        ensures ok { IfOk result (λ pkg. read_pkg arch.now stanza.now ≡ Ok pkg) }
+        ensures err { IfErr result (λ e. IsPkgFault e (read_pkg arch.now stanza.now)) }
+    {
+        let fields = PkgFields::in_stanza(stanza);
+        let name = fields.name()?;
+        let version = fields.version()?;
+        let relations = fields.relations(alloc, arch)?;
+        Ok(Pkg::new(name, version, relations))
+    }
+}

@@ -1,0 +1,23 @@
+//! Relation fields of packages (Debian Policy, chapter 7): their values, the packages that have them, and
+//! which package matches which atom. It stands on `rules`, which says what matches, on `stanza` and on
+//! `debversion`. `check` tests a value without taking memory, `parse_clauses` and its kin read it.
+#![tactic(auto)]
+
+mod atom;
+mod cut;
+mod error;
+mod fields;
+mod from_stanza;
+mod matching;
+mod parse;
+mod pkg;
+mod refusal;
+mod shape;
+
+pub use atom::{Atom, Clause, Provided};
+pub use error::{PkgError, PkgFault, RelationError, RelationFault, RequiredField};
+pub use fields::PkgFields;
+pub use parse::{parse_atoms, parse_clauses, parse_provides};
+pub use pkg::{Pkg, Relations};
+pub use refusal::check;
+pub use shape::{Form, every_other_place_has_a_completion, no_text_goes_on_from_the_dead_place};

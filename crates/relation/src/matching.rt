@@ -1,0 +1,69 @@
+//! Which package matches which atom (Policy 7.1, 7.5). Nothing here takes memory.
+ghost use Rattle.std.specs.Prelude.{◌≡◌, ◌↔◌, ℕ, IsTrue, List};
+ghost use Rattle.std.specs.List.{Any};
+ghost use Rattle.std.specs.Option.{option_map};
+ghost use Rattle.relation.specs.Value.{restriction_by};
+ghost use Rattle.rules.specs.Package.{FitsByName, FitsByProvides, FitsProvided, Matches, Meets, MeetsAsProvided};
+
+use crate::atom::{Atom, Provided};
+use crate::pkg::Pkg;
+use debversion::{Op, Version};
+
+fn is_same(text: &[u8], other: &[u8]) -> bool
+    ensures { IsTrue result ↔ (text.now ≡ other.now) }
+{
+    text == other
+}
+
+fn meets(version: &Version<'_>, restriction: &Option<(Op, Version<'_>)>) -> bool
+    ensures { IsTrue result ↔ Meets version.now (option_map restriction_by restriction.now) }
+{
+    match restriction {
+        None => true,
+        Some((op, other)) => version.satisfies(*op, other),
+    }
+}
+
+// What is provided without a version meets no restriction.
+fn meets_as_provided(version: &Option<Version<'_>>, restriction: &Option<(Op, Version<'_>)>) -> bool
+    ensures { IsTrue result ↔ MeetsAsProvided version.now (option_map restriction_by restriction.now) }
+{
+    match (version, restriction) {
+        (_, None) => true,
+        (None, Some(_)) => false,
+        (Some(version), Some((op, other))) => version.satisfies(*op, other),
+    }
+}
+
+impl<'a> Atom<'a> {
+    #[tactic(auto, unfolding(rules::specs::Package::FitsByName))]
+    fn fits_name(&self, pkg: &Pkg<'_>) -> bool
+        ensures { IsTrue result ↔ FitsByName pkg.now self.now }
+    {
+        is_same(pkg.name(), self.name()) && meets(pkg.version(), self.restriction())
+    }
+
+    #[tactic(auto, unfolding(rules::specs::Package::FitsProvided))]
+    fn fits_item(&self, item: &Provided<'_>) -> bool
+        ensures { IsTrue result ↔ FitsProvided item.now self.now }
+    {
+        !item.is_foreign()
+            && is_same(item.name(), self.name())
+            && meets_as_provided(item.version(), self.restriction())
+    }
+
+    fn fits_some(&self, items: &[Provided<'_>]) -> bool
+        ensures { IsTrue result ↔ Any (λ item. FitsProvided item self.now) items.now }
+    {
+        items.iter().any(|item| self.fits_item(item))
+    }
+
+    /// Whether the package matches the atom, by its own name and version or by what it provides. Linear in
+    /// the package's Provides items.
+    #[tactic(auto, unfolding(rules::specs::Package::Matches, rules::specs::Package::FitsByProvides))]
+    pub fn matched_by(&self, pkg: &Pkg<'_>) -> bool
+        ensures { IsTrue result ↔ Matches pkg.now self.now }
+    {
+        !self.is_foreign() && (self.fits_name(pkg) || self.fits_some(pkg.relations().provides()))
+    }
+}

@@ -1,0 +1,8 @@
+pub mod LineLemmas
+pub mod FieldLemmas
+pub mod FieldsLemmas
+pub mod NameLemmas
+pub mod FaultLemmas
+pub mod StanzaLemmas
+pub mod FrontLemmas
+pub mod CollectLemmas

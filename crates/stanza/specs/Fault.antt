@@ -1,0 +1,48 @@
+-- What is refused in control text, and at which line first (Debian Policy 5.1, "Syntax of control files").
+use Rattle.std.specs.Prelude.{ℕ, ◌+◌, Bool, false, ◌&&◌, not, List, [], ◌∷◌, ◌++◌, Option, None, Some, codes, if◌then◌else◌}
+use Rattle.std.specs.List.{list_any}
+use Rattle.stanza.specs.declared.error.StanzaError.{StanzaError}
+use Rattle.stanza.specs.declared.error.StanzaError.TheVariants.{BadLine, BadFieldName, DuplicateField}
+use Rattle.stanza.specs.Line.{is_comment, is_continuation}
+use Rattle.stanza.specs.Field.{is_colon, name_of, is_name, same_name, names_of}
+
+-- the last of these lines belongs to a field, which the next line may continue
+abbrev pub is_open : Bool → List (List ℕ) → Bool
+is_open commented [] = false
+is_open commented (line ∷ []) = not (is_comment commented line)
+is_open commented (line ∷ next ∷ lines) = is_open commented (next ∷ lines)
+
+-- in the form with comments a stanza may have several fields of this name
+abbrev pub may_repeat : Bool → List ℕ → Bool
+may_repeat commented name = commented && same_name name (codes "Explanation")
+
+-- one of the lines before has the name, which may stand but once
+abbrev pub is_repeated : Bool → List (List ℕ) → List ℕ → Bool
+is_repeated commented before name =
+    not (may_repeat commented name) && list_any (λ earlier. same_name earlier name) (names_of commented before)
+
+-- what is wrong with line n, which begins a field after these lines of its stanza
+abbrev pub field_fault : Bool → List (List ℕ) → ℕ → List ℕ → Option StanzaError
+field_fault commented before n line =
+    if not (list_any is_colon line) then Some (BadLine n)
+    else if not (is_name (name_of line)) then Some (BadFieldName n)
+    else if is_repeated commented before (name_of line) then Some (DuplicateField n)
+    else None
+
+-- what is wrong with line n, which stands after these lines of its stanza
+abbrev pub fault_of : Bool → List (List ℕ) → ℕ → List ℕ → Option StanzaError
+fault_of commented before n line =
+    if is_comment commented line then None
+    else if is_continuation line then (if is_open commented before then None else Some (BadLine n))
+    else field_fault commented before n line
+
+-- the first of two faults
+abbrev pub or_then : Option StanzaError → Option StanzaError → Option StanzaError
+or_then None later = later
+or_then (Some fault) later = Some fault
+
+-- the first fault of the lines from number n on, which stand after these lines of their stanza
+abbrev pub first_fault : Bool → List (List ℕ) → ℕ → List (List ℕ) → Option StanzaError
+first_fault commented before n [] = None
+first_fault commented before n (line ∷ lines) =
+    or_then (fault_of commented before n line) (first_fault commented (before ++ line ∷ []) (n + 1) lines)

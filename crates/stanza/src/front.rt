@@ -1,0 +1,143 @@
+//! The first stanza of a text: its lines are tested in turn, up to a separator.
+ghost use Rattle.std.specs.Prelude.{◌≡◌, ◌<◌, ◌≤◌, ◌+◌, ◌^◌, ◌∷◌, ◌++◌, [], ℕ, Bool, List, length, MatchResult, None, Some, if◌then◌else◌};
+ghost use Rattle.stanza.specs.Line.{lines_of, is_comment};
+ghost use Rattle.std.specs.List.{list_any};
+ghost use Rattle.stanza.specs.Field.{names_of, fields_of, same_name};
+ghost use Rattle.stanza.specs.Fault.{is_open, may_repeat, is_repeated, fault_of};
+ghost use Rattle.stanza.specs.Seen.{AreSeen};
+ghost use Rattle.stanza.specs.Front.{BeginsStanza, IsFront, HasFault};
+
+use crate::entries::Fields;
+use crate::error::StanzaError;
+use crate::lines::{cut_line, is_comment, is_continuation, is_separator};
+use crate::names::{is_name, same_name};
+use crate::seen::Seen;
+use crate::values::name_before_colon;
+
+/// A stanza's bytes, what follows its lines, and how many these are: comments after its last field
+/// count, and are no part of its bytes.
+#[derive(Drop)]
+pub struct Front<'a> {
+    pub raw: &'a [u8],
+    pub rest: &'a [u8],
+    pub lines: usize,
+}
+
+/// The stanza at the front of a text, whose first line stands after `before` others and belongs to it.
+pub fn first_stanza<'a>(
+    commented: bool,
+    before: usize,
+    text: &'a [u8],
+) -> Result<Front<'a>, StanzaError>
+    requires begins { BeginsStanza commented text.now }
+    requires fits { before + length text.now < 2 ^ 64 }
+    ensures { MatchResult result
+        (λ front. IsFront commented (before + 1) text.now front.raw.now front.rest.now front.lines)
+        (λ fault. HasFault commented (before + 1) text.now fault) }
+{
+    let mut seen = Seen::new();
+    let mut offset = 0;
+    let mut lines = 0;
+    let mut end = 0;
+    let mut opened = false;
+    while offset < text.len() {
+        let (done, rest) = text.split_at(offset);
+        let (line, _) = cut_line(rest);
+        if is_separator(line) {
+            let (raw, _) = text.split_at(end);
+            return Ok(Front { raw, rest, lines });
+        }
+        test_line(commented, done, opened, before + lines + 1, line, &mut seen)?;
+        offset += line.len();
+        lines += 1;
+        opened = !is_comment(commented, line);
+        end = end_after(opened, end, offset);
+    }
+    let (raw, _) = text.split_at(end);
+    let (_, rest) = text.split_at(offset);
+    Ok(Front { raw, rest, lines })
+}
+
+/// Where the fields read so far end.
+fn end_after(opened: bool, end: usize, offset: usize) -> usize
+    ensures { result ≡ (if opened then offset else end) }
+{
+    if opened { offset } else { end }
+}
+
+/// Tests the line, which stands after `done` in its stanza, and takes the slot of a new name.
+fn test_line(
+    commented: bool,
+    done: &[u8],
+    opened: bool,
+    number: usize,
+    line: &[u8],
+    seen: &mut Seen,
+) -> Result<(), StanzaError>
+    requires follows { opened ≡ is_open commented (lines_of done.now) }
+    requires seen { AreSeen seen.old.slots (names_of commented (lines_of done.now)) }
+    ensures { MatchResult result
+        (λ _. (fault_of commented (lines_of done.now) number line.now ≡ None)
+        × AreSeen seen.new.slots (names_of commented (lines_of done.now ++ line.now ∷ [])))
+        (λ fault. fault_of commented (lines_of done.now) number line.now ≡ Some fault) }
+{
+    if is_comment(commented, line) {
+        return Ok(());
+    }
+    if is_continuation(line) {
+        return if opened {
+            Ok(())
+        } else {
+            Err(StanzaError::BadLine(number))
+        };
+    }
+    let name = match name_before_colon(line) {
+        Some(name) => name,
+        None => return Err(StanzaError::BadLine(number)),
+    };
+    if !is_name(name) {
+        return Err(StanzaError::BadFieldName(number));
+    }
+    if is_known(commented, done, seen, name) {
+        return Err(StanzaError::DuplicateField(number));
+    }
+    seen.add(name);
+    Ok(())
+}
+
+/// Whether a field before has the name, which may stand but once: where its slot is free, none has.
+fn is_known(commented: bool, done: &[u8], seen: &Seen, name: &[u8]) -> bool
+    requires { AreSeen seen.now.slots (names_of commented (lines_of done.now)) }
+    ensures { result ≡ is_repeated commented (lines_of done.now) name.now }
+{
+    if seen.has_slot_of(name) {
+        is_repeated(commented, done, name)
+    } else {
+        false
+    }
+}
+
+/// Whether a field before has the name, which may stand but once. It walks over the stanza so far.
+fn is_repeated(commented: bool, done: &[u8], name: &[u8]) -> bool
+    ensures { result ≡ is_repeated commented (lines_of done.now) name.now }
+{
+    !may_repeat(commented, name) && has_field(commented, done, name)
+}
+
+fn has_field(commented: bool, done: &[u8], name: &[u8]) -> bool
+    ensures { result ≡ list_any (λ field. same_name field.name name.now) (fields_of commented 1 (lines_of done.now)) }
+{
+    for field in Fields::new(commented, 0, done) {
+        if same_name(field.name(), name) {
+            return true;
+        }
+    }
+    false
+}
+
+/// Whether a stanza may have several fields of the name.
+fn may_repeat(commented: bool, name: &[u8]) -> bool
+    ensures { result ≡ may_repeat commented name.now }
+{
+    commented && same_name(name, b"Explanation")
+}

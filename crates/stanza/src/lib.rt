@@ -1,0 +1,22 @@
+//! Control text (Debian Policy, chapter 5): a text is cut into stanzas, and a stanza into fields.
+//! `Stanzas::new` reads the plain form, `Stanzas::with_comments` the form in which a line that begins
+//! with `#` is a comment. Both walk over borrowed bytes, and take no memory.
+//! The definitions that the contracts cite stand in `specs/`, `Stanza.antt` last.
+#![tactic(auto)]
+
+mod entries;
+mod error;
+mod front;
+mod lines;
+mod names;
+mod seen;
+#[cfg(test)]
+mod tests;
+mod values;
+mod view;
+mod walk;
+
+pub use entries::{Field, Fields};
+pub use error::StanzaError;
+pub use view::Stanza;
+pub use walk::Stanzas;
