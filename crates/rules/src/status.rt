@@ -40,3 +40,74 @@ pub enum State {
     /// `installed`
     Installed,
 }
+
+impl Want {
+    ghost use Rattle.std.specs.Prelude.{◌≡◌};
+    ghost use Rattle.rules.specs.State.{is_hold};
+
+    /// Whether the package is held.
+    pub fn is_hold(self) -> bool
+        ensures { result ≡ is_hold self }
+    {
+        matches!(self, Want::Hold)
+    }
+}
+
+impl Flag {
+    ghost use Rattle.std.specs.Prelude.{◌≡◌};
+    ghost use Rattle.rules.specs.State.{is_sound_flag};
+
+    /// Whether the flag is ok.
+    pub fn is_sound(self) -> bool
+        ensures { result ≡ is_sound_flag self }
+    {
+        matches!(self, Flag::Sound)
+    }
+}
+
+impl State {
+    ghost use Rattle.std.specs.Prelude.{◌≡◌};
+    ghost use Rattle.rules.specs.State.{is_config_files_state, is_installed_state, is_not_installed_state, is_present_state, is_unconfigured_state, is_unfinished_state};
+
+    /// Whether files of the package are there.
+    pub fn is_present(self) -> bool
+        ensures { result ≡ is_present_state self }
+    {
+        !matches!(self, State::NotInstalled | State::ConfigFiles)
+    }
+
+    /// Whether all files of the package are there and it isn't configured.
+    pub fn is_unconfigured(self) -> bool
+        ensures { result ≡ is_unconfigured_state self }
+    {
+        matches!(self, State::Unpacked | State::HalfConfigured)
+    }
+
+    /// Whether the package is installed.
+    pub fn is_installed(self) -> bool
+        ensures { result ≡ is_installed_state self }
+    {
+        matches!(self, State::Installed)
+    }
+
+    /// Whether something is left to be done.
+    pub fn is_unfinished(self) -> bool
+        ensures { result ≡ is_unfinished_state self }
+    {
+        matches!(self, State::HalfInstalled) || self.is_unconfigured()
+    }
+
+    /// Whether configuration files alone are left.
+    pub fn is_removed(self) -> bool
+        ensures { result ≡ is_config_files_state self }
+    {
+        matches!(self, State::ConfigFiles)
+    }
+
+    /// Whether nothing of the package is there.
+    pub fn is_not_installed(self) -> bool
+        ensures { result ≡ is_not_installed_state self }
+    {
+        matches!(self, State::NotInstalled)
+    }
+}
