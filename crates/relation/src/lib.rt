@@ -13,8 +13,11 @@ mod parse;
 mod pkg;
 mod refusal;
 mod shape;
+#[cfg(test)]
+mod tests;
 
 pub use atom::{Atom, Clause, Provided};
+pub use debversion::{Op, Version};
 pub use error::{PkgError, PkgFault, RelationError, RelationFault, RequiredField};
 pub use fields::PkgFields;
 pub use parse::{parse_atoms, parse_clauses, parse_provides};
