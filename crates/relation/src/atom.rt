@@ -166,8 +166,8 @@ impl<'a> Model for Clause<'a> {
 }
 
 impl<'a> Clause<'a> {
-    /// The clause of these alternatives.
-    pub fn new(atoms: Vec<Atom<'a>>) -> Clause<'a>
+    // The clause of these alternatives.
+    pub(crate) fn new(atoms: Vec<Atom<'a>>) -> Clause<'a>
         ensures { result ≡ atoms.entry.items }
     {
         Clause { atoms }

@@ -159,6 +159,7 @@ impl<'a> PkgFields<'a> {
         ensures read { MatchResult result
             (λ name. (Spec.pkg_name_fault self.now ≡ None) × (name.now ≡ value_in self.now.name))
             (λ fault. Spec.pkg_name_fault self.now ≡ Some fault) }
+        ensures name { IfOk result (λ name. IsTrue (is_name name.now)) }
     {
         name_in(self.line, &self.name)
     }

@@ -22,5 +22,5 @@ pub use error::{PkgError, PkgFault, RelationError, RelationFault, RequiredField}
 pub use fields::PkgFields;
 pub use parse::{parse_atoms, parse_clauses, parse_provides};
 pub use pkg::{Pkg, Relations};
-pub use refusal::check;
+pub use refusal::{a_shape_is_refused_at_the_first_byte_that_goes_on_with_no_text, check};
 pub use shape::{Form, every_other_place_has_a_completion, no_text_goes_on_from_the_dead_place};

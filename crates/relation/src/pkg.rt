@@ -48,8 +48,8 @@ impl<'a> Model for Relations<'a> {
 }
 
 impl<'a> Relations<'a> {
-    /// The relations of these fields.
-    pub fn new(
+    // The relations of these fields.
+    pub(crate) fn new(
         pre_depends: Vec<Clause<'a>>,
         depends: Vec<Clause<'a>>,
         conflicts: Vec<Atom<'a>>,
@@ -110,8 +110,8 @@ impl<'a> Relations<'a> {
 }
 
 impl<'a> Pkg<'a> {
-    /// The package of this name, version and relations.
-    pub fn new(name: &'a [u8], version: Version<'a>, relations: Relations<'a>) -> Pkg<'a>
+    // The package of this name, version and relations.
+    pub(crate) fn new(name: &'a [u8], version: Version<'a>, relations: Relations<'a>) -> Pkg<'a>
         ensures { result ≡ record { name = name.now; version = version.entry; relations = relations.entry } }
     {
         Pkg {
