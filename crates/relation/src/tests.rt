@@ -23,7 +23,7 @@ fn write_atom(shown: &mut String, atom: &Atom<'_>) -> Result<(), Fail> {
         shown.push_str("!")?;
     }
     if let Some((op, version)) = atom.restriction() {
-        shown.push_str(op_text(*op))?;
+        shown.push_str(op_text(op))?;
         shown.push_str(str::from_utf8(version.text())?)?;
     }
     Ok(())

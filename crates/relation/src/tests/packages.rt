@@ -26,20 +26,19 @@ fn shown(alloc: Global, text: &[u8]) -> Result<String, Fail> {
 }
 
 fn write_pkg(alloc: Global, shown: &mut String, pkg: &Pkg<'_>) -> Result<(), Fail> {
-    let relations = pkg.relations();
     shown.push_str(str::from_utf8(pkg.name())?)?;
     shown.push_str(" ")?;
     shown.push_str(str::from_utf8(pkg.version().text())?)?;
     shown.push_str(" ")?;
-    shown.push_str(shown_clauses(alloc, relations.pre_depends())?.as_str())?;
+    shown.push_str(shown_clauses(alloc, pkg.pre_depends())?.as_str())?;
     shown.push_str("/")?;
-    shown.push_str(shown_clauses(alloc, relations.depends())?.as_str())?;
+    shown.push_str(shown_clauses(alloc, pkg.depends())?.as_str())?;
     shown.push_str("/")?;
-    shown.push_str(shown_atoms(alloc, relations.conflicts())?.as_str())?;
+    shown.push_str(shown_atoms(alloc, pkg.conflicts())?.as_str())?;
     shown.push_str("/")?;
-    shown.push_str(shown_atoms(alloc, relations.breaks())?.as_str())?;
+    shown.push_str(shown_atoms(alloc, pkg.breaks())?.as_str())?;
     shown.push_str("/")?;
-    shown.push_str(shown_items(alloc, relations.provides())?.as_str())?;
+    shown.push_str(shown_items(alloc, pkg.provides())?.as_str())?;
     Ok(())
 }
 
