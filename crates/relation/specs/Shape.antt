@@ -1,6 +1,6 @@
 -- The shape of a relation field's value (Policy 7.1), as an automaton over its bytes. That items of white
 -- space alone are skipped is this project's own.
-use Rattle.std.specs.Prelude.{◌≡◌, ℕ, Bool, true, false, ◌==◌, ◌||◌, List, [], ◌∷◌, if◌then◌else◌}
+use Rattle.std.specs.Prelude.{◌≡◌, ℕ, ◌+◌, ◌<◌, ◌≤◌, ◌++◌, length, take, Bool, true, false, ◌==◌, ◌||◌, List, [], ◌∷◌, if◌then◌else◌}
 use Rattle.std.specs.Char.{is_ascii_alphanumeric}
 use Rattle.rules.specs.Name.{is_name_byte}
 use Rattle.relation.specs.Bytes.{is_white, is_comma, is_bar, is_colon, is_opening, is_closing, is_less, is_equals, is_greater, is_qualifier_byte, is_version_byte}
@@ -143,3 +143,11 @@ awaits_name Dead = false
 -- the whole value has the shape of the form, whatever its versions are
 abbrev pub HasShape : Form → List ℕ → Type 0
 HasShape form value = is_end (place_after form Between value) ≡ true
+
+-- the offset is that of the first byte of the value that goes on with no text of the form, or the value's length
+-- where the value ends too early
+pub record IsFirstStop (form : Form) (value : List ℕ) (offset : ℕ) : Type 0 where
+  pub within : offset ≤ length value
+  pub goes_on : (more : List ℕ) × HasShape form (take offset value ++ more)
+  pub stops : offset < length value → (more : List ℕ) → HasShape form (take (offset + 1) value ++ more) → ⊥
+  pub ends_early : offset ≡ length value → HasShape form value → ⊥

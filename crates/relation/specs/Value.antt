@@ -1,6 +1,7 @@
 -- How relation fields are kept: what contracts see of an operator with its version.
 use Rattle.std.specs.Prelude.{◌≡◌, ℕ, List, None}
 use Rattle.std.specs.List.{AllByRecursion}
+use Rattle.std.specs.Borrow.{Bor}
 use Rattle.rules.specs.declared.goal.Restriction.{Restriction}
 use Rattle.rules.specs.declared.op.Op.{Op}
 use Rattle.relation.specs.Refusal.{bad_version_of}
@@ -10,6 +11,10 @@ use Rattle.relation.specs.declared.cut.Separator.TheVariants.{Bar}
 -- an operator and a version as a restriction
 abbrev pub restriction_by : Op × List ℕ → Restriction
 restriction_by pair = record { op = pair.0; version = pair.1 }
+
+-- an operator and a version that is lent as a restriction
+abbrev pub restriction_by_ref : Op × Bor (List ℕ) → Restriction
+restriction_by_ref pair = record { op = pair.0; version = pair.1.now }
 
 -- no version of these texts is refused
 abbrev pub HaveGoodVersions : List (List ℕ) → Type 0

@@ -1,10 +1,10 @@
-//! Atoms, items of Provides and clauses as values. They borrow the text that they were read from.
-ghost use Rattle.std.specs.Prelude.{◌≡◌, ◌↔◌, IsTrue, None, Some, List};
+//! Atoms and clauses as values. They borrow the text that they were read from.
+ghost use Rattle.std.specs.Prelude.{◌≡◌, None};
 ghost use Rattle.std.specs.Option.{option_map};
 ghost use Rattle.debversion.specs.Fault.{first_fault};
 ghost use Rattle.relation.specs.Refusal.{bad_version_of};
-ghost use Rattle.relation.specs.Spelling.{atom_of, inside_of, provided_of, restriction_in, version_in};
-ghost use Rattle.relation.specs.Value.{restriction_by};
+ghost use Rattle.relation.specs.Spelling.{atom_of, inside_of, restriction_in};
+ghost use Rattle.relation.specs.Value.{restriction_by, restriction_by_ref};
 
 use crate::cut::{
     inside_of, is_foreign, split_name, split_operator, split_qualifier, version_front,
@@ -31,22 +31,6 @@ impl<'a> Model for Atom<'a> {
     ghost view = { λ a. record { name = a.name.now; restriction = option_map restriction_by a.restriction; foreign = a.foreign } };
 }
 
-/// An item of Provides: a name, with a version or none.
-#[derive(Drop)]
-pub struct Provided<'a> {
-    name: &'a [u8],
-    version: Option<Version<'a>>,
-    foreign: bool,
-}
-
-impl<'a> Model for Provided<'a> {
-    ghost use Rattle.rules.specs.Package.{Provided as ProvidedValue};
-
-    ghost Value = { ProvidedValue };
-
-    ghost view = { λ p. record { name = p.name.now; version = p.version; foreign = p.foreign } };
-}
-
 // The bytes as a version, which they are known to be.
 fn version_of(bytes: &[u8]) -> Version<'_>
     requires { first_fault bytes.now ≡ None }
@@ -57,7 +41,7 @@ fn version_of(bytes: &[u8]) -> Version<'_>
 
 // The restriction in an atom's text, whose version is known to be one.
 #[tactic(auto, unfolding(crate::specs::Refusal::bad_version_of))]
-fn restriction_of(text: &[u8]) -> Option<(Op, Version<'_>)>
+pub fn restriction_of(text: &[u8]) -> Option<(Op, Version<'_>)>
     requires { bad_version_of text.now ≡ None }
     ensures { option_map restriction_by result ≡ option_map restriction_in (inside_of text.now) }
 {
@@ -89,60 +73,16 @@ impl<'a> Atom<'a> {
     }
 
     /// The operator and the version of the restriction, if there is one.
-    pub fn restriction(&self) -> &Option<(Op, Version<'a>)>
-        ensures { option_map restriction_by result.now ≡ self.now.restriction }
+    pub fn restriction(&self) -> Option<(Op, &Version<'a>)>
+        ensures { option_map restriction_by_ref result ≡ self.now.restriction }
     {
-        &self.restriction
-    }
-
-    /// Whether the qualifier names another architecture.
-    pub fn is_foreign(&self) -> bool
-        ensures { result ≡ self.now.foreign }
-    {
-        self.foreign
-    }
-}
-
-// The version in a text's restriction, which is known to be one.
-#[tactic(auto, unfolding(crate::specs::Refusal::bad_version_of))]
-fn provided_version_of(text: &[u8]) -> Option<Version<'_>>
-    requires { bad_version_of text.now ≡ None }
-    ensures { result ≡ option_map version_in (inside_of text.now) }
-{
-    let (_, version) = restriction_of(text)?;
-    Some(version)
-}
-
-impl<'a> Provided<'a> {
-    // The item of a text, whose version is known to be one.
-    pub(crate) fn new(arch: &[u8], text: &'a [u8]) -> Provided<'a>
-        requires { bad_version_of text.now ≡ None }
-        ensures { result ≡ provided_of arch.now text.now }
-    {
-        let (name, rest) = split_name(text);
-        let (qualifier, _) = split_qualifier(rest);
-        Provided {
-            name,
-            version: provided_version_of(text),
-            foreign: is_foreign(arch, qualifier),
+        match &self.restriction {
+            None => None,
+            Some((op, version)) => Some((*op, version)),
         }
     }
 
-    /// The name that is provided.
-    pub fn name(&self) -> &'a [u8]
-        ensures { result.now ≡ self.now.name }
-    {
-        self.name
-    }
-
-    /// The version in which it is provided, if there is one.
-    pub fn version(&self) -> &Option<Version<'a>>
-        ensures { result.now ≡ self.now.version }
-    {
-        &self.version
-    }
-
-    /// Whether the qualifier names another architecture: such an item provides nothing.
+    /// Whether the qualifier names another architecture.
     pub fn is_foreign(&self) -> bool
         ensures { result ≡ self.now.foreign }
     {
@@ -166,8 +106,8 @@ impl<'a> Model for Clause<'a> {
 }
 
 impl<'a> Clause<'a> {
-    /// The clause of these alternatives.
-    pub fn new(atoms: Vec<Atom<'a>>) -> Clause<'a>
+    // The clause of these alternatives.
+    pub(crate) fn new(atoms: Vec<Atom<'a>>) -> Clause<'a>
         ensures { result ≡ atoms.entry.items }
     {
         Clause { atoms }

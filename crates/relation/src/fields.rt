@@ -1,7 +1,7 @@
 //! The fields of a package, found in one walk over its stanza.
 ghost use Rattle.std.specs.Prelude.{◌≡◌};
 ghost use Rattle.stanza.specs.Field.{same_name};
-ghost use Rattle.relation.specs.PkgFields.{fields_in, fields_of, first_named, with_field};
+ghost use Rattle.relation.specs.PkgFields.{fields_of, first_named, with_field};
 
 use stanza::{Field, Stanza};
 
@@ -57,31 +57,24 @@ fn with_field<'a>(found: PkgFields<'a>, field: &Field<'a>) -> PkgFields<'a>
     }
 }
 
-// One walk over the stanza's lines.
-fn fields_in<'a>(stanza: &Stanza<'a>) -> PkgFields<'a>
-    ensures { result ≡ fields_in stanza.now.line stanza.now.fields }
-{
-    let mut found = PkgFields {
-        line: stanza.line(),
-        name: None,
-        version: None,
-        pre_depends: None,
-        depends: None,
-        conflicts: None,
-        breaks: None,
-        provides: None,
-    };
-    for field in stanza.fields() {
-        found = with_field(found, &field);
-    }
-    found
-}
-
 impl<'a> PkgFields<'a> {
     /// The fields of a package in its stanza. One walk over the stanza's lines.
     pub fn in_stanza(stanza: &Stanza<'a>) -> PkgFields<'a>
         ensures { result ≡ fields_of stanza.now }
     {
-        fields_in(stanza)
+        let mut found = PkgFields {
+            line: stanza.line(),
+            name: None,
+            version: None,
+            pre_depends: None,
+            depends: None,
+            conflicts: None,
+            breaks: None,
+            provides: None,
+        };
+        for field in stanza.fields() {
+            found = with_field(found, &field);
+        }
+        found
     }
 }

@@ -9,12 +9,13 @@ ghost use Rattle.relation.specs.Spelling.{atoms_between, clauses_of, provided_it
 ghost use Rattle.relation.specs.declared.cut.Separator.TheVariants.{Comma};
 ghost use Rattle.relation.specs.declared.shape.Form.TheVariants.{Atoms, Clauses, Provides};
 
-use crate::atom::{Atom, Clause, Provided};
+use crate::atom::{Atom, Clause};
 use crate::cut::{Separator, name_len};
 use crate::error::{PkgError, PkgFault, RelationFault, RequiredField};
 use crate::fields::PkgFields;
 use crate::parse::{atoms_between, clauses_of, provided_items_of};
 use crate::pkg::{Pkg, Relations};
+use crate::provided::Provided;
 use crate::refusal::check;
 use crate::shape::{Form, is_name_byte};
 use debversion::Version;
@@ -159,6 +160,7 @@ impl<'a> PkgFields<'a> {
         ensures read { MatchResult result
             (λ name. (Spec.pkg_name_fault self.now ≡ None) × (name.now ≡ value_in self.now.name))
             (λ fault. Spec.pkg_name_fault self.now ≡ Some fault) }
+        ensures name { IfOk result (λ name. IsTrue (is_name name.now)) }
     {
         name_in(self.line, &self.name)
     }
@@ -185,8 +187,8 @@ impl<'a> PkgFields<'a> {
         check_field(Form::Provides, &self.provides)
     }
 
-    /// The relations of the package, for the configured architecture `arch`; a field that isn't there has none.
-    pub fn relations(&self, alloc: Global, arch: &[u8]) -> Result<Relations<'a>, PkgError>
+    // The relations of the package; a field that isn't there has none.
+    pub(crate) fn relations(&self, alloc: Global, arch: &[u8]) -> Result<Relations<'a>, PkgError>
         ensures ok { IfOk result (λ relations. read_relations arch.now self.now ≡ Ok relations) }
         ensures err { IfErr result (λ e. IsPkgFault e (read_relations arch.now self.now)) }
     {

@@ -1,12 +1,13 @@
 //! Which package matches which atom (Policy 7.1, 7.5). Nothing here takes memory.
 ghost use Rattle.std.specs.Prelude.{◌≡◌, ◌↔◌, ℕ, IsTrue, List};
 ghost use Rattle.std.specs.List.{Any};
-ghost use Rattle.std.specs.Option.{option_map};
-ghost use Rattle.relation.specs.Value.{restriction_by};
+ghost use Rattle.std.specs.Option.{option_copied, option_map};
+ghost use Rattle.relation.specs.Value.{restriction_by_ref};
 ghost use Rattle.rules.specs.Package.{FitsByName, FitsByProvides, FitsProvided, Matches, Meets, MeetsAsProvided};
 
-use crate::atom::{Atom, Provided};
+use crate::atom::Atom;
 use crate::pkg::Pkg;
+use crate::provided::Provided;
 use debversion::{Op, Version};
 
 fn is_same(text: &[u8], other: &[u8]) -> bool
@@ -15,23 +16,23 @@ fn is_same(text: &[u8], other: &[u8]) -> bool
     text == other
 }
 
-fn meets(version: &Version<'_>, restriction: &Option<(Op, Version<'_>)>) -> bool
-    ensures { IsTrue result ↔ Meets version.now (option_map restriction_by restriction.now) }
+fn meets(version: &Version<'_>, restriction: Option<(Op, &Version<'_>)>) -> bool
+    ensures { IsTrue result ↔ Meets version.now (option_map restriction_by_ref restriction.entry) }
 {
     match restriction {
         None => true,
-        Some((op, other)) => version.satisfies(*op, other),
+        Some((op, other)) => version.satisfies(op, other),
     }
 }
 
 // What is provided without a version meets no restriction.
-fn meets_as_provided(version: &Option<Version<'_>>, restriction: &Option<(Op, Version<'_>)>) -> bool
-    ensures { IsTrue result ↔ MeetsAsProvided version.now (option_map restriction_by restriction.now) }
+fn meets_as_provided(version: Option<&Version<'_>>, restriction: Option<(Op, &Version<'_>)>) -> bool
+    ensures { IsTrue result ↔ MeetsAsProvided (option_copied version.entry) (option_map restriction_by_ref restriction.entry) }
 {
     match (version, restriction) {
         (_, None) => true,
         (None, Some(_)) => false,
-        (Some(version), Some((op, other))) => version.satisfies(*op, other),
+        (Some(version), Some((op, other))) => version.satisfies(op, other),
     }
 }
 
@@ -64,6 +65,6 @@ impl<'a> Atom<'a> {
     pub fn matched_by(&self, pkg: &Pkg<'_>) -> bool
         ensures { IsTrue result ↔ Matches pkg.now self.now }
     {
-        !self.is_foreign() && (self.fits_name(pkg) || self.fits_some(pkg.relations().provides()))
+        !self.is_foreign() && (self.fits_name(pkg) || self.fits_some(pkg.provides()))
     }
 }

@@ -6,9 +6,10 @@ ghost use Rattle.relation.specs.Spelling.{atoms_between, clauses_of, parts_of, p
 ghost use Rattle.relation.specs.Value.{HaveGoodVersions};
 ghost use Rattle.relation.specs.declared.cut.Separator.TheVariants.{Comma, CommaOrBar};
 
-use crate::atom::{Atom, Clause, Provided};
+use crate::atom::{Atom, Clause};
 use crate::cut::{Separator, cut_part, is_blank};
 use crate::error::RelationError;
+use crate::provided::Provided;
 use crate::refusal::check;
 use crate::shape::Form;
 use std::alloc::{AllocError, Global};

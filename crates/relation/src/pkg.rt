@@ -3,7 +3,8 @@ ghost use Rattle.std.specs.Prelude.{◌≡◌, ◌↔◌, IsTrue, List};
 ghost use Rattle.std.specs.List.{Any};
 ghost use Rattle.rules.specs.Package.{FitsByName, FitsByProvides, FitsProvided, Matches};
 
-use crate::atom::{Atom, Clause, Provided};
+use crate::atom::{Atom, Clause};
+use crate::provided::Provided;
 use debversion::Version;
 use std::marker::Model;
 
@@ -48,8 +49,8 @@ impl<'a> Model for Relations<'a> {
 }
 
 impl<'a> Relations<'a> {
-    /// The relations of these fields.
-    pub fn new(
+    // The relations of these fields.
+    pub(crate) fn new(
         pre_depends: Vec<Clause<'a>>,
         depends: Vec<Clause<'a>>,
         conflicts: Vec<Atom<'a>>,
@@ -72,46 +73,11 @@ impl<'a> Relations<'a> {
             provides,
         }
     }
-
-    /// The clauses of Pre-Depends.
-    pub fn pre_depends(&self) -> &[Clause<'a>]
-        ensures { result.now ≡ self.now.pre_depends }
-    {
-        self.pre_depends.as_slice()
-    }
-
-    /// The clauses of Depends.
-    pub fn depends(&self) -> &[Clause<'a>]
-        ensures { result.now ≡ self.now.depends }
-    {
-        self.depends.as_slice()
-    }
-
-    /// The atoms of Conflicts.
-    pub fn conflicts(&self) -> &[Atom<'a>]
-        ensures { result.now ≡ self.now.conflicts }
-    {
-        self.conflicts.as_slice()
-    }
-
-    /// The atoms of Breaks.
-    pub fn breaks(&self) -> &[Atom<'a>]
-        ensures { result.now ≡ self.now.breaks }
-    {
-        self.breaks.as_slice()
-    }
-
-    /// The items of Provides.
-    pub fn provides(&self) -> &[Provided<'a>]
-        ensures { result.now ≡ self.now.provides }
-    {
-        self.provides.as_slice()
-    }
 }
 
 impl<'a> Pkg<'a> {
-    /// The package of this name, version and relations.
-    pub fn new(name: &'a [u8], version: Version<'a>, relations: Relations<'a>) -> Pkg<'a>
+    // The package of this name, version and relations.
+    pub(crate) fn new(name: &'a [u8], version: Version<'a>, relations: Relations<'a>) -> Pkg<'a>
         ensures { result ≡ record { name = name.now; version = version.entry; relations = relations.entry } }
     {
         Pkg {
@@ -135,10 +101,38 @@ impl<'a> Pkg<'a> {
         &self.version
     }
 
-    /// The relation fields.
-    pub fn relations(&self) -> &Relations<'a>
-        ensures { result.now ≡ self.now.relations }
+    /// The clauses of Pre-Depends.
+    pub fn pre_depends(&self) -> &[Clause<'a>]
+        ensures { result.now ≡ self.now.relations.pre_depends }
     {
-        &self.relations
+        self.relations.pre_depends.as_slice()
+    }
+
+    /// The clauses of Depends.
+    pub fn depends(&self) -> &[Clause<'a>]
+        ensures { result.now ≡ self.now.relations.depends }
+    {
+        self.relations.depends.as_slice()
+    }
+
+    /// The atoms of Conflicts.
+    pub fn conflicts(&self) -> &[Atom<'a>]
+        ensures { result.now ≡ self.now.relations.conflicts }
+    {
+        self.relations.conflicts.as_slice()
+    }
+
+    /// The atoms of Breaks.
+    pub fn breaks(&self) -> &[Atom<'a>]
+        ensures { result.now ≡ self.now.relations.breaks }
+    {
+        self.relations.breaks.as_slice()
+    }
+
+    /// The items of Provides.
+    pub fn provides(&self) -> &[Provided<'a>]
+        ensures { result.now ≡ self.now.relations.provides }
+    {
+        self.relations.provides.as_slice()
     }
 }

@@ -1,8 +1,11 @@
 //! The refusal of a value, found without taking memory.
-ghost use Rattle.std.specs.Prelude.{◌≡◌, ◌≤◌, Some, None, length, IfSome, MatchResult};
+ghost use Rattle.std.specs.Prelude.{◌≡◌, ◌≤◌, ℕ, List, Some, None, length, IfSome, MatchResult};
 ghost use Rattle.relation.specs.Refusal as Spec;
 ghost use Rattle.relation.specs.Refusal.{atom_start, bad_version_of, excess_from, fault_of, more_after, most_atoms, shape_refusal_from, version_refusal_from};
+ghost use Rattle.relation.specs.Shape.{HasShape, IsFirstStop};
 ghost use Rattle.relation.specs.Spelling.{parts_of};
+ghost use Rattle.relation.specs.declared.refusal.Refusal.{Refusal as RefusalOf};
+ghost use Rattle.relation.specs.declared.shape.Form.{Form as FormOf};
 ghost use Rattle.relation.specs.declared.shape.Place.TheVariants.{Between};
 
 use crate::cut::{
@@ -181,3 +184,11 @@ pub fn check(form: Form, value: &[u8]) -> Result<(), RelationFault>
         Some(refusal) => Err(refusal.fault),
     }
 }
+
+/// A value has the shape of the form, or its shape is refused at the first byte with which no text of the form
+/// goes on: up to it some text does. At the end it is refused where it ends too early.
+pub fn a_shape_is_refused_at_the_first_byte_that_goes_on_with_no_text()
+    ensures accepted { (form : FormOf) (value : List ℕ) → shape_refusal_from form Between 0 value ≡ None → HasShape form value }
+    ensures refused { (form : FormOf) (value : List ℕ) (refusal : RefusalOf) →
+        shape_refusal_from form Between 0 value ≡ Some refusal → IsFirstStop form value refusal.offset }
+{}

@@ -1,7 +1,7 @@
 use Rattle.std.proofs.Common.{◌≡◌, sym, ap, ◌∙◌}
 use Rattle.relation.specs.PkgFields.{fields_in, with_field}
 use Rattle.relation.proofs.FieldsMore.{fields_more}
-use Rattle.relation.proofs.fields.fields_in.Goals as goal
+use Rattle.relation.proofs.fields.PkgFields.in_stanza.Goals as goal
 
 pub loop-field-preserved : goal.loop-field-preserved
 loop-field-preserved c =
