@@ -1,4 +1,4 @@
--- A downgrade is chosen at the priority 1000 and not at 999 (apt_preferences(5)): `foo 2` is installed, an index
+-- A downgrade may be chosen at the priority 1000 and not at 999 (apt_preferences(5)): `foo 2` is installed, an index
 -- of the suite `stable` has `foo 1`, and a record for foo pins that suite.
 use Rattle.std.proofs.Common.{ℤ, pos, false, [], ◌∷◌, Some, None, refl, lit<, arith}
 use Rattle.std.specs.Prelude.{codes}
@@ -54,7 +54,7 @@ downgrade : (priority : ℤ) → IsDowngrade (pinned_at priority) (codes "foo") 
 unfolding IsDowngrade version_cmp
 downgrade priority = (0, record_of Installed (Some (codes "2")) (package_of (codes "foo") (codes "2") no_relations), lit< tt, refl, (refl, (refl, refl)))
 
--- 1000 suffices for the downgrade, and 999 doesn't
+-- the priority 1000 suffices for the downgrade, and 999 doesn't
 pub downgrade_rows : IsEligible (pinned_at (pos 1000)) (codes "foo") (codes "1") (pos 1000)
     × (¬ IsEligible (pinned_at (pos 999)) (codes "foo") (codes "1") (pos 999))
 unfolding IsEligible

@@ -6,7 +6,7 @@ use Rattle.std.proofs.lemmas.List.Elements.{All-contains}
 use Rattle.rules.specs.Database.{Record, HasDistinctNames, IsInstalled, IsUnfinished, pkg_of, installed_of}
 use Rattle.rules.specs.Legal.{Allowed}
 use Rattle.rules.specs.Package.{Pkg, Atom, MatchesSome, ConflictsWith, BreaksOther}
-use Rattle.rules.specs.PlanLaws.{HoldsOn, IsEssentialIn, IsSatisfiedIn, IsAsAsked, IsKept}
+use Rattle.rules.specs.PlanLaws.{HoldsOn, IsEssentialIn, IsSatisfiedIn, IsAsAsked, KeepsPromise}
 use Rattle.rules.specs.Run.{Run, IsGoodEnd, IsGoodPlan}
 use Rattle.rules.specs.Sound.{MatchedByNoOther, IsContent, IsSound, FulfilsAll, HasMember, HasVersion, KeepsHold, KeepsEssential}
 use Rattle.rules.specs.State.{is_installed_state}
@@ -68,6 +68,8 @@ as_asked : (u : Universe) (db : List Record) → IsGoodEnd u db → IsAsAsked u 
 unfolding FulfilsAll
 as_asked u db good = record {
   goals = good.fitting.goals;
+  purged = good.purged;
+  admitted = good.fitting.admitted;
   held = held_version u (installed_of db) good.fitting.held;
   essential = essential_member u (installed_of db) good.fitting.essential;
   satisfied = satisfied_in db good.fitting.sound;
@@ -88,9 +90,9 @@ step_allowed u start finish reached steps before rest step run place here =
     let P : List Record → Type 0 = λ db. Allowed u db step in
     subst P (one_end u start parts.0 reached before parts.1 here) parts.2.0
 
-pub good_plan_is_kept : (u : Universe) (start : List Record) (steps : List Step) → HasDistinctNames start
-    → IsGoodPlan u start steps → IsKept u start steps
-good_plan_is_kept u start steps distinct plan = record {
+pub good_plan_keeps_promise : (u : Universe) (start : List Record) (steps : List Step) → HasDistinctNames start
+    → IsGoodPlan u start steps → KeepsPromise u start steps
+good_plan_keeps_promise u start steps distinct plan = record {
   reaches = λ before rest place. let parts = reaches u start plan.finish steps before rest plan.run place in (parts.0, parts.1);
   allowed = λ before rest step reached place here.
       step_allowed u start plan.finish reached steps before rest step plan.run place here;

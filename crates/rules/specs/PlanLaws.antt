@@ -4,8 +4,8 @@ use Rattle.std.specs.List.{All, Any, Contains}
 use Rattle.rules.specs.Database.{Record, HasDistinctNames, IsQuiet, IsInstalled, IsUnfinished, pkg_of, installed_of}
 use Rattle.rules.specs.Legal.{Allowed}
 use Rattle.rules.specs.Package.{ConflictsWith, BreaksOther}
-use Rattle.rules.specs.Run.{Run, IsGoodPlan}
-use Rattle.rules.specs.Sound.{MeetsClauses, Fulfils, HasMember, HasVersion}
+use Rattle.rules.specs.Run.{Run, IsGoodPlan, IsPurged}
+use Rattle.rules.specs.Sound.{IsAdmittedIn, MeetsClauses, Fulfils, HasMember, HasVersion}
 use Rattle.rules.specs.Universe.{Universe}
 use Rattle.rules.specs.declared.step.Step.{Step}
 
@@ -27,10 +27,12 @@ pub record IsSatisfiedIn (db : List Record) (found : Record) : Type 0 where
   pub breaks : (other : Record) → Contains db other → IsInstalled other → other.name ≢ found.name
       → ¬ BreaksOther (pkg_of found) (pkg_of other)
 
--- at this end every goal is met, every held name that stood has its version, every essential name that was
+-- at this end every goal is met and what is to be purged is gone, every installed package is an admitted pair, every held name that stood has its version, every essential name that was
 -- present has a package, and every installed package is satisfied
 pub record IsAsAsked (u : Universe) (db : List Record) : Type 0 where
   pub goals : All (Fulfils u (installed_of db)) u.goals
+  pub purged : All (IsPurged db) u.goals
+  pub admitted : IsAdmittedIn u (installed_of db)
   pub held : (name version : List ℕ) → HoldsOn u name version → HasVersion name version (installed_of db)
   pub essential : (name : List ℕ) → IsEssentialIn u name → HasMember name (installed_of db)
   pub satisfied : (found : Record) → Contains db found → IsInstalled found → IsSatisfiedIn db found
@@ -38,7 +40,7 @@ pub record IsAsAsked (u : Universe) (db : List Record) : Type 0 where
 
 -- what a good plan promises: each step is allowed in the database before it, the database is quiet after
 -- each beginning of the steps, and the end is as asked
-pub record IsKept (u : Universe) (start : List Record) (steps : List Step) : Type 0 where
+pub record KeepsPromise (u : Universe) (start : List Record) (steps : List Step) : Type 0 where
   pub reaches : (before rest : List Step) → steps ≡ before ++ rest → (reached : List Record) × Run u start before reached
   pub allowed : (before rest : List Step) (step : Step) (reached : List Record) → steps ≡ before ++ step ∷ rest
       → Run u start before reached → Allowed u reached step
@@ -47,6 +49,6 @@ pub record IsKept (u : Universe) (start : List Record) (steps : List Step) : Typ
   pub as_asked : (finish : List Record) → Run u start steps finish → IsAsAsked u finish
 
 -- a good plan keeps its promise
-abbrev pub GoodPlanIsKept : Type 0
-GoodPlanIsKept = (u : Universe) (start : List Record) (steps : List Step) → HasDistinctNames start
-    → IsGoodPlan u start steps → IsKept u start steps
+abbrev pub GoodPlanKeepsPromise : Type 0
+GoodPlanKeepsPromise = (u : Universe) (start : List Record) (steps : List Step) → HasDistinctNames start
+    → IsGoodPlan u start steps → KeepsPromise u start steps

@@ -48,7 +48,7 @@ HasOneVersionEach members = All (λ member. All (AgreesWith member) members) mem
 unfoldable pub IsAdmittedIn : Universe → List Pkg → Type 0
 IsAdmittedIn u members = All (λ member. Any (λ pair. IsOf member.name member.version pair.pkg) u.pairs) members
 
--- the name is unheld, stands in a version and has a higher candidate, which is a member
+-- the name, if it is unheld, stands in a version and has a higher candidate, has that candidate as a member
 unfoldable pub IsUpgraded : Universe → List Pkg → Start → Type 0
 IsUpgraded u members start = (start.is_held ≡ false) → (standing candidate : List ℕ) → start.standing ≡ Some standing
     → candidate_of u start.name ≡ Some candidate → version_cmp standing candidate ≡ Less

@@ -1,14 +1,14 @@
 -- What each action leaves in the database (dpkg(1)). The config version over config files and over a
 -- half-installed package, and that a removed package always leaves config files, are this project's own.
-use Rattle.std.specs.Prelude.{ℕ, Bool, not, List, [], ◌∷◌, ◌++◌, map, Option, Some, None, if◌then◌else◌, bytes_eq}
+use Rattle.std.specs.Prelude.{ℕ, Bool, not, List, [], ◌∷◌, ◌++◌, map, Option, Some, None, if◌then◌else◌, ◌||◌, bytes_eq}
 use Rattle.std.specs.List.{filter, list_any}
 use Rattle.std.specs.Option.{option_map_or}
 use Rattle.rules.specs.Database.{Record}
 use Rattle.rules.specs.Package.{Pkg, Relations}
 use Rattle.rules.specs.Stanza.{Stanza}
+use Rattle.rules.specs.State.{is_unconfigured_state, is_installed_state}
 use Rattle.rules.specs.declared.status.Flag.TheVariants.{Sound}
-use Rattle.rules.specs.declared.status.State.{State}
-use Rattle.rules.specs.declared.status.State.TheVariants.{NotInstalled, ConfigFiles, HalfInstalled, Unpacked, HalfConfigured, Installed}
+use Rattle.rules.specs.declared.status.State.TheVariants.{ConfigFiles, Unpacked, HalfConfigured, Installed}
 use Rattle.rules.specs.declared.status.Want.{Want}
 use Rattle.rules.specs.declared.status.Want.TheVariants.{Install, Deinstall}
 use Rattle.rules.specs.declared.step.Step.{Step}
@@ -32,18 +32,20 @@ deconfigured old = record old { state = HalfConfigured; config_version = Some ol
 abbrev pub configured : Record → Record
 configured old = record old { state = Installed; config_version = Some old.version }
 
+-- the version that was configured last: of an installed package its version
+abbrev pub last_configured : Record → Option (List ℕ)
+last_configured old = if is_installed_state old.state then Some old.version else old.config_version
+
 -- removed: config files alone are left, and deinstall is wanted
 abbrev pub removed : Record → Record
-removed old = record old { state = ConfigFiles; want = Deinstall; relations = no_relations }
+removed old =
+    record old { state = ConfigFiles; want = Deinstall; config_version = last_configured old; relations = no_relations }
 
--- the config version of a package that is unpacked over this state: the version that was configured, if files of it are there
-abbrev pub kept_config_version : State → Option (List ℕ) → Option (List ℕ)
-kept_config_version NotInstalled config_version = None
-kept_config_version ConfigFiles config_version = None
-kept_config_version HalfInstalled config_version = None
-kept_config_version Unpacked config_version = config_version
-kept_config_version HalfConfigured config_version = config_version
-kept_config_version Installed config_version = config_version
+-- the config version of what is unpacked over this record: the version that was configured last, where the
+-- package was unpacked, half-configured or installed
+abbrev pub kept_config_version : Record → Option (List ℕ)
+kept_config_version old =
+    if is_unconfigured_state old.state || is_installed_state old.state then last_configured old else None
 
 -- the record of a package of an index unpacked, with this config version
 abbrev pub unpacked_with : Listed → Option (List ℕ) → Record
@@ -60,7 +62,7 @@ unpacked_with listed config_version = record {
 
 -- unpacked over the record before
 abbrev pub unpacked_over : Listed → Record → Record
-unpacked_over listed old = unpacked_with listed (kept_config_version old.state old.config_version)
+unpacked_over listed old = unpacked_with listed (kept_config_version old)
 
 -- the record has the name, as a test
 abbrev pub is_named : List ℕ → Record → Bool

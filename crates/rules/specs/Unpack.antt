@@ -6,7 +6,8 @@ use Rattle.rules.specs.Database.{Record, IsPresent, IsUnconfigured, IsInstalled,
 use Rattle.rules.specs.Package.{Pkg, Atom, Meets, Matches, FitsByProvides, ConflictsWith, BreaksOther}
 use Rattle.rules.specs.Step.{Listed}
 
--- what the record's package was when it was last configured, and what it is now, both fit the atom
+-- the record has the atom's name, and both its version and the one configured last meet the restriction, or
+-- something that it provides fits
 unfoldable pub FitsThenAndNow : Record → Atom → List ℕ → Type 0
 FitsThenAndNow found atom config_version =
     ((found.name ≡ atom.name) × Meets found.version atom.restriction × Meets config_version atom.restriction)

@@ -3,7 +3,7 @@
 ghost use Rattle.rules.specs.Entry.{WrittenAsLeft};
 ghost use Rattle.rules.specs.GroupLaws.{UnionPasses, HasGreatestPart, IndivisibleByOthers};
 ghost use Rattle.rules.specs.LegalLaws.{OneFirstFailing, AllowedOrFailing, AllowedWhereNoneFails};
-ghost use Rattle.rules.specs.PlanLaws.{GoodPlanIsKept};
+ghost use Rattle.rules.specs.PlanLaws.{GoodPlanKeepsPromise};
 ghost use Rattle.rules.specs.RunLaws.{RunGoesOn, OneEnd, RunOrStops, DistinctNamesKept, QuietKept, QuietAfterRun};
 
 /// A step has one first failing rule at most.
@@ -73,8 +73,8 @@ pub fn quiet_after_run()
 {}
 
 /// A good plan keeps its promise: each step is allowed when its turn comes, the database is quiet after each
-/// beginning of the steps, and at the end every goal is met, every hold and every essential name is kept, and
+/// beginning of the steps, and at the end every goal is met, what is to be purged is gone, every hold and every essential name is kept, and
 /// every Pre-Depends, Depends, Conflicts and Breaks of an installed package is satisfied.
-pub fn good_plan_is_kept()
-    ensures { GoodPlanIsKept }
+pub fn good_plan_keeps_promise()
+    ensures { GoodPlanKeepsPromise }
 {}

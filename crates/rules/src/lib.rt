@@ -16,7 +16,7 @@ mod version_text;
 
 pub use goal::{Goal, Restriction};
 pub use laws::{
-    allowed_or_failing, allowed_where_none_fails, distinct_names_kept, good_plan_is_kept,
+    allowed_or_failing, allowed_where_none_fails, distinct_names_kept, good_plan_keeps_promise,
     has_greatest_part, indivisible_by_others, one_end, one_first_failing, quiet_after_run,
     quiet_kept, run_goes_on, run_or_stops, union_passes, written_as_left,
 };

@@ -1,12 +1,11 @@
 // A record of the database with its package.
 
-ghost use Rattle.std.specs.Prelude.{◌≡◌, ◌↔◌, ◌||◌, ◌&&◌, List, IsTrue, IsSome, IfSome, Some, MatchOption, is_some};
-ghost use Rattle.std.specs.Option.{option_copied};
-ghost use Rattle.rules.specs.Database.{IsPresent, IsUnconfigured, IsInstalled, IsUnfinished, Stands, pkg_of};
+ghost use Rattle.std.specs.Prelude.{◌≡◌, IfSome, is_some};
+ghost use Rattle.rules.specs.Database.{is_unfinished, pkg_of, stands};
 ghost use Rattle.rules.specs.State.{is_present_state};
-ghost use Rattle.status.specs.PackageRecord.{HasItsPkg};
 
-use relation::{Pkg, Version};
+use debversion::Version;
+use relation::Pkg;
 use rules::{Flag, State, Want};
 use std::marker::Model;
 
@@ -26,7 +25,7 @@ pub struct PackageRecord<'p, 'a> {
 
 impl<'p, 'a> Model for PackageRecord<'p, 'a> {
     ghost use Rattle.std.specs.Prelude.{[], unwrap_or};
-    ghost use Rattle.std.specs.Option.{option_map_or};
+    ghost use Rattle.std.specs.Option.{option_copied, option_map_or};
     ghost use Rattle.rules.specs.Database.{Record};
     ghost use Rattle.rules.specs.Step.{no_relations};
     ghost use Rattle.status.specs.PackageRecord.{HasItsPkg};
@@ -45,4 +44,70 @@ impl<'p, 'a> Model for PackageRecord<'p, 'a> {
     } };
 
     ghost invariant = { λ r. HasItsPkg r.state r.name.now r.version (option_copied r.pkg) };
+}
+
+impl<'p, 'a> PackageRecord<'p, 'a> {
+    /// The name.
+    pub fn name(&self) -> &'a [u8]
+        ensures { result.now ≡ self.now.name }
+    {
+        self.name
+    }
+
+    /// How far the package is.
+    pub fn state(&self) -> State
+        ensures { result ≡ self.now.state }
+    {
+        self.state
+    }
+
+    /// What is wanted of it.
+    pub fn want(&self) -> Want
+        ensures { result ≡ self.now.want }
+    {
+        self.want
+    }
+
+    /// Whether it is to be installed again.
+    pub fn flag(&self) -> Flag
+        ensures { result ≡ self.now.flag }
+    {
+        self.flag
+    }
+
+    /// The version that was configured last, if there is one.
+    pub fn config_version(&self) -> &Option<Version<'a>>
+        ensures { result.now ≡ self.now.config_version }
+    {
+        &self.config_version
+    }
+
+    /// Whether the stanza marks it essential.
+    pub fn is_essential(&self) -> bool
+        ensures { result ≡ self.now.is_essential }
+    {
+        self.is_essential
+    }
+
+    /// The package, if it is present.
+    pub fn present_pkg(&self) -> Option<&'p Pkg<'a>>
+        ensures there { is_some result ≡ is_present_state self.now.state }
+        ensures same { IfSome result (λ pkg. pkg.now ≡ pkg_of self.now) }
+    {
+        self.pkg
+    }
+
+    /// Whether the package stands: its files are all there, and the flag is ok.
+    pub fn stands(&self) -> bool
+        ensures { result ≡ stands self.now }
+    {
+        (self.state.is_unconfigured() || self.state.is_installed()) && self.flag.is_sound()
+    }
+
+    /// Whether something of the package is left to be done, or it is to be installed again.
+    pub fn is_unfinished(&self) -> bool
+        ensures { result ≡ is_unfinished self.now }
+    {
+        self.state.is_unfinished() || (!self.flag.is_sound() && !self.state.is_not_installed())
+    }
 }
