@@ -1,13 +1,9 @@
-// A library with one function.
+// Legality of plans: whether each action is legal by Policy chapter 7 when its turn comes, and whether the end
+// is good. It stands on `rules`, which says what legal is, and on the values of `relation` and `status`; it
+// uses nothing of what finds plans. A judge of its own: begin with `unpack`.
 #![tactic(auto)]
 
-ghost use Rattle.std.specs.Prelude.{◌≡◌};
-ghost use Rattle.plancheck.specs.Echo.{echo_of};
+mod matching;
+mod unpack;
 
-// The `ensures` clause is the contract: what `echo` returns is `echo_of` of its argument, a definition
-// in `specs/Echo.antt`, which a caller's clause can cite too.
-pub fn echo(x: usize) -> usize
-    ensures { result ≡ echo_of x }
-{
-    x
-}
+pub use unpack::{breaks_none, has_no_conflict};
