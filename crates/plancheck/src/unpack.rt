@@ -1,14 +1,89 @@
 // What a package needs to be unpacked (Policy 7.2 to 7.4).
 
-ghost use Rattle.std.specs.Prelude.{◌≡◌, ◌≢◌, ◌↔◌, ℕ, List, IsTrue};
+ghost use Rattle.std.specs.Prelude.{◌≡◌, ◌≢◌, ◌↔◌, IsTrue};
 ghost use Rattle.std.specs.List.{All, Any};
 ghost use Rattle.rules.specs.Database.{ForOthers, IsInstalled, IsPresent, SomeOther, pkg_of};
-ghost use Rattle.rules.specs.Package.{BreaksOther};
-ghost use Rattle.rules.specs.Unpack.{BreaksNone, HasNoConflict, HasPreDepends, IsCompatible, IsSatisfied};
+ghost use Rattle.rules.specs.Package.{BreaksOther, Matches};
+ghost use Rattle.rules.specs.Unpack.{BreaksNone, FitsFromBefore, FitsThenAndNow, HasNoConflict, HasPreDepends, IsCompatible, IsSatisfied, SatisfiesAtom};
 
 use crate::matching::{breaks_other, conflicts_with, is_same};
-use relation::Pkg;
+use debversion::Version;
+use relation::{Atom, Clause, Pkg};
 use status::PackageRecord;
+
+// Whether the record fits the atom as it is now and as it was when this version of it was configured.
+#[tactic(auto, unfolding(rules::specs::Unpack::FitsThenAndNow))]
+fn fits_then_and_now(
+    found: &PackageRecord<'_, '_>,
+    there: &Pkg<'_>,
+    atom: &Atom<'_>,
+    configured: &Version<'_>,
+) -> bool
+    requires { there.now ≡ pkg_of found.now }
+    ensures { IsTrue result ↔ FitsThenAndNow found.now atom.now configured.now }
+{
+    (is_same(there.name(), atom.name()) && atom.met_by(there.version()) && atom.met_by(configured))
+        || atom.provided_by(there)
+}
+
+// Whether the record is unpacked or half-configured, was configured before, and fits the atom.
+#[tactic(auto, unfolding(rules::specs::Unpack::FitsFromBefore))]
+fn fits_from_before(found: &PackageRecord<'_, '_>, atom: &Atom<'_>) -> bool
+    ensures { IsTrue result ↔ FitsFromBefore found.now atom.now }
+{
+    match (found.present_pkg(), found.config_version()) {
+        (Some(there), Some(configured)) if found.state().is_unconfigured() => {
+            fits_then_and_now(found, there, atom, configured)
+        }
+        _ => false,
+    }
+}
+
+// Whether the record is installed and matches the atom.
+fn matches_installed(found: &PackageRecord<'_, '_>, atom: &Atom<'_>) -> bool
+    ensures { IsTrue result ↔ (IsInstalled found.now × Matches (pkg_of found.now) atom.now) }
+{
+    match found.present_pkg() {
+        Some(there) if found.state().is_installed() => atom.matched_by(there),
+        _ => false,
+    }
+}
+
+// Whether the record satisfies the atom of a Pre-Depends.
+#[tactic(auto, unfolding(rules::specs::Unpack::SatisfiesAtom))]
+fn satisfies_atom(found: &PackageRecord<'_, '_>, atom: &Atom<'_>) -> bool
+    ensures { IsTrue result ↔ SatisfiesAtom found.now atom.now }
+{
+    !atom.is_foreign() && (matches_installed(found, atom) || fits_from_before(found, atom))
+}
+
+fn is_other_and_satisfies(found: &PackageRecord<'_, '_>, name: &[u8], atom: &Atom<'_>) -> bool
+    ensures { IsTrue result ↔ ((found.now.name ≢ name.now) × SatisfiesAtom found.now atom.now) }
+{
+    !is_same(found.name(), name) && satisfies_atom(found, atom)
+}
+
+fn is_atom_satisfied(db: &[PackageRecord<'_, '_>], name: &[u8], atom: &Atom<'_>) -> bool
+    ensures { IsTrue result ↔ SomeOther (λ other. SatisfiesAtom other atom.now) name.now db.now }
+{
+    db.iter().any(|other| is_other_and_satisfies(other, name, atom))
+}
+
+#[tactic(auto, unfolding(rules::specs::Unpack::IsSatisfied))]
+fn is_satisfied(db: &[PackageRecord<'_, '_>], name: &[u8], clause: &Clause<'_>) -> bool
+    ensures { IsTrue result ↔ IsSatisfied db.now name.now clause.now }
+{
+    clause.as_slice().iter().any(|atom| is_atom_satisfied(db, name, atom))
+}
+
+/// Whether each Pre-Depends clause of the package is satisfied by packages of other names. Linear in the
+/// records, for each in the atoms of the Pre-Depends and in what it provides.
+#[tactic(auto, unfolding(rules::specs::Unpack::HasPreDepends))]
+pub fn has_pre_depends(db: &[PackageRecord<'_, '_>], pkg: &Pkg<'_>) -> bool
+    ensures { IsTrue result ↔ HasPreDepends db.now pkg.now }
+{
+    pkg.pre_depends().iter().all(|clause| is_satisfied(db, pkg.name(), clause))
+}
 
 // Whether neither of the two conflicts with the other.
 #[tactic(auto, unfolding(rules::specs::Unpack::IsCompatible))]

@@ -53,18 +53,28 @@ impl<'a> Atom<'a> {
             && meets_as_provided(item.version(), self.restriction())
     }
 
-    fn fits_some(&self, items: &[Provided<'_>]) -> bool
-        ensures { IsTrue result ↔ Any (λ item. FitsProvided item self.now) items.now }
+    /// Whether the version meets the restriction, if there is one.
+    pub fn met_by(&self, version: &Version<'_>) -> bool
+        ensures { IsTrue result ↔ Meets version.now self.now.restriction }
     {
-        items.iter().any(|item| self.fits_item(item))
+        meets(version, self.restriction())
+    }
+
+    /// Whether something that the package provides fits the atom, whatever its qualifier. Linear in the
+    /// package's Provides items.
+    #[tactic(auto, unfolding(rules::specs::Package::FitsByProvides))]
+    pub fn provided_by(&self, pkg: &Pkg<'_>) -> bool
+        ensures { IsTrue result ↔ FitsByProvides pkg.now self.now }
+    {
+        pkg.provides().iter().any(|item| self.fits_item(item))
     }
 
     /// Whether the package matches the atom, by its own name and version or by what it provides. Linear in
     /// the package's Provides items.
-    #[tactic(auto, unfolding(rules::specs::Package::Matches, rules::specs::Package::FitsByProvides))]
+    #[tactic(auto, unfolding(rules::specs::Package::Matches))]
     pub fn matched_by(&self, pkg: &Pkg<'_>) -> bool
         ensures { IsTrue result ↔ Matches pkg.now self.now }
     {
-        !self.is_foreign() && (self.fits_name(pkg) || self.fits_some(pkg.provides()))
+        !self.is_foreign() && (self.fits_name(pkg) || self.provided_by(pkg))
     }
 }

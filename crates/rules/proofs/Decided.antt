@@ -7,7 +7,7 @@ use Rattle.std.specs.declared.cmp.Ordering.{Ordering}
 use Rattle.std.specs.declared.cmp.Ordering.TheVariants.{Less, Equal, Greater}
 use Rattle.std.proofs.lemmas.Slice.Eq.{bytes_eq-Decides}
 use Rattle.std.proofs.lemmas.List.Elements.{All-cons, All-nil, All-head, All-tail}
-use Rattle.rules.proofs.Members.{Any-contains, Any-intro, Any-elim, Contains-cons, Contains-head, Contains-rest, Contains-nil}
+use Rattle.rules.specs.ElementLaws.{Any-contains, Any-intro, Any-elim, Contains-cons, Contains-head, Contains-rest, Contains-nil}
 use mathlib.Core.Logic.{inl, inr}
 
 -- a fact that a test decides is decided

@@ -14,7 +14,7 @@ use Rattle.rules.specs.declared.step.Reason.{Reason}
 use Rattle.rules.specs.declared.step.Reason.TheVariants as reason
 use Rattle.std.proofs.lemmas.Cmp.{ranked}
 use mathlib.Core.Logic.{inl, inr}
-use Rattle.rules.proofs.Members.{Any-elim, Contains-nil, Contains-cons}
+use Rattle.rules.specs.ElementLaws.{Any-elim, Contains-nil, Contains-cons}
 use Rattle.rules.proofs.Rows.{any_of, package_of, record_of, indexed, universe_of}
 
 abbrev bar_1 : Pkg

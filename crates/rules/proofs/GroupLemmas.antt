@@ -13,7 +13,7 @@ use Rattle.rules.specs.Step.{is_among, is_named}
 use Rattle.rules.proofs.Decided.{dec_IsTrue, dec_and, dec_implies, dec_text, dec_All, dec_like, all_or_some}
 use Rattle.rules.proofs.DecidedPackages.{dec_MeetsClauses}
 use Rattle.rules.proofs.DecidedSteps.{dec_HasRecord, dec_IsUnbroken}
-use Rattle.rules.proofs.Members.{All-intro, Any-intro, Any-elim, Any-contains, Any-from_list_any, list_any-from_contains, Contains-head, Contains-cons, Contains-nil, Contains-map, Contains-map_intro, Contains-filter, Contains-filter_intro}
+use Rattle.rules.specs.ElementLaws.{All-intro, Any-intro, Any-elim, Any-contains, Any-from_list_any, list_any-from_contains, Contains-head, Contains-cons, Contains-nil, Contains-map, Contains-map_intro, Contains-filter, Contains-filter_intro}
 use mathlib.Core.Logic.{inl, inr}
 
 -- equal texts pass the test, and only they

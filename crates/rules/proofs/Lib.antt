@@ -7,7 +7,6 @@ pub mod EntryLemmas
 pub mod GroupLemmas
 pub mod LegalLemmas
 pub mod MatchRows
-pub mod Members
 pub mod PlanLemmas
 pub mod QuietLemmas
 pub mod Rows

@@ -12,7 +12,7 @@ use Rattle.rules.specs.Sound.{MatchedByNoOther, IsContent, IsSound, FulfilsAll, 
 use Rattle.rules.specs.State.{is_installed_state}
 use Rattle.rules.specs.Universe.{Universe, Start}
 use Rattle.rules.specs.declared.step.Step.{Step}
-use Rattle.rules.proofs.Members.{Any-elim, Contains-map_intro, Contains-filter_intro}
+use Rattle.rules.specs.ElementLaws.{Any-elim, Contains-map_intro, Contains-filter_intro}
 use Rattle.rules.proofs.QuietLemmas.{quiet_after_run}
 use Rattle.rules.proofs.RunLemmas.{Run-parts, one_end}
 

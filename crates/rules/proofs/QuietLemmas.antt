@@ -21,7 +21,7 @@ use Rattle.rules.specs.declared.step.Rule.TheVariants as rule
 use Rattle.rules.specs.declared.step.Step.{Step}
 use Rattle.rules.specs.declared.step.Step.TheVariants as step
 use Rattle.rules.proofs.GroupLemmas.{bytes_eq-true, bytes_eq-same, contains-is_among}
-use Rattle.rules.proofs.Members.{All-intro, Any-elim, Contains-cons, Contains-nil, Contains-map, Contains-filter, list_any-from_contains}
+use Rattle.rules.specs.ElementLaws.{All-intro, Any-elim, Contains-cons, Contains-nil, Contains-map, Contains-filter, list_any-from_contains}
 use mathlib.Core.Logic.{inl, inr}
 
 -- a change that keeps each name keeps names distinct

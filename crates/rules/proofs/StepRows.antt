@@ -21,7 +21,7 @@ use Rattle.rules.proofs.DecidedSteps.{dec_HasRecord, dec_ForOthers, dec_SomeOthe
 use Rattle.rules.proofs.GroupLemmas.{dec_named, dec_MemberPasses, greatest_upto, greatest_part, dec_IsIndivisible}
 use Rattle.rules.proofs.LegalLemmas.{dec_UnpackAsks, dec_ConfigureAsks, dec_RemoveAsks, dec_DeconfigureAsks, dec_PurgeAsks, dec_Asks, kept_or_first, allowed_or_failing}
 use Rattle.rules.proofs.GroupLemmas.{MemberPasses, empty_from_none, fails_in_part, indivisible_from_others}
-use Rattle.rules.proofs.Members.{Contains-cons, Contains-nil}
+use Rattle.rules.specs.ElementLaws.{Contains-cons, Contains-nil}
 use Rattle.std.proofs.lemmas.List.Elements.{All-cons, All-nil, All-contains}
 use mathlib.Core.Logic.{inl, inr}
 use Rattle.rules.proofs.Rows.{so, not_so, allowed_so, fails_so, any_of, some_of, package_of, record_of, indexed, unindexed, universe_of}

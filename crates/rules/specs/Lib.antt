@@ -1,6 +1,7 @@
 pub mod Available
 pub mod Configure
 pub mod Database
+pub mod ElementLaws
 pub mod Entry
 pub mod GroupLaws
 pub mod Legal

@@ -1,7 +1,7 @@
 -- What holds of each element, of some element, and what the elements of changed lists are.
-use Rattle.std.proofs.Common.{◌||◌, ◌≡◌, zero, suc, Bool, true, false, cond, List, [], ◌∷◌, map, ◌⊎◌, refl, ap, subst, ◌∙◌, arith}
+use Rattle.std.proofs.Common.{◌++◌, sym, ◌||◌, ◌≡◌, zero, suc, Bool, true, false, cond, List, [], ◌∷◌, map, ◌⊎◌, refl, ap, subst, ◌∙◌, arith}
 use Rattle.std.specs.List.{All, Any, Contains, filter, list_any}
-use Rattle.std.proofs.lemmas.List.Elements.{All-weaker, All-contains_itself, All-contains, All-filter, filter_passes}
+use Rattle.std.proofs.lemmas.List.Elements.{All-weaker, All-contains_itself, All-contains, All-filter, filter_passes, Contains-append_cases, Contains-append_left, Contains-append_right}
 use mathlib.Core.Logic.{inl, inr}
 
 -- what holds of each element by itself holds of all
@@ -106,3 +106,32 @@ list_any-from_contains p (y ∷ ys) x within passes = elim (Contains-cons y ys x
     or_true : (b : Bool) → (b || true) ≡ true
     or_true true = refl
     or_true false = refl
+
+-- some element of the mapped list of those that pass has a property where some element passes and becomes one with it
+pub Any-map_filter : {X Y : Type 0} (P : Y → Type 0) (f : X → Y) (p : X → Bool) (xs : List X)
+    → Any (λ x. (p x ≡ true) × P (f x)) xs → Any P (map f (filter p xs))
+Any-map_filter P f p xs some = Any-elim (λ x. (p x ≡ true) × P (f x)) xs (Any P (map f (filter p xs)))
+    (λ x within both. Any-intro P (map f (filter p xs)) (f x)
+      (Contains-map_intro f (filter p xs) x (Contains-filter_intro p xs x within both.0)) both.1) some
+
+pub Any-filter_map : {X Y : Type 0} (P : Y → Type 0) (f : X → Y) (p : X → Bool) (xs : List X)
+    → Any P (map f (filter p xs)) → Any (λ x. (p x ≡ true) × P (f x)) xs
+Any-filter_map {X} {Y} P f p xs some = Any-elim P (map f (filter p xs)) (Any (λ x. (p x ≡ true) × P (f x)) xs)
+    (λ y within holds.
+      let from = Contains-map f (filter p xs) y within in
+      let kept = Contains-filter p xs from.0 from.1 in
+      Any-intro (λ x. (p x ≡ true) × P (f x)) xs from.0 kept.0 (kept.1, subst P (sym from.2) holds)) some
+
+-- some element of either list
+pub Any-append : {X : Type 0} (P : X → Type 0) (xs ys : List X) → Any P (xs ++ ys) → Any P xs ⊎ Any P ys
+Any-append P xs ys some = Any-elim P (xs ++ ys) (Any P xs ⊎ Any P ys)
+    (λ x within holds. elim (Contains-append_cases xs ys x within)
+      [ inl here ↦ inl (Any-intro P xs x here holds) | inr there ↦ inr (Any-intro P ys x there holds) ]) some
+
+pub Any-append_left : {X : Type 0} (P : X → Type 0) (xs ys : List X) → Any P xs → Any P (xs ++ ys)
+Any-append_left P xs ys some = Any-elim P xs (Any P (xs ++ ys))
+    (λ x within holds. Any-intro P (xs ++ ys) x (Contains-append_left xs ys x within) holds) some
+
+pub Any-append_right : {X : Type 0} (P : X → Type 0) (xs ys : List X) → Any P ys → Any P (xs ++ ys)
+Any-append_right P xs ys some = Any-elim P ys (Any P (xs ++ ys))
+    (λ x within holds. Any-intro P (xs ++ ys) x (Contains-append_right xs ys x within) holds) some

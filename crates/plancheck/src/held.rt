@@ -1,0 +1,57 @@
+// What the database says of a name (dpkg(1)): whether it is held, and the version in which it stands.
+
+ghost use Rattle.std.specs.Prelude.{◌≡◌, ◌↔◌, IsTrue};
+ghost use Rattle.std.specs.List.{Any};
+ghost use Rattle.rules.specs.Database.{HasRecord, IsHeld, Stands};
+ghost use Rattle.rules.specs.Legal.{IsNotHeld};
+ghost use Rattle.rules.specs.Universe.{StandsAs};
+ghost use Rattle.rules.specs.Version.{SameVersion};
+
+use crate::matching::is_same;
+use debversion::Version;
+use status::PackageRecord;
+
+fn is_held_name(found: &PackageRecord<'_, '_>, name: &[u8]) -> bool
+    ensures { IsTrue result ↔ ((found.now.name ≡ name.now) × IsHeld found.now) }
+{
+    is_same(found.name(), name) && found.want().is_hold()
+}
+
+fn has_hold(db: &[PackageRecord<'_, '_>], name: &[u8]) -> bool
+    ensures { IsTrue result ↔ HasRecord IsHeld name.now db.now }
+{
+    db.iter().any(|found| is_held_name(found, name))
+}
+
+/// Whether the name isn't held. Linear in the records.
+#[tactic(auto, unfolding(rules::specs::Legal::IsNotHeld))]
+pub fn is_not_held(db: &[PackageRecord<'_, '_>], name: &[u8]) -> bool
+    ensures { IsTrue result ↔ IsNotHeld db.now name.now }
+{
+    !has_hold(db, name)
+}
+
+// Whether the package of the record has this version.
+fn is_version(found: &PackageRecord<'_, '_>, version: &Version<'_>) -> bool
+    ensures { IsTrue result ↔ (Stands found.now × SameVersion found.now.version version.now) }
+{
+    match found.present_pkg() {
+        Some(there) => found.stands() && there.version() == version,
+        None => false,
+    }
+}
+
+fn is_named_version(found: &PackageRecord<'_, '_>, name: &[u8], version: &Version<'_>) -> bool
+    ensures { IsTrue result
+        ↔ ((found.now.name ≡ name.now) × (Stands found.now × SameVersion found.now.version version.now)) }
+{
+    is_same(found.name(), name) && is_version(found, version)
+}
+
+/// Whether the name stands in this version. Linear in the records.
+#[tactic(auto, unfolding(rules::specs::Universe::StandsAs))]
+pub fn stands_as(db: &[PackageRecord<'_, '_>], name: &[u8], version: &Version<'_>) -> bool
+    ensures { IsTrue result ↔ StandsAs db.now name.now version.now }
+{
+    db.iter().any(|found| is_named_version(found, name, version))
+}
