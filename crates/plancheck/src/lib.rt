@@ -3,9 +3,11 @@
 // uses nothing of what finds plans. A judge of its own: begin with `unpack`.
 #![tactic(auto)]
 
+mod configure;
 mod held;
 mod matching;
 mod unpack;
 
+pub use configure::are_configurable;
 pub use held::{is_not_held, stands_as};
 pub use unpack::{breaks_none, has_no_conflict, has_pre_depends};

@@ -1,7 +1,7 @@
 -- Whether each rule of a step holds is decided, but for that of a group's parts, which GroupLemmas decides.
 use Rattle.std.proofs.Common.{◌≡◌, ◌≢◌, ℕ, List, ◌++◌, Some, None, Option, MatchOption}
 use Rattle.std.specs.List.{Contains}
-use Rattle.rules.specs.Configure.{IsConfigurable, AreConfigurable, ArePreDependsInstalled, AreDependsInstalled, IsUnbroken, AreUnbroken, members_of}
+use Rattle.rules.specs.Configure.{HasConfigurable, IsConfigurable, AreConfigurable, ArePreDependsInstalled, AreDependsInstalled, IsUnbroken, AreUnbroken, members_of}
 use Rattle.rules.specs.Database.{Record, HasRecord, ForOthers, SomeOther, ForMembers, IsPresent, IsInstalled, Stands, IsHeld, stands, pkg_of, installed_of}
 use Rattle.rules.specs.Legal.{IsNotHeld}
 use Rattle.rules.specs.Package.{Pkg, Atom, MatchesSome, BreaksOther}
@@ -89,7 +89,7 @@ dec_StandsAs db name version = dec_HasRecord (λ found. Stands found × SameVers
     (λ found. dec_and (dec_IsTrue (stands found)) (dec_SameVersion found.version version)) name db
 
 unfoldable pub dec_AreConfigurable : (db : List Record) (names : List (List ℕ)) → Dec (AreConfigurable db names)
-unfolding AreConfigurable
+unfolding AreConfigurable HasConfigurable
 dec_AreConfigurable db names = dec_All (λ name. HasRecord IsConfigurable name db)
     (λ name. dec_HasRecord IsConfigurable (λ found. dec_and (dec_IsTrue (is_unconfigured_state found.state)) (dec_IsTrue (is_sound_flag found.flag))) name db) names
 

@@ -4,7 +4,7 @@ use Rattle.std.specs.Prelude.{◌↔◌}
 use Rattle.std.specs.List.{All, Any, Contains, filter}
 use Rattle.std.proofs.lemmas.List.Elements.{All-contains, All-weaker, All-contains_itself, Contains-append_left, Contains-append_right, Contains-append_cases, All-head}
 use Rattle.std.proofs.lemmas.Slice.Eq.{bytes_eq-Decides}
-use Rattle.rules.specs.Configure.{IsConfigurable, AreConfigurable, ArePreDependsInstalled, AreDependsInstalled, IsUnbroken, AreUnbroken, GroupPasses, members_of, others_of, IsGreatestPart, IsProperPart, IsIndivisible}
+use Rattle.rules.specs.Configure.{HasConfigurable, IsConfigurable, AreConfigurable, ArePreDependsInstalled, AreDependsInstalled, IsUnbroken, AreUnbroken, GroupPasses, members_of, others_of, IsGreatestPart, IsProperPart, IsIndivisible}
 use Rattle.rules.specs.Database.{Record, HasRecord, ForMembers, pkg_of, installed_of}
 use Rattle.rules.specs.Package.{Pkg, Atom, MatchesSome, MeetsClause}
 use Rattle.rules.specs.Sound.{MeetsClauses}
@@ -13,25 +13,9 @@ use Rattle.rules.specs.Step.{is_among, is_named}
 use Rattle.rules.proofs.Decided.{dec_IsTrue, dec_and, dec_implies, dec_text, dec_All, dec_like, all_or_some}
 use Rattle.rules.proofs.DecidedPackages.{dec_MeetsClauses}
 use Rattle.rules.proofs.DecidedSteps.{dec_HasRecord, dec_IsUnbroken}
+use Rattle.rules.specs.NamedLaws.{bytes_eq-true, bytes_eq-same, is_among-contains, contains-is_among}
 use Rattle.rules.specs.ElementLaws.{All-intro, Any-intro, Any-elim, Any-contains, Any-from_list_any, list_any-from_contains, Contains-head, Contains-cons, Contains-nil, Contains-map, Contains-map_intro, Contains-filter, Contains-filter_intro}
 use mathlib.Core.Logic.{inl, inr}
-
--- equal texts pass the test, and only they
-pub bytes_eq-true : (xs ys : List ℕ) → bytes_eq xs ys ≡ true → xs ≡ ys
-bytes_eq-true xs ys passes = (bytes_eq-Decides xs ys).0 passes
-
-pub bytes_eq-same : (xs ys : List ℕ) → xs ≡ ys → bytes_eq xs ys ≡ true
-bytes_eq-same xs ys same = (bytes_eq-Decides xs ys).1 same
-
--- the record is among the names where they contain its name
-pub is_among-contains : (names : List (List ℕ)) (found : Record) → Contains names found.name → is_among names found ≡ true
-is_among-contains names found within =
-    list_any-from_contains (λ name. is_named name found) names found.name within (bytes_eq-same found.name found.name refl)
-
-pub contains-is_among : (names : List (List ℕ)) (found : Record) → is_among names found ≡ true → Contains names found.name
-contains-is_among names found passes = Any-elim (λ name. is_named name found ≡ true) names (Contains names found.name)
-    (λ name within holds. subst (Contains names) (sym (bytes_eq-true found.name name holds)) within)
-    (Any-from_list_any (λ name. is_named name found) names passes)
 
 -- what more members meet
 pub MeetsClause-more : (members more : List Pkg) → ((member : Pkg) → Contains members member → Contains more member)
@@ -88,7 +72,7 @@ ForMembers-from_each P group db each = All-intro (λ member. Contains group memb
 -- a group passes where each of its names does
 pub GroupPasses-each : (db : List Record) (group : List (List ℕ)) → GroupPasses db group → (name : List ℕ) → Contains group name
     → MemberPasses db group name
-unfolding AreConfigurable ArePreDependsInstalled AreDependsInstalled AreUnbroken
+unfolding AreConfigurable HasConfigurable ArePreDependsInstalled AreDependsInstalled AreUnbroken
 GroupPasses-each db group passes name within = record {
   configurable = All-contains (λ n. HasRecord IsConfigurable n db) group name passes.configurable within;
   pre_depends = ForMembers-each (λ member. MeetsClauses (installed_of db) member.relations.pre_depends) group db passes.pre_depends name within;
@@ -98,7 +82,7 @@ GroupPasses-each db group passes name within = record {
 
 pub GroupPasses-from_each : (db : List Record) (group : List (List ℕ)) → ((name : List ℕ) → Contains group name → MemberPasses db group name)
     → GroupPasses db group
-unfolding AreConfigurable ArePreDependsInstalled AreDependsInstalled AreUnbroken
+unfolding AreConfigurable HasConfigurable ArePreDependsInstalled AreDependsInstalled AreUnbroken
 GroupPasses-from_each db group each = record {
   configurable = All-intro (λ n. HasRecord IsConfigurable n db) group (λ name within. (each name within).configurable);
   pre_depends = ForMembers-from_each (λ member. MeetsClauses (installed_of db) member.relations.pre_depends) group db (λ name within. (each name within).pre_depends);

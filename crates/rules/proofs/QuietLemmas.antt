@@ -6,7 +6,7 @@ use Rattle.std.proofs.lemmas.List.{get_or-map}
 use Rattle.std.proofs.lemmas.List.Quantifiers.{all_pairs_push}
 use Rattle.std.proofs.lemmas.List.Elements.{All-contains, Contains-get_or, Contains-append_cases, All-filter}
 use Rattle.std.proofs.Math.ListN.{length-map}
-use Rattle.rules.specs.Configure.{IsConfigurable, AreConfigurable}
+use Rattle.rules.specs.Configure.{HasConfigurable, IsConfigurable, AreConfigurable}
 use Rattle.rules.specs.Database.{IsInstalled, Record, HasRecord, HasDistinctNames, IsAtPeaceWith, IsQuiet, IsPresent, pkg_of}
 use Rattle.rules.specs.Legal.{Allowed}
 use Rattle.rules.specs.Package.{Pkg, ConflictsWith}
@@ -20,7 +20,7 @@ use Rattle.rules.specs.declared.status.State.TheVariants.{NotInstalled, ConfigFi
 use Rattle.rules.specs.declared.step.Rule.TheVariants as rule
 use Rattle.rules.specs.declared.step.Step.{Step}
 use Rattle.rules.specs.declared.step.Step.TheVariants as step
-use Rattle.rules.proofs.GroupLemmas.{bytes_eq-true, bytes_eq-same, contains-is_among}
+use Rattle.rules.specs.NamedLaws.{bytes_eq-true, bytes_eq-same, contains-is_among}
 use Rattle.rules.specs.ElementLaws.{All-intro, Any-elim, Contains-cons, Contains-nil, Contains-map, Contains-filter, list_any-from_contains}
 use mathlib.Core.Logic.{inl, inr}
 
@@ -217,7 +217,7 @@ quiet_deconfigure db name distinct has = quiet_changed (is_named name) deconfigu
 
 quiet_configure : (db : List Record) (names : List (List ℕ)) → HasDistinctNames db → AreConfigurable db names → IsQuiet db
     → IsQuiet (changed (is_among names) configured db)
-unfolding AreConfigurable
+unfolding AreConfigurable HasConfigurable
 quiet_configure db names distinct has = quiet_changed (is_among names) configured db (λ found within is present. (
   unconfigured_present found.state (the_record IsConfigurable db distinct found within
       (All-contains (λ name. HasRecord IsConfigurable name db) names found.name has (contains-is_among names found is))).0,

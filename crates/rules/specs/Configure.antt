@@ -14,9 +14,13 @@ IsConfigurable found = IsUnconfigured found × HasSoundFlag found
 abbrev pub members_of : List (List ℕ) → List Record → List Pkg
 members_of names db = map pkg_of (filter (is_among names) db)
 
+-- the name has a record that may be configured
+unfoldable pub HasConfigurable : List Record → List ℕ → Type 0
+HasConfigurable db name = HasRecord IsConfigurable name db
+
 -- each name of the group has a record that may be configured
 unfoldable pub AreConfigurable : List Record → List (List ℕ) → Type 0
-AreConfigurable db names = All (λ name. HasRecord IsConfigurable name db) names
+AreConfigurable db names = All (HasConfigurable db) names
 
 -- each Pre-Depends clause of a member is met by installed packages (Policy 7.2)
 unfoldable pub ArePreDependsInstalled : List Record → List (List ℕ) → Type 0

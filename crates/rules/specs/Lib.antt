@@ -8,6 +8,7 @@ pub mod Legal
 pub mod LegalLaws
 pub mod Minimal
 pub mod Name
+pub mod NamedLaws
 pub mod Package
 pub mod PlanLaws
 pub mod Priority

@@ -5,7 +5,7 @@ ghost use Rattle.rules.specs.Database.{is_unfinished, pkg_of, stands};
 ghost use Rattle.rules.specs.State.{is_present_state};
 
 use debversion::Version;
-use relation::Pkg;
+use relation::{Clause, Pkg};
 use rules::{Flag, State, Want};
 use std::marker::Model;
 
@@ -95,6 +95,26 @@ impl<'p, 'a> PackageRecord<'p, 'a> {
         ensures same { IfSome result (λ pkg. pkg.now ≡ pkg_of self.now) }
     {
         self.pkg
+    }
+
+    /// The clauses of Pre-Depends of a present package; none of another.
+    pub fn pre_depends(&self) -> &[Clause<'a>]
+        ensures { result.now ≡ self.now.relations.pre_depends }
+    {
+        match self.pkg {
+            Some(there) => there.pre_depends(),
+            None => &[],
+        }
+    }
+
+    /// The clauses of Depends of a present package; none of another.
+    pub fn depends(&self) -> &[Clause<'a>]
+        ensures { result.now ≡ self.now.relations.depends }
+    {
+        match self.pkg {
+            Some(there) => there.depends(),
+            None => &[],
+        }
     }
 
     /// Whether the package stands: its files are all there, and the flag is ok.

@@ -1,0 +1,73 @@
+// What a group of packages needs to be configured together (Policy 7.2 and 7.3).
+
+ghost use Rattle.std.specs.Prelude.{◌≡◌, ◌≢◌, ◌↔◌, ◌++◌, ℕ, IsTrue, List};
+ghost use Rattle.std.specs.List.{All, Any, Contains};
+ghost use Rattle.rules.specs.Configure.{AreConfigurable, HasConfigurable, AreDependsInstalled, ArePreDependsInstalled, AreUnbroken, IsConfigurable, IsUnbroken, members_of};
+ghost use Rattle.rules.specs.Database.{ForMembers, ForOthers, HasRecord, IsInstalled, IsPresent, installed_of, pkg_of};
+ghost use Rattle.rules.specs.Package.{BreaksOther, MatchesSome, MeetsClause};
+ghost use Rattle.rules.specs.Sound.{MeetsClauses};
+ghost use Rattle.rules.specs.Step.{is_among};
+
+use crate::matching::{breaks_other, is_same, matches_some};
+use relation::{Clause, Pkg};
+use rules::Name;
+use status::PackageRecord;
+
+fn is_configurable(found: &PackageRecord<'_, '_>, name: &[u8]) -> bool
+    ensures { IsTrue result ↔ ((found.now.name ≡ name.now) × IsConfigurable found.now) }
+{
+    is_same(found.name(), name) && found.state().is_unconfigured() && found.flag().is_sound()
+}
+
+#[tactic(auto, unfolding(rules::specs::Configure::HasConfigurable))]
+fn has_configurable(db: &[PackageRecord<'_, '_>], name: &[u8]) -> bool
+    ensures { IsTrue result ↔ HasConfigurable db.now name.now }
+{
+    db.iter().any(|found| is_configurable(found, name))
+}
+
+/// Whether each name of the group has a record that may be configured. Linear in the records for each name.
+#[tactic(auto, unfolding(rules::specs::Configure::AreConfigurable))]
+pub fn are_configurable(db: &[PackageRecord<'_, '_>], names: &[Name]) -> bool
+    ensures { IsTrue result ↔ AreConfigurable db.now names.now }
+{
+    names.iter().all(|name| has_configurable(db, name.as_bytes()))
+}
+
+// Whether the record is of one of the names.
+fn is_among(names: &[Name], found: &PackageRecord<'_, '_>) -> bool
+    ensures { result ≡ is_among names.now found.now }
+{
+    names.iter().any(|name| found.name() == name.as_bytes())
+}
+
+// Whether the record is installed and matches the clause.
+fn matches_installed(found: &PackageRecord<'_, '_>, clause: &Clause<'_>) -> bool
+    ensures { IsTrue result ↔ (IsInstalled found.now × MatchesSome (pkg_of found.now) clause.now) }
+{
+    match found.present_pkg() {
+        Some(there) if found.state().is_installed() => matches_some(there, clause.as_slice()),
+        _ => false,
+    }
+}
+
+fn some_matches_installed(db: &[PackageRecord<'_, '_>], clause: &Clause<'_>) -> bool
+    ensures { IsTrue result
+        ↔ Any (λ found. IsInstalled found × MatchesSome (pkg_of found) clause.now) db.now }
+{
+    db.iter().any(|found| matches_installed(found, clause))
+}
+
+// Whether an installed package matches the clause.
+fn is_met(db: &[PackageRecord<'_, '_>], clause: &Clause<'_>) -> bool
+    ensures { IsTrue result ↔ MeetsClause (installed_of db.now) clause.now }
+{
+    some_matches_installed(db, clause)
+}
+
+#[tactic(auto, unfolding(rules::specs::Sound::MeetsClauses))]
+fn are_met(db: &[PackageRecord<'_, '_>], clauses: &[Clause<'_>]) -> bool
+    ensures { IsTrue result ↔ MeetsClauses (installed_of db.now) clauses.now }
+{
+    clauses.iter().all(|clause| is_met(db, clause))
+}
