@@ -41,6 +41,13 @@ fn is_among(names: &[Name], found: &PackageRecord<'_, '_>) -> bool
     names.iter().any(|name| found.name() == name.as_bytes())
 }
 
+// Whether the names contain the record's.
+fn is_member(names: &[Name], found: &PackageRecord<'_, '_>) -> bool
+    ensures { IsTrue result ↔ Contains names.now found.now.name }
+{
+    is_among(names, found)
+}
+
 // Whether the record is installed and matches the clause.
 fn matches_installed(found: &PackageRecord<'_, '_>, clause: &Clause<'_>) -> bool
     ensures { IsTrue result ↔ (IsInstalled found.now × MatchesSome (pkg_of found.now) clause.now) }
@@ -70,4 +77,21 @@ fn are_met(db: &[PackageRecord<'_, '_>], clauses: &[Clause<'_>]) -> bool
     ensures { IsTrue result ↔ MeetsClauses (installed_of db.now) clauses.now }
 {
     clauses.iter().all(|clause| is_met(db, clause))
+}
+
+// Whether the record isn't of these names, or its Pre-Depends are met by installed packages.
+fn is_other_or_prepared(db: &[PackageRecord<'_, '_>], names: &[Name], member: &PackageRecord<'_, '_>) -> bool
+    ensures { IsTrue result ↔ (Contains names.now member.now.name
+        → MeetsClauses (installed_of db.now) member.now.relations.pre_depends) }
+{
+    !is_member(names, member) || are_met(db, member.pre_depends())
+}
+
+/// Whether each Pre-Depends clause of the group's members is met by installed packages. For each member linear
+/// in the records for each clause.
+#[tactic(auto, unfolding(rules::specs::Configure::ArePreDependsInstalled))]
+pub fn are_pre_depends_installed(db: &[PackageRecord<'_, '_>], names: &[Name]) -> bool
+    ensures { IsTrue result ↔ ArePreDependsInstalled db.now names.now }
+{
+    db.iter().all(|member| is_other_or_prepared(db, names, member))
 }

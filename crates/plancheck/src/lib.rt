@@ -6,8 +6,10 @@
 mod configure;
 mod held;
 mod matching;
+mod remove;
 mod unpack;
 
-pub use configure::are_configurable;
+pub use configure::{are_configurable, are_pre_depends_installed};
 pub use held::{is_not_held, stands_as};
+pub use remove::{can_be_removed, is_essential, is_installed, is_removed};
 pub use unpack::{breaks_none, has_no_conflict, has_pre_depends};

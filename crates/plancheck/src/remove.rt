@@ -1,0 +1,97 @@
+// What a package needs to be removed: that no other needs it (Policy 7.2).
+
+ghost use Rattle.std.specs.Prelude.{◌≡◌, ◌≢◌, ◌↔◌, ◌++◌, IsTrue};
+ghost use Rattle.std.specs.List.{All, Any};
+ghost use Rattle.rules.specs.Database.{ForOthers, HasRecord, HasSoundFlag, IsEssential, IsInstalled, IsPresent, IsRemoved, SomeOther, Stands, pkg_of};
+ghost use Rattle.rules.specs.Package.{MatchesSome};
+ghost use Rattle.rules.specs.Remove.{IsNotNeeded, ManagesWithout, NeedsNot};
+
+use crate::matching::{is_same, matches_some};
+use relation::{Clause, Pkg};
+use status::PackageRecord;
+
+fn is_present_and_sound(found: &PackageRecord<'_, '_>, name: &[u8]) -> bool
+    ensures { IsTrue result ↔ ((found.now.name ≡ name.now) × (IsPresent found.now × HasSoundFlag found.now)) }
+{
+    is_same(found.name(), name) && found.state().is_present() && found.flag().is_sound()
+}
+
+/// Whether the name is present with flag ok. Linear in the records.
+pub fn can_be_removed(db: &[PackageRecord<'_, '_>], name: &[u8]) -> bool
+    ensures { IsTrue result ↔ HasRecord (λ found. IsPresent found × HasSoundFlag found) name.now db.now }
+{
+    db.iter().any(|found| is_present_and_sound(found, name))
+}
+
+fn is_essential_name(found: &PackageRecord<'_, '_>, name: &[u8]) -> bool
+    ensures { IsTrue result ↔ ((found.now.name ≡ name.now) × IsEssential found.now) }
+{
+    is_same(found.name(), name) && found.is_essential()
+}
+
+/// Whether the name is essential. Linear in the records.
+pub fn is_essential(db: &[PackageRecord<'_, '_>], name: &[u8]) -> bool
+    ensures { IsTrue result ↔ HasRecord IsEssential name.now db.now }
+{
+    db.iter().any(|found| is_essential_name(found, name))
+}
+
+fn is_installed_name(found: &PackageRecord<'_, '_>, name: &[u8]) -> bool
+    ensures { IsTrue result ↔ ((found.now.name ≡ name.now) × IsInstalled found.now) }
+{
+    is_same(found.name(), name) && found.state().is_installed()
+}
+
+/// Whether the name is installed. Linear in the records.
+pub fn is_installed(db: &[PackageRecord<'_, '_>], name: &[u8]) -> bool
+    ensures { IsTrue result ↔ HasRecord IsInstalled name.now db.now }
+{
+    db.iter().any(|found| is_installed_name(found, name))
+}
+
+fn is_removed_name(found: &PackageRecord<'_, '_>, name: &[u8]) -> bool
+    ensures { IsTrue result ↔ ((found.now.name ≡ name.now) × IsRemoved found.now) }
+{
+    is_same(found.name(), name) && found.state().is_removed()
+}
+
+/// Whether configuration files alone are left of the name. Linear in the records.
+pub fn is_removed(db: &[PackageRecord<'_, '_>], name: &[u8]) -> bool
+    ensures { IsTrue result ↔ HasRecord IsRemoved name.now db.now }
+{
+    db.iter().any(|found| is_removed_name(found, name))
+}
+
+// Whether the record is of another name, stands and matches the clause.
+fn stands_in(other: &PackageRecord<'_, '_>, name: &[u8], clause: &Clause<'_>) -> bool
+    ensures { IsTrue result ↔ ((other.now.name ≢ name.now)
+        × (Stands other.now × MatchesSome (pkg_of other.now) clause.now)) }
+{
+    match other.present_pkg() {
+        Some(there) => {
+            !is_same(other.name(), name) && other.stands() && matches_some(there, clause.as_slice())
+        }
+        None => false,
+    }
+}
+
+fn some_stands_in(db: &[PackageRecord<'_, '_>], name: &[u8], clause: &Clause<'_>) -> bool
+    ensures { IsTrue result
+        ↔ SomeOther (λ other. Stands other × MatchesSome (pkg_of other) clause.now) name.now db.now }
+{
+    db.iter().any(|other| stands_in(other, name, clause))
+}
+
+// Whether the clause, if the package to be removed matches it, is matched by another that stands.
+#[tactic(auto, unfolding(rules::specs::Remove::ManagesWithout))]
+fn manages_without(
+    db: &[PackageRecord<'_, '_>],
+    removed: &PackageRecord<'_, '_>,
+    there: &Pkg<'_>,
+    clause: &Clause<'_>,
+) -> bool
+    requires { there.now ≡ pkg_of removed.now }
+    ensures { IsTrue result ↔ ManagesWithout db.now removed.now clause.now }
+{
+    !matches_some(there, clause.as_slice()) || some_stands_in(db, removed.name(), clause)
+}
