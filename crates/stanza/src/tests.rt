@@ -43,6 +43,16 @@ fn assert_rows<R: Abort + AllocGlobal>(rt: &R, rows: &[(&str, bool, &str)]) -> R
 }
 
 #[test]
+fn the_example_of_the_readme(rt: HostRuntime) -> Result<(), Fail> {
+    let text = b"Package: hello\nDepends: libc6\n\nPackage: world\n";
+    for item in Stanzas::new(text) {
+        let stanza = item?;
+        assert!(rt; stanza.get(b"package").is_some());
+    }
+    Ok(())
+}
+
+#[test]
 fn stanzas_are_the_lines_between_separators(rt: HostRuntime) -> Result<(), Fail> {
     assert_rows(
         &rt,
@@ -169,6 +179,7 @@ fn a_name_is_found_in_any_case_and_the_first_counts(rt: HostRuntime) {
             assert_eq!(rt; stanza.get(b"x"), Some(b"\xff\xfe".as_slice()));
             assert!(rt; stanza.get(b"Version").is_none());
             assert!(rt; stanza.get(b"").is_none());
+            assert_eq!(rt; stanza.again().raw(), stanza.raw());
         }
         _ => panic!(rt; "there is no stanza"),
     }

@@ -36,6 +36,7 @@ impl<'a> Stanzas<'a> {
     /// The plain form: packages, status and their like.
     pub fn new(text: &'a [u8]) -> Stanzas<'a>
         ensures items { result ≡ items_of false text.now }
+        ensures count { length result ≤ length text.now }
     {
         Stanzas {
             rest: text,
@@ -47,6 +48,7 @@ impl<'a> Stanzas<'a> {
     /// The form in which a line that begins with `#` is a comment and `Explanation` may be repeated.
     pub fn with_comments(text: &'a [u8]) -> Stanzas<'a>
         ensures items { result ≡ items_of true text.now }
+        ensures count { length result ≤ length text.now }
     {
         Stanzas {
             rest: text,
