@@ -210,6 +210,10 @@ record Faulty (commented : Bool) (before : List (List ℕ)) (n : ℕ) (lines : L
 different : {fault : StanzaError} → ◌≡◌ {A = Option StanzaError} None (Some fault) → ⊥
 different e = cc
 
+-- the fault of a line at another spelling of its number
+fault-at : (commented : Bool) (before : List (List ℕ)) (m n : ℕ) (line : List ℕ) (fault : StanzaError) → m ≡ n → fault_of commented before m line ≡ Some fault → fault_of commented before n line ≡ Some fault
+fault-at commented before m n line fault same is = subst (λ k. fault_of commented before k line ≡ Some fault) same is
+
 Later : Bool → ℕ → List (List ℕ) → StanzaError → Type 0
 Later commented n lines fault = (before : List (List ℕ)) → lines_fault commented before n lines ≡ Some fault → Faulty commented before n lines fault
 
@@ -225,7 +229,7 @@ faulty-behind commented before n line lines fault recur separator h =
       joined = ap (λ x. line ∷ x) later.joined;
       clean = rw separator later.clean;
       inside = later.inside;
-      here = rw separator (ap (λ k. fault_of commented (last_part [] later.front) k later.line) (sym count) ∙ later.here);
+      here = rw separator (fault-at commented (last_part [] later.front) (n + 1 + length later.front) (n + suc (length later.front)) later.line fault count later.here);
     }
 
 faulty-inside : (commented : Bool) (before : List (List ℕ)) (n : ℕ) (line : List ℕ) (lines : List (List ℕ)) (fault : StanzaError) → Later commented (n + 1) lines fault → is_separator line ≡ false → (first : Option StanzaError) → fault_of commented before n line ≡ first → lines_fault commented before n (line ∷ lines) ≡ Some fault → Faulty commented before n (line ∷ lines) fault
@@ -242,7 +246,7 @@ faulty-inside commented before n line lines fault recur other None is h =
       joined = ap (λ x. line ∷ x) later.joined;
       clean = rw other (ap (λ f. or_then f (lines_fault commented next (n + 1) later.front)) is ∙ later.clean);
       inside = later.inside;
-      here = rw other (ap (λ k. fault_of commented (last_part next later.front) k later.line) (sym count) ∙ later.here);
+      here = rw other (fault-at commented (last_part next later.front) (n + 1 + length later.front) (n + suc (length later.front)) later.line fault count later.here);
     }
 faulty-inside commented before n line lines fault recur other (Some first) is h =
     let same : ◌≡◌ {A = Option StanzaError} (Some first) (Some fault) = ap (λ f. or_then f (lines_fault commented (before ++ line ∷ []) (n + 1) lines)) (sym is) ∙ (rw other at h) in
@@ -253,7 +257,7 @@ faulty-inside commented before n line lines fault recur other (Some first) is h 
       joined = refl;
       clean = refl;
       inside = other;
-      here = ap (λ k. fault_of commented before k line) (add-zero n) ∙ is ∙ same;
+      here = fault-at commented before n (n + 0) line fault (sym (add-zero n)) (is ∙ same);
     }
 
 faulty : (commented : Bool) (before : List (List ℕ)) (n : ℕ) (lines : List (List ℕ)) (fault : StanzaError) → lines_fault commented before n lines ≡ Some fault → Faulty commented before n lines fault

@@ -8,3 +8,5 @@ pub mod FrontLemmas
 pub mod CollectLemmas
 pub mod GroupLemmas
 pub mod FileLemmas
+pub mod AloneLemmas
+mod FileRows

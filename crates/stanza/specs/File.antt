@@ -4,9 +4,9 @@ use Rattle.std.specs.List.{list_any, concat, slice_split, flat_map, AllByRecursi
 use Rattle.stanza.specs.declared.error.StanzaError.{StanzaError}
 use Rattle.stanza.specs.declared.error.StanzaError.TheVariants.{BadLine, BadFieldName, DuplicateField}
 use Rattle.stanza.specs.Line.{lines_of, is_separator, is_comment, is_continuation, begins_field}
-use Rattle.stanza.specs.Field.{FieldText, is_colon, name_of, is_name, same_name, field_of}
+use Rattle.stanza.specs.Field.{FieldText, is_colon, name_of, is_name, same_name, field_of, fields_of, value_named}
 use Rattle.stanza.specs.Fault.{may_repeat}
-use Rattle.stanza.specs.Stanza.{StanzaText, without_last_comments}
+use Rattle.stanza.specs.Stanza.{StanzaText, stanza_of, without_last_comments, items_of}
 
 -- a comment, or a group: the line of a field and its continuations
 pub data Piece : Type 0 where
@@ -100,3 +100,9 @@ pub record IsReading (commented : Bool) (text : List ℕ) (items : List (Result 
   pub file : (stanzas : List StanzaText) → (items ≡ map Ok stanzas) ↔ IsFile commented text stanzas
   pub fault : (fault : StanzaError) → ((stanzas : List StanzaText) × (items ≡ map Ok stanzas ++ Err fault ∷ [])) ↔ IsBad commented text fault
   pub count : length items ≤ length text
+
+-- the bytes of the stanza, read by themselves, are that stanza with its lines counted from 1
+pub record IsAlone (commented : Bool) (stanza : StanzaText) : Type 0 where
+  pub itself : stanza ≡ stanza_of commented stanza.line (lines_of stanza.raw)
+  pub alone : items_of commented stanza.raw ≡ Ok (stanza_of commented 1 (lines_of stanza.raw)) ∷ []
+  pub values : (name : List ℕ) → value_named name (fields_of commented 1 (lines_of stanza.raw)) ≡ value_named name stanza.fields
