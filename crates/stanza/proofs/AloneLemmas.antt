@@ -247,6 +247,7 @@ value_named-number commented n m (line ∷ lines) name = elim (cases_Bool (begin
 ]
 
 IsAlone-from : (commented : Bool) (stanza : StanzaText) → Alone commented stanza → IsAlone commented stanza
+unfolding items_of
 IsAlone-from commented stanza a =
     let raw : stanza.raw ≡ concat a.lines = ap (λ (s : StanzaText). s.raw) a.is in
     let lines : lines_of stanza.raw ≡ a.lines = ap lines_of raw ∙ lines_of-concat a.lines a.are in
@@ -261,6 +262,7 @@ IsAlone-from commented stanza a =
     }
 
 pub items_of-IsAlone : (commented : Bool) (text : List ℕ) (stanza : StanzaText) → Contains (items_of commented text) (Ok stanza) → IsAlone commented stanza
+unfolding items_of
 items_of-IsAlone commented text stanza has =
     let found = origin commented stanza 1 (slice_split is_separator (lines_of text)) (split-parts (lines_of text) (AreLines-lines_of text)) has in
     IsAlone-from commented stanza (alone-in commented stanza found.n found.part found.is_part found.clean found.is)

@@ -210,6 +210,10 @@ record Faulty (commented : Bool) (before : List (List ℕ)) (n : ℕ) (lines : L
 different : {fault : StanzaError} → ◌≡◌ {A = Option StanzaError} None (Some fault) → ⊥
 different e = cc
 
+-- one more line in front
+cons-joined : (first : List ℕ) (lines front : List (List ℕ)) (line : List ℕ) (after : List (List ℕ)) → lines ≡ front ++ line ∷ after → first ∷ lines ≡ (first ∷ front) ++ line ∷ after
+cons-joined first lines front line after e = ap (λ x. first ∷ x) e
+
 -- the fault of a line at another spelling of its number
 fault-at : (commented : Bool) (before : List (List ℕ)) (m n : ℕ) (line : List ℕ) (fault : StanzaError) → m ≡ n → fault_of commented before m line ≡ Some fault → fault_of commented before n line ≡ Some fault
 fault-at commented before m n line fault same is = subst (λ k. fault_of commented before k line ≡ Some fault) same is
@@ -226,7 +230,7 @@ faulty-behind commented before n line lines fault recur separator h =
       front = line ∷ later.front;
       line = later.line;
       after = later.after;
-      joined = ap (λ x. line ∷ x) later.joined;
+      joined = cons-joined line lines later.front later.line later.after later.joined;
       clean = rw separator later.clean;
       inside = later.inside;
       here = rw separator (fault-at commented (last_part [] later.front) (n + 1 + length later.front) (n + suc (length later.front)) later.line fault count later.here);
@@ -243,7 +247,7 @@ faulty-inside commented before n line lines fault recur other None is h =
       front = line ∷ later.front;
       line = later.line;
       after = later.after;
-      joined = ap (λ x. line ∷ x) later.joined;
+      joined = cons-joined line lines later.front later.line later.after later.joined;
       clean = rw other (ap (λ f. or_then f (lines_fault commented next (n + 1) later.front)) is ∙ later.clean);
       inside = later.inside;
       here = rw other (fault-at commented (last_part next later.front) (n + 1 + length later.front) (n + suc (length later.front)) later.line fault count later.here);
@@ -382,7 +386,7 @@ length-lines_of (b ∷ bs) = elim (cases_Bool (eqb b 10)) [
 -- ---- all together
 
 pub items_of-IsReading : (commented : Bool) (text : List ℕ) → IsReading commented text (items_of commented text)
-unfolding EndsWith
+unfolding EndsWith items_of
 items_of-IsReading commented text =
     let lines = lines_of text in
     let parts = slice_split is_separator lines in
