@@ -4,7 +4,7 @@ ghost use Rattle.std.specs.Prelude.{◌≡◌, ◌≢◌, ◌↔◌, ◌++◌, I
 ghost use Rattle.std.specs.List.{All, Any};
 ghost use Rattle.rules.specs.Database.{ForOthers, HasRecord, HasSoundFlag, IsEssential, IsInstalled, IsPresent, IsRemoved, SomeOther, Stands, pkg_of};
 ghost use Rattle.rules.specs.Package.{MatchesSome};
-ghost use Rattle.rules.specs.Remove.{IsNotNeeded, ManagesWithout, NeedsNot};
+ghost use Rattle.rules.specs.Remove.{IsExpendable, IsNotNeeded, ManagesWithout, NeedsNot};
 
 use crate::matching::{is_same, matches_some};
 use relation::{Clause, Pkg};
@@ -94,4 +94,70 @@ fn manages_without(
     ensures { IsTrue result ↔ ManagesWithout db.now removed.now clause.now }
 {
     !matches_some(there, clause.as_slice()) || some_stands_in(db, removed.name(), clause)
+}
+
+fn manages_without_all(
+    db: &[PackageRecord<'_, '_>],
+    removed: &PackageRecord<'_, '_>,
+    there: &Pkg<'_>,
+    clauses: &[Clause<'_>],
+) -> bool
+    requires { there.now ≡ pkg_of removed.now }
+    ensures { IsTrue result ↔ All (ManagesWithout db.now removed.now) clauses.now }
+{
+    clauses.iter().all(|clause| manages_without(db, removed, there, clause))
+}
+
+// Whether the other record isn't installed or needs no package of the record to be removed.
+fn needs_not(
+    db: &[PackageRecord<'_, '_>],
+    removed: &PackageRecord<'_, '_>,
+    there: &Pkg<'_>,
+    other: &PackageRecord<'_, '_>,
+) -> bool
+    requires { there.now ≡ pkg_of removed.now }
+    ensures { IsTrue result ↔ NeedsNot db.now removed.now other.now }
+{
+    !other.state().is_installed()
+        || (manages_without_all(db, removed, there, other.pre_depends())
+            && manages_without_all(db, removed, there, other.depends()))
+}
+
+fn is_own_or_needs_not(
+    db: &[PackageRecord<'_, '_>],
+    removed: &PackageRecord<'_, '_>,
+    there: &Pkg<'_>,
+    other: &PackageRecord<'_, '_>,
+) -> bool
+    requires { there.now ≡ pkg_of removed.now }
+    ensures { IsTrue result ↔ (other.now.name ≢ removed.now.name → NeedsNot db.now removed.now other.now) }
+{
+    is_same(other.name(), removed.name()) || needs_not(db, removed, there, other)
+}
+
+// Whether no installed package of another name needs the package of the record.
+#[tactic(auto, unfolding(rules::specs::Remove::IsExpendable))]
+fn is_expendable(db: &[PackageRecord<'_, '_>], removed: &PackageRecord<'_, '_>, there: &Pkg<'_>) -> bool
+    requires { there.now ≡ pkg_of removed.now }
+    ensures { IsTrue result ↔ IsExpendable db.now removed.now }
+{
+    db.iter().all(|other| is_own_or_needs_not(db, removed, there, other))
+}
+
+fn is_other_or_expendable(db: &[PackageRecord<'_, '_>], name: &[u8], removed: &PackageRecord<'_, '_>) -> bool
+    ensures { IsTrue result ↔ (removed.now.name ≡ name.now → IsPresent removed.now → IsExpendable db.now removed.now) }
+{
+    match removed.present_pkg() {
+        None => true,
+        Some(there) => !is_same(removed.name(), name) || is_expendable(db, removed, there),
+    }
+}
+
+/// Whether no installed package of another name needs the present package of this name. Linear in the installed
+/// packages' clauses, for each that the package matches in the records.
+#[tactic(auto, unfolding(rules::specs::Remove::IsNotNeeded))]
+pub fn is_not_needed(db: &[PackageRecord<'_, '_>], name: &[u8]) -> bool
+    ensures { IsTrue result ↔ IsNotNeeded db.now name.now }
+{
+    db.iter().all(|removed| is_other_or_expendable(db, name, removed))
 }

@@ -5,7 +5,7 @@ use Rattle.rules.specs.Configure.{HasConfigurable, IsConfigurable, AreConfigurab
 use Rattle.rules.specs.Database.{Record, HasRecord, ForOthers, SomeOther, ForMembers, IsPresent, IsInstalled, Stands, IsHeld, stands, pkg_of, installed_of}
 use Rattle.rules.specs.Legal.{IsNotHeld}
 use Rattle.rules.specs.Package.{Pkg, Atom, MatchesSome, BreaksOther}
-use Rattle.rules.specs.Remove.{ManagesWithout, NeedsNot, IsNotNeeded}
+use Rattle.rules.specs.Remove.{ManagesWithout, NeedsNot, IsExpendable, IsNotNeeded}
 use Rattle.rules.specs.Sound.{MeetsClauses}
 use Rattle.rules.specs.State.{is_present_state, is_unconfigured_state, is_installed_state, is_sound_flag, is_hold}
 use Rattle.rules.specs.Step.{Listed}
@@ -105,8 +105,8 @@ dec_AreDependsInstalled db names = dec_ForMembers (λ member. MeetsClauses (inst
 
 unfoldable pub dec_IsUnbroken : (db : List Record) (member : Record) → Dec (IsUnbroken db member)
 unfolding IsUnbroken
-dec_IsUnbroken db member = dec_ForOthers (λ other. IsPresent other → ¬ BreaksOther (pkg_of other) (pkg_of member))
-    (λ other. dec_implies (dec_IsTrue (is_present_state other.state)) (dec_not (dec_BreaksOther (pkg_of other) (pkg_of member)))) member.name db
+dec_IsUnbroken db member = dec_implies (dec_IsTrue (is_present_state member.state)) (dec_ForOthers (λ other. IsPresent other → ¬ BreaksOther (pkg_of other) (pkg_of member))
+    (λ other. dec_implies (dec_IsTrue (is_present_state other.state)) (dec_not (dec_BreaksOther (pkg_of other) (pkg_of member)))) member.name db)
 
 unfoldable pub dec_AreUnbroken : (db : List Record) (names : List (List ℕ)) → Dec (AreUnbroken db names)
 unfolding AreUnbroken
@@ -123,7 +123,12 @@ unfolding NeedsNot
 dec_NeedsNot db removed other = dec_implies (dec_IsTrue (is_installed_state other.state))
     (dec_All (ManagesWithout db removed) (dec_ManagesWithout db removed) (other.relations.pre_depends ++ other.relations.depends))
 
+unfoldable pub dec_IsExpendable : (db : List Record) (removed : Record) → Dec (IsExpendable db removed)
+unfolding IsExpendable
+dec_IsExpendable db removed = dec_ForOthers (NeedsNot db removed) (dec_NeedsNot db removed) removed.name db
+
 unfoldable pub dec_IsNotNeeded : (db : List Record) (name : List ℕ) → Dec (IsNotNeeded db name)
 unfolding IsNotNeeded
-dec_IsNotNeeded db name = dec_All (λ removed. removed.name ≡ name → ForOthers (NeedsNot db removed) name db)
-    (λ removed. dec_implies (dec_text removed.name name) (dec_ForOthers (NeedsNot db removed) (dec_NeedsNot db removed) name db)) db
+dec_IsNotNeeded db name = dec_All (λ removed. removed.name ≡ name → IsPresent removed → IsExpendable db removed)
+    (λ removed. dec_implies (dec_text removed.name name)
+      (dec_implies (dec_IsTrue (is_present_state removed.state)) (dec_IsExpendable db removed))) db

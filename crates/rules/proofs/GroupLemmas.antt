@@ -1,14 +1,14 @@
 -- Groups that pass the tests of a configuring: their union, their greatest part, and when none is proper.
-use Rattle.std.proofs.Common.{◌≡◌, ◌≢◌, ℕ, zero, suc, ◌<◌, ◌≤◌, Bool, true, false, not, cond, List, [], ◌∷◌, ◌++◌, length, ◌⊎◌, refl, sym, ap, subst, ◌∙◌, arith, bytes_eq}
+use Rattle.std.proofs.Common.{◌&&◌, ◌≡◌, ◌≢◌, ℕ, zero, suc, ◌<◌, ◌≤◌, Bool, true, false, not, cond, List, [], ◌∷◌, ◌++◌, length, ◌⊎◌, refl, sym, ap, subst, ◌∙◌, arith, bytes_eq}
 use Rattle.std.specs.Prelude.{◌↔◌}
 use Rattle.std.specs.List.{All, Any, Contains, filter}
 use Rattle.std.proofs.lemmas.List.Elements.{All-contains, All-weaker, All-contains_itself, Contains-append_left, Contains-append_right, Contains-append_cases, All-head}
 use Rattle.std.proofs.lemmas.Slice.Eq.{bytes_eq-Decides}
-use Rattle.rules.specs.Configure.{HasConfigurable, IsConfigurable, AreConfigurable, ArePreDependsInstalled, AreDependsInstalled, IsUnbroken, AreUnbroken, GroupPasses, members_of, others_of, IsGreatestPart, IsProperPart, IsIndivisible}
+use Rattle.rules.specs.Configure.{is_present_among, HasConfigurable, IsConfigurable, AreConfigurable, ArePreDependsInstalled, AreDependsInstalled, IsUnbroken, AreUnbroken, GroupPasses, members_of, others_of, IsGreatestPart, IsProperPart, IsIndivisible}
 use Rattle.rules.specs.Database.{Record, HasRecord, ForMembers, pkg_of, installed_of}
 use Rattle.rules.specs.Package.{Pkg, Atom, MatchesSome, MeetsClause}
 use Rattle.rules.specs.Sound.{MeetsClauses}
-use Rattle.rules.specs.State.{is_unconfigured_state, is_sound_flag}
+use Rattle.rules.specs.State.{is_present_state, is_unconfigured_state, is_sound_flag}
 use Rattle.rules.specs.Step.{is_among, is_named}
 use Rattle.rules.proofs.Decided.{dec_IsTrue, dec_and, dec_implies, dec_text, dec_All, dec_like, all_or_some}
 use Rattle.rules.proofs.DecidedPackages.{dec_MeetsClauses}
@@ -31,15 +31,22 @@ unfolding MeetsClauses
 MeetsClauses-more members more within clauses met =
     All-weaker (MeetsClause members) (MeetsClause more) (MeetsClause-more members more within) clauses met
 
+-- both parts of a test that passes
+and_parts : (x y : Bool) → (x && y) ≡ true → (x ≡ true) × (y ≡ true)
+and_parts true y passes = (refl, passes)
+and_parts false y passes = absurd (let e : false ≡ true = passes in cc)
+
 -- the packages of more names are more packages
 pub members_of-more : (db : List Record) (names more : List (List ℕ)) → ((name : List ℕ) → Contains names name → Contains more name)
     → (member : Pkg) → Contains (members_of names db) member → Contains (members_of more db) member
 members_of-more db names more within member there =
-    let from = Contains-map pkg_of (filter (is_among names) db) member there in
-    let kept = Contains-filter (is_among names) db from.0 from.1 in
-    let among : is_among more from.0 ≡ true = is_among-contains more from.0 (within from.0.name (contains-is_among names from.0 kept.1)) in
+    let from = Contains-map pkg_of (filter (is_present_among names) db) member there in
+    let kept = Contains-filter (is_present_among names) db from.0 from.1 in
+    let both = and_parts (is_present_state from.0.state) (is_among names from.0) kept.1 in
+    let among : is_among more from.0 ≡ true = is_among-contains more from.0 (within from.0.name (contains-is_among names from.0 both.1)) in
+    let passes : is_present_among more from.0 ≡ true = rw (both.0, among) refl in
     subst (Contains (members_of more db)) from.2
-    (Contains-map_intro pkg_of (filter (is_among more) db) from.0 (Contains-filter_intro (is_among more) db from.0 kept.0 among))
+        (Contains-map_intro pkg_of (filter (is_present_among more) db) from.0 (Contains-filter_intro (is_present_among more) db from.0 kept.0 passes))
 
 -- the members of a group and the installed packages, of more names
 pub available-more : (db : List Record) (names more : List (List ℕ)) → ((name : List ℕ) → Contains names name → Contains more name)

@@ -1,18 +1,23 @@
 -- What a group of packages needs to be configured together (Policy 7.2 and 7.3).
-use Rattle.std.specs.Prelude.{ℕ, ◌<◌, not, List, ◌++◌, map, length, bytes_eq}
+use Rattle.std.specs.Prelude.{ℕ, ◌<◌, not, List, ◌++◌, map, length, bytes_eq, Bool, ◌&&◌}
 use Rattle.std.specs.List.{Any, All, Contains, filter}
 use Rattle.rules.specs.Database.{Record, HasRecord, IsPresent, IsUnconfigured, HasSoundFlag, ForOthers, ForMembers, pkg_of, installed_of}
 use Rattle.rules.specs.Package.{Pkg, BreaksOther}
 use Rattle.rules.specs.Sound.{MeetsClauses}
+use Rattle.rules.specs.State.{is_present_state}
 use Rattle.rules.specs.Step.{is_among}
 
 -- the record may be configured: unpacked or half-configured, with flag ok
 abbrev pub IsConfigurable : Record → Type 0
 IsConfigurable found = IsUnconfigured found × HasSoundFlag found
 
--- the packages of these names
+-- the record is present and of one of the names, as a test
+abbrev pub is_present_among : List (List ℕ) → Record → Bool
+is_present_among names found = is_present_state found.state && is_among names found
+
+-- the present packages of these names
 abbrev pub members_of : List (List ℕ) → List Record → List Pkg
-members_of names db = map pkg_of (filter (is_among names) db)
+members_of names db = map pkg_of (filter (is_present_among names) db)
 
 -- the name has a record that may be configured
 unfoldable pub HasConfigurable : List Record → List ℕ → Type 0
@@ -32,9 +37,9 @@ unfoldable pub AreDependsInstalled : List Record → List (List ℕ) → Type 0
 AreDependsInstalled db names =
     ForMembers (λ member. MeetsClauses (installed_of db ++ members_of names db) member.relations.depends) names db
 
--- no present package of another name breaks the member (Policy 7.3)
+-- no present package of another name breaks the member, if it is present (Policy 7.3)
 unfoldable pub IsUnbroken : List Record → Record → Type 0
-IsUnbroken db member = ForOthers (λ other. IsPresent other → ¬ BreaksOther (pkg_of other) (pkg_of member)) member.name db
+IsUnbroken db member = IsPresent member → ForOthers (λ other. IsPresent other → ¬ BreaksOther (pkg_of other) (pkg_of member)) member.name db
 
 -- no member is broken
 unfoldable pub AreUnbroken : List Record → List (List ℕ) → Type 0

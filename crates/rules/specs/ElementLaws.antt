@@ -135,3 +135,8 @@ Any-append_left P xs ys some = Any-elim P xs (Any P (xs ++ ys))
 pub Any-append_right : {X : Type 0} (P : X → Type 0) (xs ys : List X) → Any P ys → Any P (xs ++ ys)
 Any-append_right P xs ys some = Any-elim P ys (Any P (xs ++ ys))
     (λ x within holds. Any-intro P (xs ++ ys) x (Contains-append_right xs ys x within) holds) some
+
+-- what holds of each element of two lists in a row
+pub All-parts : {X : Type 0} (P : X → Type 0) (xs ys : List X) → All P (xs ++ ys) → All P xs × All P ys
+All-parts P xs ys all = (All-intro P xs (λ x within. All-contains P (xs ++ ys) x all (Contains-append_left xs ys x within)),
+    All-intro P ys (λ y within. All-contains P (xs ++ ys) y all (Contains-append_right xs ys y within)))

@@ -1,7 +1,7 @@
 -- What a package needs to be removed: that no other needs it (Policy 7.2).
 use Rattle.std.specs.Prelude.{◌≡◌, ℕ, List, ◌++◌}
 use Rattle.std.specs.List.{All}
-use Rattle.rules.specs.Database.{Record, IsInstalled, Stands, ForOthers, SomeOther, pkg_of}
+use Rattle.rules.specs.Database.{Record, IsPresent, IsInstalled, Stands, ForOthers, SomeOther, pkg_of}
 use Rattle.rules.specs.Package.{Atom, MatchesSome}
 
 -- the clause, if the package to be removed matches it, is matched by a package of another name that stands
@@ -14,6 +14,10 @@ unfoldable pub NeedsNot : List Record → Record → Record → Type 0
 NeedsNot db removed other = IsInstalled other
     → All (ManagesWithout db removed) (other.relations.pre_depends ++ other.relations.depends)
 
--- no installed package of another name needs the package of this name (Policy 7.2)
+-- no installed package of another name needs the package of the record
+unfoldable pub IsExpendable : List Record → Record → Type 0
+IsExpendable db removed = ForOthers (NeedsNot db removed) removed.name db
+
+-- no installed package of another name needs the present package of this name (Policy 7.2)
 unfoldable pub IsNotNeeded : List Record → List ℕ → Type 0
-IsNotNeeded db name = All (λ removed. removed.name ≡ name → ForOthers (NeedsNot db removed) name db) db
+IsNotNeeded db name = All (λ removed. removed.name ≡ name → IsPresent removed → IsExpendable db removed) db
