@@ -1,5 +1,3 @@
 pub mod Cuts
-pub mod DigitValues
-pub mod NumeralLemmas
 pub mod Pieces
 pub mod Skips

@@ -5,6 +5,7 @@
 
 mod compare;
 mod error;
+mod feed;
 mod parse;
 mod version;
 

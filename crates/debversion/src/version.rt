@@ -6,12 +6,16 @@ ghost use Rattle.std.specs.Ordering.{as_partial_cmp, eq_by_cmp, ordering_then};
 ghost use Rattle.rules.specs.Version.{is_met, part_cmp, revision_of, upstream_of, version_cmp};
 ghost use Rattle.rules.specs.VersionOrderLaws.{version_cmp_total};
 ghost use Rattle.debversion.specs.Fault.{first_fault};
+ghost use Rattle.debversion.specs.HashInput.{version_input};
+ghost use Rattle.debversion.specs.HashLaws.{version_input-alike};
 
 use crate::compare::part_cmp;
 use crate::error::BadVersion;
+use crate::feed::feed_part;
 use crate::parse::{split_epoch, split_revision};
 use rules::Op;
 use std::cmp::Ordering;
+use std::hash::{Hash, Hasher};
 use std::marker::Model;
 
 /// A version of a package, `[epoch:]upstream[-revision]` (Policy 5.6.12), over the caller's text.
@@ -132,5 +136,18 @@ impl Ord for Version<'_> {
             Ordering::Equal => self.rest_cmp(other),
             decided => decided,
         }
+    }
+}
+
+impl Hash for Version<'_> {
+    ghost hash_input = { version_input };
+
+    ghost respects_eq = { version_input-alike.fed };
+
+    #[tactic(auto, unfolding(crate::specs::HashInput::version_input))]
+    fn hash<H: Hasher>(&self, state: &mut H) {
+        self.epoch.hash(state);
+        feed_part(self.upstream, state);
+        feed_part(self.revision, state);
     }
 }

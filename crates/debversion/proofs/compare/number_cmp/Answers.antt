@@ -1,5 +1,5 @@
 use Rattle.std.proofs.Common.{rules, ◌∙◌}
-use Rattle.debversion.proofs.NumeralLemmas.{number_cmp-without_zeros}
+use Rattle.debversion.specs.NumeralLaws.{number_cmp-without_zeros}
 use Rattle.debversion.proofs.compare.number_cmp.Goals as goal
 
 pub returns : goal.returns

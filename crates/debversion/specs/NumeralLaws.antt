@@ -12,7 +12,7 @@ use Rattle.std.specs.Str.Parse.{AllDigits, digits_value, digits_value_after}
 use Rattle.std.specs.declared.cmp.Ordering.{Ordering}
 use Rattle.std.specs.declared.cmp.Ordering.TheVariants.{Less, Equal, Greater}
 use Rattle.rules.specs.Version.{number_cmp}
-use Rattle.debversion.proofs.DigitValues.{digit-greatest, digit-least, digit_value-digit}
+use Rattle.debversion.specs.DigitLaws.{digit-greatest, digit-least, digit_value-digit}
 use Rattle.debversion.specs.Zeros.{is_zero, without_zeros}
 
 -- what holds of each element holds of the first, and of the others
