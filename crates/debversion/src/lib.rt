@@ -7,6 +7,8 @@ mod compare;
 mod error;
 mod feed;
 mod parse;
+#[cfg(test)]
+mod tests;
 mod version;
 
 pub use error::BadVersion;
