@@ -3,15 +3,9 @@ use Rattle.std.proofs.Common.{◌≡◌, ℕ, zero, suc, ◌-◌, ◌<◌, ◌�
 use Rattle.std.proofs.lemmas.List.{take-append-drop}
 use Rattle.std.proofs.Math.Seq.{take-suc}
 use Rattle.std.specs.Char.{is_ascii_digit}
+use Rattle.debversion.proofs.Cuts.{cut-behind}
 use Rattle.rules.specs.Version.{part_cmp}
 use Rattle.rules.specs.VersionSharedLaws.{part_cmp-shared}
-
--- a part, cut behind one of its bytes
-cut-behind : (n : ℕ) (part : List ℕ) → n < length part → part ≡ take n part ++ get_or part n 0 ∷ drop (suc n) part
-cut-behind n part h =
-    sym (take-append-drop (suc n) part)
-    ∙ ap (λ (front : List ℕ). front ++ drop (suc n) part) (take-suc part n 0 h)
-    ∙ append_assoc (take n part) (get_or part n 0 ∷ []) (drop (suc n) part)
 
 pub part_cmp-skip : (n : ℕ) (a b : List ℕ) → n ≤ length a → n ≤ length b → take n a ≡ take n b
     → (0 < n → is_ascii_digit (get_or a (n - 1) 0) ≡ false) → part_cmp a b ≡ part_cmp (drop n a) (drop n b)

@@ -1,4 +1,5 @@
 pub mod Fault
+pub mod Spelling
 pub mod Parts
 pub mod Weight
 pub mod Zeros
