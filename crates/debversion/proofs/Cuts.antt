@@ -24,8 +24,8 @@ after-count : (test : ℕ → Bool) (bytes : List ℕ) (i : ℕ) → IsLastAt te
 after-count test bytes i at =
     let within = at.within in
     suffix_len_is (λ b. not (test b)) bytes (i + 1) 0 (omega arith)
-      (λ k low high. not_from_false _ (at.last k (omega arith) high))
-      (λ some. let here : i + 1 - 1 ≡ i = omega arith in rw here (not_from_true _ at.passes))
+    (λ k low high. not_from_false _ (at.last k (omega arith) high))
+    (λ some. let here : i + 1 - 1 ≡ i = omega arith in rw here (not_from_true _ at.passes))
 
 pub before_last-at : (test : ℕ → Bool) (bytes : List ℕ) (i : ℕ) → IsLastAt test bytes i → before_last test bytes ≡ take i bytes
 before_last-at test bytes i at =

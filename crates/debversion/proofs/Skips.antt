@@ -17,9 +17,9 @@ part_cmp-skip (suc n) a b ha hb same behind =
     let front = take-suc a n 0 inside in
     let left : a ≡ take n a ++ get_or a n 0 ∷ drop (suc n) a = cut-behind n a inside in
     let right : b ≡ take n a ++ get_or a n 0 ∷ drop (suc n) b =
-        sym (take-append-drop (suc n) b)
-        ∙ ap (λ (front : List ℕ). front ++ drop (suc n) b) (sym same ∙ front)
-        ∙ append_assoc (take n a) (get_or a n 0 ∷ []) (drop (suc n) b) in
+    sym (take-append-drop (suc n) b)
+    ∙ ap (λ (front : List ℕ). front ++ drop (suc n) b) (sym same ∙ front)
+    ∙ append_assoc (take n a) (get_or a n 0 ∷ []) (drop (suc n) b) in
     ap (λ (part : List ℕ). part_cmp part b) left
     ∙ ap (part_cmp (take n a ++ get_or a n 0 ∷ drop (suc n) a)) right
     ∙ part_cmp-shared (take n a) (get_or a n 0) (drop (suc n) a) (drop (suc n) b) byte

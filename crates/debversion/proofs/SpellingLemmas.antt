@@ -96,7 +96,7 @@ first-within test bytes some = elim (cases_lt (position_or_len test bytes) (leng
   | inl within ↦ within
   | inr past ↦
       absurd (both_ways (list_any test bytes)
-        (list_any-nowhere test bytes (λ k h. fails_before_first test bytes k 0 (omega arith))) some)
+      (list_any-nowhere test bytes (λ k h. fails_before_first test bytes k 0 (omega arith))) some)
 ]
 
 -- a chain of two faults without one
@@ -146,8 +146,8 @@ hyphen-cut rest some =
     let at = found.1 in
     let byte : get_or rest i 0 ≡ 45 = eqb-true (get_or rest i 0) 45 at.passes in
     rw some
-      (cut-behind i rest at.within
-       ∙ λ j. sym (before_last-at is_hyphen rest i at) j ++ byte j ∷ (ap (λ n. drop n rest) (sym (add-one i)) ∙ sym (after_last-at is_hyphen rest i at)) j)
+    (cut-behind i rest at.within
+    ∙ λ j. sym (before_last-at is_hyphen rest i at) j ++ byte j ∷ (ap (λ n. drop n rest) (sym (add-one i)) ∙ sym (after_last-at is_hyphen rest i at)) j)
 
 -- the second of two tests is what fails
 second_fails : (x y : Bool) → x ≡ true → (x && y) ≡ false → y ≡ false
@@ -201,8 +201,8 @@ faultless-known : (rest u r : List ℕ) → before_revision rest ≡ u → after
     → rest_fault rest ≡ None
 faultless-known rest u r eu er some some_u some_r bytes_u bytes_r =
     (λ i. cond (is_nothing (eu i)) (Some EmptyUpstream)
-      (cond (some i && is_nothing (er i)) (Some EmptyRevision)
-        (cond (not (list_all is_upstream_byte (eu i) && list_all is_revision_byte (er i))) (Some BadByte) None)))
+    (cond (some i && is_nothing (er i)) (Some EmptyRevision)
+    (cond (not (list_all is_upstream_byte (eu i) && list_all is_revision_byte (er i))) (Some BadByte) None)))
     ∙ rw (some_u, some_r, bytes_u, bytes_r) refl
 
 -- a spelled rest has no fault
@@ -279,7 +279,7 @@ no_colon_in (Some epoch) rest upstream revision e none = tt
 no_colon_in None rest upstream None e none = ap (list_any is_colon) (sym e) ∙ none
 no_colon_in None rest upstream (Some revision) e none =
     (or_parts (list_any is_colon upstream) (list_any is_colon (45 ∷ revision))
-      (sym (list_any-append is_colon upstream (45 ∷ revision)) ∙ ap (list_any is_colon) (sym e) ∙ none)).0
+    (sym (list_any-append is_colon upstream (45 ∷ revision)) ∙ ap (list_any is_colon) (sym e) ∙ none)).0
 
 -- a text without fault is spelled
 spelled_from : (text : List ℕ) → text_epoch_fault text ≡ None → rest_fault (after_epoch text) ≡ None → IsSpelled text

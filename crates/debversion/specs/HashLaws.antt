@@ -1,21 +1,20 @@
 -- Texts of one version feed a hasher alike: the law of `Hash`.
-use Rattle.std.proofs.Common.{◌≡◌, ℕ, zero, suc, ◌+◌, ◌<◌, ◌≤◌, true, false, List, [], ◌∷◌, ◌++◌, length, map, get_or, refl, sym, ap, ◌∙◌, arith, inl, inr}
-use Rattle.std.proofs.lemmas.Bool.{and_parts, cases_Bool, eqb-true, leb-true, or_cases}
-use Rattle.std.proofs.lemmas.List.{append_cancel_right}
-use Rattle.std.specs.Char.{is_ascii_alphabetic, is_ascii_digit}
+use Rattle.std.proofs.Common.{◌≡◌, ℕ, zero, suc, ◌+◌, ◌<◌, ◌≤◌, true, false, List, [], ◌∷◌, ◌++◌, length, get_or, refl, sym, ap, ◌∙◌, arith, inl, inr}
+use Rattle.std.proofs.lemmas.Bool.{cases_Bool}
+use Rattle.std.specs.Char.{is_ascii_digit}
 use Rattle.std.specs.Cmp.{Equal-is}
 use Rattle.std.specs.FinMap.{nat_cmp-IsAntisymmetric, slice_cmp-IsAntisymmetric}
 use Rattle.std.specs.Hash.{Alike, u32}
-use Rattle.std.specs.Int.{is_in_range}
 use Rattle.std.specs.List.{AllPass, flat_map}
 use Rattle.std.specs.Ordering.{eq_by_cmp, nat_cmp, ordering_then}
 use Rattle.std.specs.Str.Parse.{digits_value}
 use Rattle.std.specs.declared.cmp.Ordering.TheVariants.{Equal}
-use Rattle.rules.specs.Version.{Piece, empty_piece, end_weight, epoch_of, is_tilde, number_cmp, onto_number, onto_piece, onto_word, part_cmp, piece_cmp, pieces_cmp, pieces_of, revision_of, upstream_of, version_cmp, weight_of, word_cmp}
+use Rattle.rules.specs.Version.{Piece, empty_piece, epoch_of, number_cmp, onto_number, onto_piece, onto_word, part_cmp, piece_cmp, pieces_cmp, pieces_of, revision_of, upstream_of, version_cmp}
 use Rattle.rules.specs.VersionOrderLaws.{version_cmp-parts}
 use Rattle.rules.specs.VersionPieceLaws.{then-first, then-second}
 use Rattle.debversion.specs.HashInput.{part_input, piece_input, version_input}
 use Rattle.debversion.specs.NumeralLaws.{number_cmp-without_zeros}
+use Rattle.debversion.specs.WeightLaws.{word-tied}
 use Rattle.debversion.specs.Zeros.{without_zeros}
 
 -- numerals of one value are the same without their zeros
@@ -23,58 +22,7 @@ without_zeros-tied : (a b : List ℕ) → AllPass is_ascii_digit a → AllPass i
     → without_zeros a ≡ without_zeros b
 without_zeros-tied a b all_a all_b tied =
     slice_cmp-IsAntisymmetric nat_cmp-IsAntisymmetric (without_zeros a) (without_zeros b)
-      (then-second _ _ (number_cmp-without_zeros a b all_a all_b ∙ tied))
-
-letters-le : (b : ℕ) → is_ascii_alphabetic b ≡ true → b ≤ 122
-letters-le b h = elim (or_cases (is_in_range 65 90 b) (is_in_range 97 122 b) h) [
-  | inl capital ↦ omega (arith, leb-true b 90 (and_parts _ _ capital).1)
-  | inr small ↦ leb-true b 122 (and_parts _ _ small).1
-]
-
--- what the weight of a byte is
-data Weighs (b : ℕ) : Type 0 where
-  as_tilde : b ≡ 126 → weight_of b ≡ 0 → Weighs b
-  as_letter : b ≤ 122 → weight_of b ≡ 2 + b → Weighs b
-  as_other : weight_of b ≡ 258 + b → Weighs b
-
-weighs : (b : ℕ) → Weighs b
-weighs b = elim (cases_Bool (is_tilde b)) [
-  | inl tilde ↦ as_tilde (eqb-true b 126 tilde) (rw tilde refl)
-  | inr no_tilde ↦ elim (cases_Bool (is_ascii_alphabetic b)) [
-    | inl letter ↦ as_letter (letters-le b letter) (rw (no_tilde, letter) refl)
-    | inr no_letter ↦ as_other (rw (no_tilde, no_letter) refl)
-  ]
-]
-
-weights-told : (b c : ℕ) → Weighs b → Weighs c → weight_of b ≡ weight_of c → b ≡ c
-weights-told b c (as_tilde p q) (as_tilde r s) e = omega arith
-weights-told b c (as_tilde p q) (as_letter r s) e = absurd (omega arith)
-weights-told b c (as_tilde p q) (as_other r) e = absurd (omega arith)
-weights-told b c (as_letter p q) (as_tilde r s) e = absurd (omega arith)
-weights-told b c (as_letter p q) (as_letter r s) e = omega arith
-weights-told b c (as_letter p q) (as_other r) e = absurd (omega arith)
-weights-told b c (as_other p) (as_tilde r s) e = absurd (omega arith)
-weights-told b c (as_other p) (as_letter r s) e = absurd (omega arith)
-weights-told b c (as_other p) (as_other r) e = omega arith
-
--- no two bytes weigh the same
-weight_of-same : (b c : ℕ) → weight_of b ≡ weight_of c → b ≡ c
-weight_of-same b c e = weights-told b c (weighs b) (weighs c) e
-
-weights-same : (u w : List ℕ) → map weight_of u ≡ map weight_of w → u ≡ w
-weights-same [] [] e = refl
-weights-same [] (c ∷ w) e = cc e
-weights-same (b ∷ u) [] e = cc e
-weights-same (b ∷ u) (c ∷ w) e =
-    let first : weight_of b ≡ weight_of c = cc e in
-    let rest : map weight_of u ≡ map weight_of w = cc e in
-    λ i. weight_of-same b c first i ∷ weights-same u w rest i
-
--- words that tie are the same
-word-tied : (u w : List ℕ) → word_cmp u w ≡ Equal → u ≡ w
-word-tied u w tied =
-    weights-same u w (append_cancel_right (map weight_of u) (map weight_of w) (end_weight ∷ [])
-      (slice_cmp-IsAntisymmetric nat_cmp-IsAntisymmetric _ _ tied))
+    (then-second _ _ (number_cmp-without_zeros a b all_a all_b ∙ tied))
 
 -- the pieces' numbers are written in digits
 abbrev HasNumerals : List Piece → Type 0
@@ -145,8 +93,8 @@ version_input-tied v w tied =
     let rest = then-second e (ordering_then u r) parts in
     let epoch = nat_cmp-IsAntisymmetric _ _ (then-first e (ordering_then u r) parts) in
     λ i. u32 (epoch i)
-      ++ (part_input-tied (upstream_of v) (upstream_of w) (then-first u r rest) i
-          ++ part_input-tied (revision_of v) (revision_of w) (then-second u r rest) i)
+    ++ (part_input-tied (upstream_of v) (upstream_of w) (then-first u r rest) i
+    ++ part_input-tied (revision_of v) (revision_of w) (then-second u r rest) i)
 
 pub version_input-alike : Alike (eq_by_cmp version_cmp) version_input
 version_input-alike = record { fed = λ v w same. version_input-tied v w ((Equal-is (version_cmp v w)).0 same) }

@@ -6,4 +6,5 @@ pub mod Zeros
 pub mod HashInput
 pub mod DigitLaws
 pub mod NumeralLaws
+pub mod WeightLaws
 pub mod HashLaws

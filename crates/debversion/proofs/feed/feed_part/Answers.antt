@@ -14,4 +14,4 @@ loop-rest-preserved g c =
     let some : 0 < length c.loop-rest.rest.now = search rules in
     ap (λ s. fold g.H.Hasher.write s (part_input c.feed_piece-rest.result.now)) c.feed_piece-rest.ensures.fed
     ∙ rw c.feed_piece-rest.ensures.rest
-        (sym (fed-step g.H.Hasher.write c.loop-rest.state c.loop-rest.rest.now some) ∙ c.loop-rest.invariant)
+    (sym (fed-step g.H.Hasher.write c.loop-rest.state c.loop-rest.rest.now some) ∙ c.loop-rest.invariant)
