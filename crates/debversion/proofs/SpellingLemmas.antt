@@ -1,15 +1,15 @@
 -- A text has no fault exactly where it is spelled as a version.
-use Rattle.std.proofs.Common.{◌≡◌, ℕ, zero, suc, ◌+◌, ◌-◌, ◌<◌, ◌≤◌, Bool, true, false, not, ◌&&◌, Option, Some, None, List, [], ◌∷◌, ◌++◌, length, take, drop, get_or, refl, sym, ap, ◌∙◌, arith, inl, inr, IfSome, IfNone, nat_lt, cond, one-add, add-one, ◌==◌}
-use Rattle.std.proofs.lemmas.Bool.{and_from, and_parts, both_ways, cases_Bool, cases_lt, eqb-true, false≢true, le-ltb, ltb-false, ne_eqb, not-false, not-true, or_cases, or_from, or_parts, or_right}
-use Rattle.std.proofs.lemmas.List.{length-append, take-append-drop}
+use Rattle.std.proofs.Common.{◌≡◌, ℕ, zero, suc, ◌+◌, ◌<◌, ◌≤◌, Bool, true, false, not, ◌&&◌, Option, Some, None, List, [], ◌∷◌, ◌++◌, length, drop, get_or, refl, sym, ap, ◌∙◌, arith, inl, inr, IfSome, IfNone, nat_lt, cond, one-add, add-one, ◌==◌}
+use Rattle.std.proofs.lemmas.Bool.{and_parts, both_ways, cases_Bool, cases_lt, eqb-true, false≢true, le-ltb, ltb-false, ne_eqb, not-false, not-true, or_cases, or_from, or_parts, or_right}
+use Rattle.std.proofs.lemmas.List.{length-append}
 use Rattle.std.proofs.lemmas.List.Folds.{list_any-append}
 use Rattle.std.proofs.lemmas.List.Sums.{AllPass-from_list_all, fails_before_first, list_all-from_AllPass, passes_at_first, split_at_first}
-use Rattle.std.proofs.Math.Seq.{drop-cons, take-append_seam}
-use Rattle.std.specs.Char.{is_ascii_alphanumeric, is_ascii_digit}
+use Rattle.std.proofs.Math.Seq.{take-append_seam}
+use Rattle.std.specs.Char.{is_ascii_digit}
 use Rattle.std.specs.List.{AllPass, after_first, after_last, before_first, before_last, list_all, list_any, position_or_len}
 use Rattle.std.specs.Option.{option_or}
 use Rattle.std.specs.Str.Parse.{digits_value}
-use Rattle.rules.specs.Version.{after_epoch, after_upstream, before_revision, epoch_of, is_colon, is_hyphen, is_tilde}
+use Rattle.rules.specs.Version.{after_epoch, after_upstream, before_revision, epoch_of, is_colon, is_hyphen}
 use Rattle.debversion.proofs.Cuts.{after_last-at, before_last-at, cut-behind, cut-behind, list_any-at_last, list_any-nowhere}
 use Rattle.debversion.specs.Fault.{epoch_fault, first_fault, greatest_epoch, has_empty_revision, has_good_bytes, is_nothing, is_numeral, is_revision_byte, is_upstream_byte, rest_fault, text_epoch_fault}
 use Rattle.debversion.specs.Parts.{IsLastAt}

@@ -1,13 +1,12 @@
 -- Texts of one version feed a hasher alike: the law of `Hash`.
-use Rattle.std.proofs.Common.{◌≡◌, ℕ, zero, suc, ◌+◌, ◌<◌, ◌≤◌, true, false, List, [], ◌∷◌, ◌++◌, length, get_or, refl, sym, ap, ◌∙◌, arith, inl, inr}
+use Rattle.std.proofs.Common.{◌≡◌, ℕ, zero, suc, ◌<◌, true, List, [], ◌∷◌, ◌++◌, length, get_or, refl, sym, ◌∙◌, arith, inl, inr}
 use Rattle.std.proofs.lemmas.Bool.{cases_Bool}
 use Rattle.std.specs.Char.{is_ascii_digit}
 use Rattle.std.specs.Cmp.{Equal-is}
 use Rattle.std.specs.FinMap.{nat_cmp-IsAntisymmetric, slice_cmp-IsAntisymmetric}
 use Rattle.std.specs.Hash.{Alike, u32}
 use Rattle.std.specs.List.{AllPass, flat_map}
-use Rattle.std.specs.Ordering.{eq_by_cmp, nat_cmp, ordering_then}
-use Rattle.std.specs.Str.Parse.{digits_value}
+use Rattle.std.specs.Ordering.{eq_by_cmp, ordering_then}
 use Rattle.std.specs.declared.cmp.Ordering.TheVariants.{Equal}
 use Rattle.rules.specs.Version.{Piece, empty_piece, epoch_of, number_cmp, onto_number, onto_piece, onto_word, part_cmp, piece_cmp, pieces_cmp, pieces_of, revision_of, upstream_of, version_cmp}
 use Rattle.rules.specs.VersionOrderLaws.{version_cmp-parts}

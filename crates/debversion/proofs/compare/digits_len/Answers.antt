@@ -1,4 +1,4 @@
-use Rattle.std.proofs.Common.{arith, rules, not, sym, ◌≤◌, length}
+use Rattle.std.proofs.Common.{arith, rules, sym, length}
 use Rattle.std.proofs.lemmas.List.Sums.{prefix_len_is}
 use Rattle.std.specs.Char.{is_ascii_digit}
 use Rattle.debversion.proofs.compare.digits_len.Goals as goal

@@ -1,4 +1,4 @@
-use Rattle.std.proofs.Common.{◌≡◌, ◌∙◌, ap, arith, inl, inr, length, ◌<◌, ◌+◌, drop}
+use Rattle.std.proofs.Common.{◌∙◌, arith, inl, inr, length, drop}
 use Rattle.std.proofs.lemmas.Bool.{cases_lt}
 use Rattle.rules.specs.VersionFrontLaws.{part_cmp-step}
 use Rattle.debversion.proofs.Pieces.{behind-le, behind-lt}

@@ -1,4 +1,3 @@
-use Rattle.std.proofs.Common.{rules, ◌∙◌}
 use Rattle.debversion.specs.NumeralLaws.{number_cmp-without_zeros}
 use Rattle.debversion.proofs.compare.number_cmp.Goals as goal
 

@@ -1,4 +1,4 @@
-use Rattle.std.proofs.Common.{arith, ◌≡◌, ◌≤◌, ◌<◌, take, length, ap, sym, ◌∙◌}
+use Rattle.std.proofs.Common.{arith}
 use Rattle.debversion.proofs.Cuts.{take-same-le}
 use Rattle.debversion.proofs.Skips.{part_cmp-skip}
 use Rattle.debversion.proofs.compare.skipped_len.Goals as goal

@@ -1,6 +1,4 @@
-use Rattle.std.proofs.Common.{◌≡◌, ◌∙◌, ap, take, List, ℕ, rules, subst}
-use Rattle.std.specs.Char.{is_ascii_digit}
-use Rattle.std.specs.List.{AllPass}
+use Rattle.std.proofs.Common.{◌≡◌, ◌∙◌, ap, take}
 use Rattle.rules.specs.VersionLaws.{front_digits}
 use Rattle.debversion.proofs.Pieces.{front_digits-pass}
 use Rattle.debversion.proofs.compare.split_piece.Goals as goal

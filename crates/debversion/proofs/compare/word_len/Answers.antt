@@ -1,4 +1,4 @@
-use Rattle.std.proofs.Common.{arith, rules, not, sym, ◌≤◌, length}
+use Rattle.std.proofs.Common.{arith, rules, not, sym, length}
 use Rattle.std.proofs.lemmas.Bool.{not_from_false, not_from_true}
 use Rattle.std.proofs.lemmas.List.Sums.{prefix_len_is}
 use Rattle.std.specs.Char.{is_ascii_digit}

@@ -1,4 +1,4 @@
-use Rattle.std.proofs.Common.{◌≡◌, ◌<◌, ◌∙◌, ap, arith, length, rules, sym}
+use Rattle.std.proofs.Common.{◌<◌, ◌∙◌, ap, length, rules, sym}
 use Rattle.std.specs.List.{fold}
 use Rattle.debversion.specs.HashInput.{part_input}
 use Rattle.debversion.proofs.Pieces.{after_piece-lt, fed-step}
