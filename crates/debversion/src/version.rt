@@ -19,7 +19,7 @@ use std::hash::{Hash, Hasher};
 use std::marker::Model;
 
 /// A version of a package, `[epoch:]upstream[-revision]` (Policy 5.6.12), over the caller's text.
-#[derive(Clone, Drop)]
+#[derive(Clone, Debug, Drop)]
 pub struct Version<'a> {
     text: &'a [u8],
     epoch: u32,
@@ -29,13 +29,13 @@ pub struct Version<'a> {
 
 impl<'a> Model for Version<'a> {
     ghost use Rattle.std.specs.Prelude.{ℕ, List};
-    ghost use Rattle.debversion.specs.Parts.{AreParts};
+    ghost use Rattle.debversion.specs.Parts.{IsRead};
 
     ghost Value = { List ℕ };
 
     ghost view = { λ v. v.text.now };
 
-    ghost invariant = { λ v. AreParts v.text.now v.epoch v.upstream.now v.revision.now };
+    ghost invariant = { λ v. IsRead v.text.now v.epoch v.upstream.now v.revision.now };
 }
 
 impl<'a> Version<'a> {
@@ -59,9 +59,10 @@ impl<'a> Version<'a> {
         })
     }
 
-    /// The text of the version, as it was written.
+    /// The text of the version, as it was written: it can be read again.
     pub fn text(&self) -> &'a [u8]
-        ensures { result.now ≡ self.now }
+        ensures value { result.now ≡ self.now }
+        ensures faultless { first_fault self.now ≡ None }
     {
         self.text
     }
@@ -77,6 +78,7 @@ impl<'a> Version<'a> {
             revision: self.revision,
         }
     }
+
     // The order by what follows the epoch: the upstream version, then the revision. A missing revision was read as
     // empty, which compares as `0` does.
     fn rest_cmp(&self, other: &Self) -> Ordering
