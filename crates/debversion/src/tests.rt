@@ -54,6 +54,14 @@ fn assert_compares(rt: &impl Abort, left: &str, wanted: Ordering, right: &str) {
     );
 }
 
+#[test]
+fn the_readme_example(rt: HostRuntime) -> Result<(), BadVersion> {
+    let installed = Version::parse(b"2.4.1+ds-4")?;
+    let wanted = Version::parse(b"2.4.1")?;
+    assert!(rt; installed.satisfies(Op::LaterOrEqual, &wanted));
+    Ok(())
+}
+
 // From deb-version(7) and Policy 5.6.12, but for the last: nothing doesn't sort before a tilde.
 #[test]
 fn the_standards_comparisons(rt: HostRuntime) {
