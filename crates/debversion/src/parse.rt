@@ -100,7 +100,7 @@ fn epoch_value(epoch: &[u8]) -> Result<u32, BadVersion>
 fn split_at_colon(text: &[u8]) -> Option<(&[u8], &[u8])>
     ensures { MatchOption result (list_any is_colon text.now ≡ false)
         (λ parts. (list_any is_colon text.now ≡ true)
-            × (parts.0.now ≡ epoch_of text.now) × (parts.1.now ≡ after_epoch text.now)) }
+        × (parts.0.now ≡ epoch_of text.now) × (parts.1.now ≡ after_epoch text.now)) }
 {
     let colon = first_colon(text)?;
     let (epoch, _) = text.split_at(colon);
@@ -112,7 +112,7 @@ fn split_at_colon(text: &[u8]) -> Option<(&[u8], &[u8])>
 pub fn split_epoch(text: &[u8]) -> Result<(u32, &[u8]), BadVersion>
     ensures { MatchResult result
         (λ parts. (text_epoch_fault text.now ≡ None)
-            × (parts.0 ≡ digits_value 10 (epoch_of text.now)) × (parts.1.now ≡ after_epoch text.now))
+        × (parts.0 ≡ digits_value 10 (epoch_of text.now)) × (parts.1.now ≡ after_epoch text.now))
         (λ e. text_epoch_fault text.now ≡ Some e) }
 {
     match split_at_colon(text) {
@@ -141,7 +141,7 @@ fn split_at_hyphen(rest: &[u8]) -> (&[u8], Option<&[u8]>)
 pub fn split_revision(rest: &[u8]) -> Result<(&[u8], &[u8]), BadVersion>
     ensures { MatchResult result
         (λ parts. (rest_fault rest.now ≡ None)
-            × (parts.0.now ≡ before_revision rest.now) × (parts.1.now ≡ after_upstream rest.now))
+        × (parts.0.now ≡ before_revision rest.now) × (parts.1.now ≡ after_upstream rest.now))
         (λ e. rest_fault rest.now ≡ Some e) }
 {
     let (upstream, after) = split_at_hyphen(rest);
