@@ -148,8 +148,8 @@ fn number_cmp(a: &[u8], b: &[u8]) -> Ordering
     requires right { AllPass is_ascii_digit b.now }
     ensures { result ≡ number_cmp a.now b.now }
 {
-    let (a, b) = (without_zeros(a), without_zeros(b));
-    a.len().cmp(&b.len()).then(a.cmp(b))
+    let (left, right) = (without_zeros(a), without_zeros(b));
+    left.len().cmp(&right.len()).then(left.cmp(right))
 }
 
 // The order of the first pieces of two parts, and what follows each.

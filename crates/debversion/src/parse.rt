@@ -99,7 +99,8 @@ fn epoch_value(epoch: &[u8]) -> Result<u32, BadVersion>
 // What precedes the first colon and what follows it, if there is one.
 fn split_at_colon(text: &[u8]) -> Option<(&[u8], &[u8])>
     ensures { MatchOption result (list_any is_colon text.now ≡ false)
-        (λ parts. (list_any is_colon text.now ≡ true) × (parts.0.now ≡ epoch_of text.now) × (parts.1.now ≡ after_epoch text.now)) }
+        (λ parts. (list_any is_colon text.now ≡ true)
+        × (parts.0.now ≡ epoch_of text.now) × (parts.1.now ≡ after_epoch text.now)) }
 {
     let colon = first_colon(text)?;
     let (epoch, _) = text.split_at(colon);
@@ -110,7 +111,8 @@ fn split_at_colon(text: &[u8]) -> Option<(&[u8], &[u8])>
 // The value of the epoch, and what follows it and its colon.
 pub fn split_epoch(text: &[u8]) -> Result<(u32, &[u8]), BadVersion>
     ensures { MatchResult result
-        (λ parts. (text_epoch_fault text.now ≡ None) × (parts.0 ≡ digits_value 10 (epoch_of text.now)) × (parts.1.now ≡ after_epoch text.now))
+        (λ parts. (text_epoch_fault text.now ≡ None)
+        × (parts.0 ≡ digits_value 10 (epoch_of text.now)) × (parts.1.now ≡ after_epoch text.now))
         (λ e. text_epoch_fault text.now ≡ Some e) }
 {
     match split_at_colon(text) {
@@ -138,7 +140,8 @@ fn split_at_hyphen(rest: &[u8]) -> (&[u8], Option<&[u8]>)
 // The upstream version and the revision of what follows the epoch.
 pub fn split_revision(rest: &[u8]) -> Result<(&[u8], &[u8]), BadVersion>
     ensures { MatchResult result
-        (λ parts. (rest_fault rest.now ≡ None) × (parts.0.now ≡ before_revision rest.now) × (parts.1.now ≡ after_upstream rest.now))
+        (λ parts. (rest_fault rest.now ≡ None)
+        × (parts.0.now ≡ before_revision rest.now) × (parts.1.now ≡ after_upstream rest.now))
         (λ e. rest_fault rest.now ≡ Some e) }
 {
     let (upstream, after) = split_at_hyphen(rest);
