@@ -108,7 +108,23 @@ fn manages_without_all(
     clauses.iter().all(|clause| manages_without(db, removed, there, clause))
 }
 
-// Whether the other record isn't installed or needs no package of the record to be removed.
+// Whether each clause of the other record that the package matches is matched by another.
+fn manages_without_needs(
+    db: &[PackageRecord<'_, '_>],
+    removed: &PackageRecord<'_, '_>,
+    there: &Pkg<'_>,
+    other: &PackageRecord<'_, '_>,
+) -> bool
+    requires { there.now ≡ pkg_of removed.now }
+    ensures { IsTrue result ↔ All (ManagesWithout db.now removed.now)
+        (other.now.relations.pre_depends ++ other.now.relations.depends) }
+{
+    manages_without_all(db, removed, there, other.pre_depends())
+        && manages_without_all(db, removed, there, other.depends())
+}
+
+// Whether the other record isn't installed or doesn't need the package to be removed.
+#[tactic(auto, unfolding(rules::specs::Remove::NeedsNot))]
 fn needs_not(
     db: &[PackageRecord<'_, '_>],
     removed: &PackageRecord<'_, '_>,
@@ -118,9 +134,7 @@ fn needs_not(
     requires { there.now ≡ pkg_of removed.now }
     ensures { IsTrue result ↔ NeedsNot db.now removed.now other.now }
 {
-    !other.state().is_installed()
-        || (manages_without_all(db, removed, there, other.pre_depends())
-            && manages_without_all(db, removed, there, other.depends()))
+    !other.state().is_installed() || manages_without_needs(db, removed, there, other)
 }
 
 fn is_own_or_needs_not(
