@@ -2,7 +2,8 @@
 use Rattle.std.proofs.Common.{◌≡◌, ◌≢◌, ℕ, zero, suc, ◌+◌, ◌<◌, ◌≤◌, Bool, true, false, cond, List, [], ◌∷◌, ◌++◌, length, take, Option, Some, None, refl, sym, ap, ◌∙◌, arith, inl, inr, add-one, zero-add, subst}
 use Rattle.std.proofs.lemmas.Bool.{cases_Bool}
 use Rattle.relation.specs.Refusal.{shape_refusal_from, stop_at}
-use Rattle.relation.specs.Shape.{HasShape, IsFirstStop, is_dead, is_end, next, place_after}
+use Rattle.relation.specs.Place.{is_dead, is_end}
+use Rattle.relation.specs.Shape.{HasShape, IsFirstStop, next, place_after}
 use Rattle.relation.specs.declared.refusal.Refusal.{Refusal}
 use Rattle.relation.specs.declared.shape.Form.{Form}
 use Rattle.relation.specs.declared.shape.Place.{Place}
