@@ -1,7 +1,8 @@
 -- A text cut at the first or the last byte that passes a test, in std's words.
-use Rattle.std.proofs.Common.{◌≡◌, ℕ, suc, ◌+◌, ◌-◌, ◌<◌, ◌≤◌, Bool, true, false, not, Some, None, List, [], ◌∷◌, length, take, drop, get_or, ltb, refl, sym, ap, ◌∙◌, arith, inl, inr}
+use Rattle.std.proofs.Common.{◌≡◌, ℕ, suc, ◌+◌, ◌-◌, ◌<◌, ◌≤◌, Bool, true, false, not, Some, None, List, [], ◌∷◌, ◌++◌, append_assoc, length, take, drop, get_or, ltb, refl, sym, ap, ◌∙◌, arith, inl, inr}
 use Rattle.std.proofs.lemmas.Bool.{cases_Bool, ltb-false, ltb-true, not_from_false, not_from_true}
-use Rattle.std.proofs.lemmas.List.{take-take}
+use Rattle.std.proofs.lemmas.List.{take-append-drop, take-take}
+use Rattle.std.proofs.Math.Seq.{take-suc}
 use Rattle.std.proofs.lemmas.List.Sums.{fails_before_first, passes_at_first, suffix_len_is}
 use Rattle.std.proofs.lemmas.List.Folds.{list_any_at}
 use Rattle.std.specs.List.{after_first, after_last, before_first, before_last, list_any, position, position_or_len, suffix_len}
@@ -23,8 +24,8 @@ after-count : (test : ℕ → Bool) (bytes : List ℕ) (i : ℕ) → IsLastAt te
 after-count test bytes i at =
     let within = at.within in
     suffix_len_is (λ b. not (test b)) bytes (i + 1) 0 (omega arith)
-      (λ k low high. not_from_false _ (at.last k (omega arith) high))
-      (λ some. let here : i + 1 - 1 ≡ i = omega arith in rw here (not_from_true _ at.passes))
+    (λ k low high. not_from_false _ (at.last k (omega arith) high))
+    (λ some. let here : i + 1 - 1 ≡ i = omega arith in rw here (not_from_true _ at.passes))
 
 pub before_last-at : (test : ℕ → Bool) (bytes : List ℕ) (i : ℕ) → IsLastAt test bytes i → before_last test bytes ≡ take i bytes
 before_last-at test bytes i at =
@@ -81,3 +82,10 @@ first-position test bytes i e = elim (cases_Bool (ltb (position_or_len test byte
 -- two texts with the same front have each shorter front the same
 pub take-same-le : (n m : ℕ) (xs ys : List ℕ) → n ≤ m → take m xs ≡ take m ys → take n xs ≡ take n ys
 take-same-le n m xs ys le same = sym (take-take n m xs le) ∙ ap (take n) same ∙ take-take n m ys le
+
+-- a text, cut behind one of its bytes
+pub cut-behind : (n : ℕ) (part : List ℕ) → n < length part → part ≡ take n part ++ get_or part n 0 ∷ drop (suc n) part
+cut-behind n part h =
+    sym (take-append-drop (suc n) part)
+    ∙ ap (λ (front : List ℕ). front ++ drop (suc n) part) (take-suc part n 0 h)
+    ∙ append_assoc (take n part) (get_or part n 0 ∷ []) (drop (suc n) part)

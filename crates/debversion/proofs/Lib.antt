@@ -1,5 +1,5 @@
 pub mod Cuts
-pub mod DigitValues
-pub mod NumeralLemmas
+pub mod FaultRows
 pub mod Pieces
 pub mod Skips
+pub mod SpellingLemmas

@@ -3,15 +3,9 @@ use Rattle.std.proofs.Common.{◌≡◌, ℕ, zero, suc, ◌-◌, ◌<◌, ◌�
 use Rattle.std.proofs.lemmas.List.{take-append-drop}
 use Rattle.std.proofs.Math.Seq.{take-suc}
 use Rattle.std.specs.Char.{is_ascii_digit}
+use Rattle.debversion.proofs.Cuts.{cut-behind}
 use Rattle.rules.specs.Version.{part_cmp}
 use Rattle.rules.specs.VersionSharedLaws.{part_cmp-shared}
-
--- a part, cut behind one of its bytes
-cut-behind : (n : ℕ) (part : List ℕ) → n < length part → part ≡ take n part ++ get_or part n 0 ∷ drop (suc n) part
-cut-behind n part h =
-    sym (take-append-drop (suc n) part)
-    ∙ ap (λ (front : List ℕ). front ++ drop (suc n) part) (take-suc part n 0 h)
-    ∙ append_assoc (take n part) (get_or part n 0 ∷ []) (drop (suc n) part)
 
 pub part_cmp-skip : (n : ℕ) (a b : List ℕ) → n ≤ length a → n ≤ length b → take n a ≡ take n b
     → (0 < n → is_ascii_digit (get_or a (n - 1) 0) ≡ false) → part_cmp a b ≡ part_cmp (drop n a) (drop n b)
@@ -23,9 +17,9 @@ part_cmp-skip (suc n) a b ha hb same behind =
     let front = take-suc a n 0 inside in
     let left : a ≡ take n a ++ get_or a n 0 ∷ drop (suc n) a = cut-behind n a inside in
     let right : b ≡ take n a ++ get_or a n 0 ∷ drop (suc n) b =
-        sym (take-append-drop (suc n) b)
-        ∙ ap (λ (front : List ℕ). front ++ drop (suc n) b) (sym same ∙ front)
-        ∙ append_assoc (take n a) (get_or a n 0 ∷ []) (drop (suc n) b) in
+    sym (take-append-drop (suc n) b)
+    ∙ ap (λ (front : List ℕ). front ++ drop (suc n) b) (sym same ∙ front)
+    ∙ append_assoc (take n a) (get_or a n 0 ∷ []) (drop (suc n) b) in
     ap (λ (part : List ℕ). part_cmp part b) left
     ∙ ap (part_cmp (take n a ++ get_or a n 0 ∷ drop (suc n) a)) right
     ∙ part_cmp-shared (take n a) (get_or a n 0) (drop (suc n) a) (drop (suc n) b) byte

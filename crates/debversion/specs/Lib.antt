@@ -1,4 +1,10 @@
 pub mod Fault
+pub mod Spelling
 pub mod Parts
 pub mod Weight
 pub mod Zeros
+pub mod HashInput
+pub mod DigitLaws
+pub mod NumeralLaws
+pub mod WeightLaws
+pub mod HashLaws

@@ -5,9 +5,14 @@
 
 mod compare;
 mod error;
+mod feed;
 mod parse;
+mod spelling;
+#[cfg(test)]
+mod tests;
 mod version;
 
 pub use error::BadVersion;
 pub use rules::Op;
+pub use spelling::faultless_texts_are_spelled;
 pub use version::Version;

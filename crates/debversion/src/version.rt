@@ -6,16 +6,20 @@ ghost use Rattle.std.specs.Ordering.{as_partial_cmp, eq_by_cmp, ordering_then};
 ghost use Rattle.rules.specs.Version.{is_met, part_cmp, revision_of, upstream_of, version_cmp};
 ghost use Rattle.rules.specs.VersionOrderLaws.{version_cmp_total};
 ghost use Rattle.debversion.specs.Fault.{first_fault};
+ghost use Rattle.debversion.specs.HashInput.{version_input};
+ghost use Rattle.debversion.specs.HashLaws.{version_input-alike};
 
 use crate::compare::part_cmp;
 use crate::error::BadVersion;
+use crate::feed::feed_part;
 use crate::parse::{split_epoch, split_revision};
 use rules::Op;
 use std::cmp::Ordering;
+use std::hash::{Hash, Hasher};
 use std::marker::Model;
 
 /// A version of a package, `[epoch:]upstream[-revision]` (Policy 5.6.12), over the caller's text.
-#[derive(Clone, Drop)]
+#[derive(Clone, Debug, Drop)]
 pub struct Version<'a> {
     text: &'a [u8],
     epoch: u32,
@@ -25,13 +29,13 @@ pub struct Version<'a> {
 
 impl<'a> Model for Version<'a> {
     ghost use Rattle.std.specs.Prelude.{ℕ, List};
-    ghost use Rattle.debversion.specs.Parts.{AreParts};
+    ghost use Rattle.debversion.specs.Parts.{IsRead};
 
     ghost Value = { List ℕ };
 
     ghost view = { λ v. v.text.now };
 
-    ghost invariant = { λ v. AreParts v.text.now v.epoch v.upstream.now v.revision.now };
+    ghost invariant = { λ v. IsRead v.text.now v.epoch v.upstream.now v.revision.now };
 }
 
 impl<'a> Version<'a> {
@@ -55,9 +59,10 @@ impl<'a> Version<'a> {
         })
     }
 
-    /// The text of the version, as it was written.
+    /// The text of the version, as it was written: it can be read again.
     pub fn text(&self) -> &'a [u8]
-        ensures { result.now ≡ self.now }
+        ensures value { result.now ≡ self.now }
+        ensures faultless { first_fault self.now ≡ None }
     {
         self.text
     }
@@ -73,6 +78,7 @@ impl<'a> Version<'a> {
             revision: self.revision,
         }
     }
+
     // The order by what follows the epoch: the upstream version, then the revision. A missing revision was read as
     // empty, which compares as `0` does.
     fn rest_cmp(&self, other: &Self) -> Ordering
@@ -132,5 +138,18 @@ impl Ord for Version<'_> {
             Ordering::Equal => self.rest_cmp(other),
             decided => decided,
         }
+    }
+}
+
+impl Hash for Version<'_> {
+    ghost hash_input = { version_input };
+
+    ghost respects_eq = { version_input-alike.fed };
+
+    #[tactic(auto, unfolding(crate::specs::HashInput::version_input))]
+    fn hash<H: Hasher>(&self, state: &mut H) {
+        self.epoch.hash(state);
+        feed_part(self.upstream, state);
+        feed_part(self.revision, state);
     }
 }

@@ -1,4 +1,4 @@
-use Rattle.std.proofs.Common.{arith, ◌≡◌, ◌≤◌, ◌<◌, take, length, ap, sym, ◌∙◌}
+use Rattle.std.proofs.Common.{arith}
 use Rattle.debversion.proofs.Cuts.{take-same-le}
 use Rattle.debversion.proofs.Skips.{part_cmp-skip}
 use Rattle.debversion.proofs.compare.skipped_len.Goals as goal
@@ -9,4 +9,4 @@ returns-clause-undecided c =
     let left = c.shared_len.ensures.left in
     let right = c.shared_len.ensures.right in
     part_cmp-skip c.number_start.result c.args.a.now c.args.b.now (omega arith) (omega arith)
-      (take-same-le _ _ _ _ within c.shared_len.ensures.same) c.number_start.ensures.behind_other
+    (take-same-le _ _ _ _ within c.shared_len.ensures.same) c.number_start.ensures.behind_other

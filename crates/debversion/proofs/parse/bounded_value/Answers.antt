@@ -1,9 +1,7 @@
-use Rattle.std.proofs.Common.{◌≡◌, ◌+◌, ◌-◌, ◌<◌, ◌≤◌, arith, get_or, length, take, true, rules}
+use Rattle.std.proofs.Common.{◌+◌, arith, get_or}
 use Rattle.std.proofs.lemmas.Int.Digits.{digits_value_more}
 use Rattle.std.proofs.lemmas.Str.Parse.{digits_value-take-le}
-use Rattle.std.specs.Char.{digit_value}
-use Rattle.std.specs.Str.Parse.{digits_value}
-use Rattle.debversion.proofs.DigitValues.{digit_value-digit}
+use Rattle.debversion.specs.DigitLaws.{digit_value-digit}
 use Rattle.debversion.proofs.parse.bounded_value.Goals as goal
 
 pub returns-then-value-gt-GREATEST_EPOCH : goal.returns-then-value-gt-GREATEST_EPOCH

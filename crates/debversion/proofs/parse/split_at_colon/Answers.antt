@@ -6,10 +6,10 @@ use Rattle.debversion.proofs.parse.split_at_colon.Goals as goal
 pub returns-in_err-colon : goal.returns-in_err-colon
 returns-in_err-colon c =
     rw c.from_residual.ensures
-      (list_any-no_position is_colon c.args.text.now (sym c.first_colon.ensures ∙ c.in_err-colon.was))
+    (list_any-no_position is_colon c.args.text.now (sym c.first_colon.ensures ∙ c.in_err-colon.was))
 
 pub returns : goal.returns
 returns c =
     let first = first-position is_colon c.args.text.now c.in_ok-colon.colon (sym c.first_colon.ensures ∙ c.in_ok-colon.was) in
     rw first.some
-      (refl, c.split_at.ensures.front ∙ sym first.before, c.split_at-2.ensures.back ∙ sym first.after)
+    (refl, c.split_at.ensures.front ∙ sym first.before, c.split_at-2.ensures.back ∙ sym first.after)

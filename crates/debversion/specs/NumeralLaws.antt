@@ -1,58 +1,17 @@
 -- Numerals without zeros in front are ordered by their length, and then by their first digit that differs.
-use Rattle.std.proofs.Common.{◌≡◌, ℕ, suc, ◌+◌, ◌-◌, ◌*◌, ◌^◌, ◌<◌, ◌≤◌, true, false, List, [], ◌∷◌, length, get_or, refl, sym, ap, ◌∙◌, arith, inl, inr, one-add}
-use Rattle.std.proofs.lemmas.Bool.{cases_Bool, cases_order, eqb-false, eqb-true, eq-eqb, lt-ltb, le-ltb, ne_eqb}
-use Rattle.std.proofs.Math.Nat.{mul-le-mul_left, pow-le-pow_right, pow-suc}
-use Rattle.std.proofs.lemmas.Int.Digits.{digits_value-lt}
+use Rattle.std.proofs.Common.{◌≡◌, ℕ, ◌+◌, ◌*◌, ◌^◌, ◌<◌, ◌≤◌, List, [], ◌∷◌, length, get_or, refl, sym, ap, ◌∙◌, arith, inl, inr, one-add}
+use Rattle.std.proofs.lemmas.Bool.{cases_Bool, cases_order, eqb-false, eqb-true}
+use Rattle.std.proofs.Math.Nat.{mul-le-mul_left, pow-le-pow_right}
 use Rattle.std.specs.Char.{digit_value, is_ascii_digit}
 use Rattle.std.specs.Cmp.{nat_cmp_is}
 use Rattle.std.specs.Cmp.Lexicographic.{slice_cmp}
-use Rattle.std.specs.List.{AllPass, prefix_len}
+use Rattle.std.specs.List.{AllPass}
 use Rattle.std.specs.Ordering.{nat_cmp, ordering_then}
-use Rattle.std.specs.Str.Parse.{AllDigits, digits_value, digits_value_after}
-use Rattle.std.specs.declared.cmp.Ordering.{Ordering}
+use Rattle.std.specs.Str.Parse.{digits_value}
 use Rattle.std.specs.declared.cmp.Ordering.TheVariants.{Less, Equal, Greater}
 use Rattle.rules.specs.Version.{number_cmp}
-use Rattle.debversion.proofs.DigitValues.{digit-greatest, digit-least, digit_value-digit}
+use Rattle.debversion.specs.DigitLaws.{all-first, all-later, digit-least, digit_value-digit, value-cons, value-lt}
 use Rattle.debversion.specs.Zeros.{is_zero, without_zeros}
-
--- what holds of each element holds of the first, and of the others
-pub all-first : (digits : List ℕ) (b : ℕ) → AllPass is_ascii_digit (b ∷ digits) → is_ascii_digit b ≡ true
-all-first digits b all = all 0 0 (omega arith)
-
-pub all-later : (digits : List ℕ) (b : ℕ) → AllPass is_ascii_digit (b ∷ digits) → AllPass is_ascii_digit digits
-all-later digits b all k d h = all (suc k) d (omega arith)
-
--- ten times as much for one more digit
-ten_times : (k : ℕ) → 10 ^ suc k ≡ 10 ^ k * 10
-ten_times k = pow-suc 10 k
-
-follow_one : (n d p v : ℕ) → (n * 10 + d) * p + v ≡ n * (p * 10) + ((0 * 10 + d) * p + v)
-follow_one n d p v = omega arith
-
--- digits that follow others
-value_after : (n : ℕ) (digits : List ℕ) → digits_value_after 10 n digits ≡ n * 10 ^ length digits + digits_value 10 digits
-value_after n [] = omega arith
-value_after n (b ∷ digits) =
-    value_after (n * 10 + digit_value b) digits
-    ∙ follow_one n (digit_value b) (10 ^ length digits) (digits_value 10 digits)
-    ∙ rw (ten_times (length digits), value_after (0 * 10 + digit_value b) digits) refl
-
--- the value of digits, by the first
-pub value-cons : (b : ℕ) (digits : List ℕ) → digits_value 10 (b ∷ digits) ≡ digit_value b * 10 ^ length digits + digits_value 10 digits
-value-cons b digits = let e = value_after (0 * 10 + digit_value b) digits in omega arith
-
--- digits as the words of std's lemmas take them
-all_digits : (digits : List ℕ) → AllPass is_ascii_digit digits → AllDigits 10 digits
-all_digits [] all = tt
-all_digits (b ∷ digits) all =
-    let digit = all-first digits b all in
-    let low = digit-least b digit in
-    let high = digit-greatest b digit in
-    let value = digit_value-digit b digit in
-    (omega arith, all_digits digits (all-later digits b all))
-
-pub value-lt : (digits : List ℕ) → AllPass is_ascii_digit digits → digits_value 10 digits < 10 ^ length digits
-value-lt digits all = digits_value-lt 10 digits (all_digits digits all)
 
 -- zeros in front change no value
 pub value-without_zeros : (digits : List ℕ) → digits_value 10 (without_zeros digits) ≡ digits_value 10 digits
@@ -179,8 +138,8 @@ stripped_cmp a b all_a all_b first_a first_b = elim (cases_order (length a) (len
 -- any two numerals, by what is left of them without their zeros
 pub number_cmp-without_zeros : (a b : List ℕ) → AllPass is_ascii_digit a → AllPass is_ascii_digit b
     → ordering_then (nat_cmp (length (without_zeros a)) (length (without_zeros b))) (slice_cmp nat_cmp (without_zeros a) (without_zeros b))
-      ≡ number_cmp a b
+    ≡ number_cmp a b
 number_cmp-without_zeros a b all_a all_b =
     stripped_cmp (without_zeros a) (without_zeros b) (all-without_zeros a all_a) (all-without_zeros b all_b)
-      (no_zeros-without_zeros a all_a) (no_zeros-without_zeros b all_b)
+    (no_zeros-without_zeros a all_a) (no_zeros-without_zeros b all_b)
     ∙ λ i. nat_cmp (value-without_zeros a i) (value-without_zeros b i)
