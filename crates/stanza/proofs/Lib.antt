@@ -6,3 +6,7 @@ pub mod FaultLemmas
 pub mod StanzaLemmas
 pub mod FrontLemmas
 pub mod CollectLemmas
+pub mod GroupLemmas
+pub mod FileLemmas
+pub mod AloneLemmas
+mod FileRows

@@ -1,5 +1,5 @@
 -- What a crate above may ask of a text: the values of one field in all its stanzas.
-use Rattle.std.specs.Prelude.{◌≡◌, ℕ, List, [], ◌∷◌, ◌++◌, Result, Ok, Err, Option, None, Some}
+use Rattle.std.specs.Prelude.{ℕ, List, [], ◌∷◌, Result, Ok, Err, Option, None, Some}
 use Rattle.stanza.specs.declared.error.StanzaError.{StanzaError}
 use Rattle.stanza.specs.Field.{value_named}
 use Rattle.stanza.specs.Stanza.{StanzaText}

@@ -5,4 +5,5 @@ pub mod Fault
 pub mod Seen
 pub mod Stanza
 pub mod Front
+pub mod File
 pub mod Collect

@@ -50,5 +50,5 @@ abbrev pub items_of_lines : Bool → ℕ → List (List ℕ) → List (Result St
 items_of_lines commented n lines = items_of_parts commented n (slice_split is_separator lines)
 
 -- the stanzas of a text, up to its first fault, and that fault
-abbrev pub items_of : Bool → List ℕ → List (Result StanzaText StanzaError)
+unfoldable pub items_of : Bool → List ℕ → List (Result StanzaText StanzaError)
 items_of commented text = items_of_lines commented 1 (lines_of text)

@@ -7,6 +7,7 @@
 mod entries;
 mod error;
 mod front;
+pub mod laws;
 mod lines;
 mod names;
 mod seen;

@@ -1,5 +1,5 @@
 //! A table by which most names of a stanza are known to be new: a name that is there has its slot taken.
-ghost use Rattle.std.specs.Prelude.{◌≡◌, ◌<◌, ◌+◌, ◌*◌, ◌%◌, ℕ, true, List, length, slice_set, slice_index_or};
+ghost use Rattle.std.specs.Prelude.{◌≡◌, ◌<◌, ◌+◌, ◌*◌, ◌%◌, ℕ, true, false, replicate, List, length, slice_set, slice_index_or};
 ghost use Rattle.stanza.specs.Seen.{slot_of, is_seen, first_of, last_of};
 
 const SLOTS: usize = 256;
@@ -11,7 +11,10 @@ pub struct Seen {
 }
 
 impl Seen {
-    pub fn new() -> Seen {
+    /// No slot is taken.
+    pub fn new() -> Seen
+        ensures { result.slots ≡ replicate SLOTS false }
+    {
         Seen {
             slots: [false; SLOTS],
         }

@@ -40,6 +40,14 @@ impl<'a> Stanza<'a> {
         }
     }
 
+    /// The same stanza once more.
+    #[inline]
+    pub fn again(&self) -> Stanza<'a>
+        ensures { result ≡ self.now }
+    {
+        Stanza::new(self.commented, self.before, self.raw)
+    }
+
     /// The value of the first field of this name, whatever the case of its letters. It walks over the
     /// stanza's lines: where many fields are wanted, one walk over `fields` is cheaper.
     pub fn get(&self, name: &[u8]) -> Option<&'a [u8]>

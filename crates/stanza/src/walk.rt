@@ -34,8 +34,10 @@ impl<'a> Model for Stanzas<'a> {
 
 impl<'a> Stanzas<'a> {
     /// The plain form: packages, status and their like.
+    #[tactic(auto, unfolding(crate::specs::Stanza::items_of))]
     pub fn new(text: &'a [u8]) -> Stanzas<'a>
         ensures items { result ≡ items_of false text.now }
+        ensures count { length result ≤ length text.now }
     {
         Stanzas {
             rest: text,
@@ -45,8 +47,10 @@ impl<'a> Stanzas<'a> {
     }
 
     /// The form in which a line that begins with `#` is a comment and `Explanation` may be repeated.
+    #[tactic(auto, unfolding(crate::specs::Stanza::items_of))]
     pub fn with_comments(text: &'a [u8]) -> Stanzas<'a>
         ensures items { result ≡ items_of true text.now }
+        ensures count { length result ≤ length text.now }
     {
         Stanzas {
             rest: text,

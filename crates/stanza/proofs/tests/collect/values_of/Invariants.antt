@@ -1,4 +1,4 @@
-use Rattle.std.proofs.Common.{◌≡◌, ℕ, Bool, false, List, map, Bor}
+use Rattle.std.proofs.Common.{◌≡◌, ℕ, false, List, map, Bor}
 use Rattle.stanza.specs.Stanza.{items_of}
 use Rattle.stanza.specs.Collect.{values_in}
 use Rattle.stanza.proofs.CollectLemmas.{with_front}
