@@ -1,5 +1,5 @@
 -- From the dead place no bytes lead on, and from every other place some bytes lead to an end.
-use Rattle.std.proofs.Common.{◌≡◌, ◌≢◌, ℕ, Bool, true, false, List, [], ◌∷◌, ◌++◌, refl, sym, ap, ◌∙◌, codes}
+use Rattle.std.proofs.Common.{◌≡◌, ◌≢◌, ℕ, true, false, List, [], ◌∷◌, ◌++◌, refl, sym, ap, ◌∙◌, codes}
 use Rattle.relation.specs.Place.{is_end}
 use Rattle.relation.specs.Shape.{next, place_after, HasShape}
 use Rattle.relation.specs.declared.shape.Form.{Form}

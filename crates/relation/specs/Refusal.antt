@@ -1,5 +1,5 @@
 -- What is refused in the value of a relation field: of all refusals the one with the least offset.
-use Rattle.std.specs.Prelude.{◌≡◌, ℕ, ◌+◌, ◌-◌, Bool, true, false, ◌==◌, List, [], ◌∷◌, length, nat_lt, Option, Some, None, Result, Ok, Err, if◌then◌else◌}
+use Rattle.std.specs.Prelude.{ℕ, ◌+◌, ◌-◌, ◌==◌, List, [], ◌∷◌, length, nat_lt, Option, Some, None, Result, Ok, Err, if◌then◌else◌}
 use Rattle.std.specs.Option.{option_map, option_or, option_and_then, option_map_or, is_some}
 use Rattle.debversion.specs.Fault.{first_fault}
 use Rattle.rules.specs.Package.{Atom, Provided}

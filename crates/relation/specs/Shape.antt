@@ -1,6 +1,6 @@
 -- The shape of a relation field's value (Policy 7.1), as an automaton over its bytes. That items of white
 -- space alone are skipped is this project's own.
-use Rattle.std.specs.Prelude.{◌≡◌, ℕ, ◌+◌, ◌<◌, ◌≤◌, ◌++◌, length, take, Bool, true, false, ◌==◌, ◌||◌, List, [], ◌∷◌, if◌then◌else◌}
+use Rattle.std.specs.Prelude.{◌≡◌, ℕ, ◌+◌, ◌<◌, ◌≤◌, ◌++◌, length, take, true, ◌==◌, ◌||◌, List, [], ◌∷◌, if◌then◌else◌}
 use Rattle.std.specs.Char.{is_ascii_alphanumeric}
 use Rattle.rules.specs.Name.{is_name_byte}
 use Rattle.relation.specs.Bytes.{is_white, is_comma, is_bar, is_colon, is_opening, is_closing, is_less, is_equals, is_greater, is_qualifier_byte, is_version_byte}
