@@ -1,13 +1,13 @@
 -- The refusal of a shape is where the automaton first comes to the dead place, or the end where no value may end.
-use Rattle.std.proofs.Common.{◌≡◌, ◌≢◌, ℕ, zero, suc, ◌+◌, ◌<◌, ◌≤◌, Bool, true, false, cond, List, [], ◌∷◌, ◌++◌, length, take, Option, Some, None, refl, sym, ap, ◌∙◌, arith, inl, inr, add-one, zero-add, subst}
-use Rattle.std.proofs.lemmas.Bool.{cases_Bool}
+use Rattle.std.proofs.Common.{◌≡◌, ◌≢◌, ℕ, suc, ◌+◌, ◌<◌, ◌≤◌, Bool, true, false, cond, List, [], ◌∷◌, length, take, Option, Some, None, refl, sym, ap, ◌∙◌, arith, add-one, subst}
 use Rattle.relation.specs.Refusal.{shape_refusal_from, stop_at}
-use Rattle.relation.specs.Shape.{HasShape, IsFirstStop, is_dead, is_end, next, place_after}
+use Rattle.relation.specs.Place.{is_dead, is_end}
+use Rattle.relation.specs.Shape.{HasShape, IsFirstStop, next, place_after}
 use Rattle.relation.specs.declared.refusal.Refusal.{Refusal}
 use Rattle.relation.specs.declared.shape.Form.{Form}
 use Rattle.relation.specs.declared.shape.Place.{Place}
 use Rattle.relation.specs.declared.shape.Place.TheVariants.{Between, Alternative, InName, AfterName, BeforeQualifier, InQualifier, Opened, Less, Greater, AfterOperator, InVersion, AfterVersion, Closed, Dead}
-use Rattle.relation.proofs.ShapeLemmas.{live_front, dead_front, place_after-dead, place_after-append}
+use Rattle.relation.proofs.ShapeLemmas.{live_front, dead_front}
 
 dead_is : (place : Place) → is_dead place ≡ true → place ≡ Dead
 dead_is Between e = cc

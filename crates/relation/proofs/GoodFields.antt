@@ -1,6 +1,5 @@
 -- Where the relation fields have no refusal, none of them has, and none of their versions is refused.
-use Rattle.std.proofs.Common.{◌≡◌, ℕ, List, Option, Some, None}
-use Rattle.std.specs.Option.{option_or}
+use Rattle.std.proofs.Common.{◌≡◌, Some, None}
 use Rattle.stanza.specs.Field.{FieldText}
 use Rattle.relation.specs.PkgText.{on_line, relation_fault_in, relations_fault}
 use Rattle.relation.specs.Refusal.{fault_of, separator_of}

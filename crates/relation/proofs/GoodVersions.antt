@@ -1,6 +1,6 @@
 -- Where a value has no refusal, none of its versions is refused.
 use Rattle.std.proofs.Common.{◌≡◌, ℕ, Bool, true, false, cond, ltb, ◌+◌, List, [], ◌∷◌, ◌++◌, length, Option, Some, None, refl, subst}
-use Rattle.std.specs.List.{AllByRecursion, flat_map}
+use Rattle.std.specs.List.{flat_map}
 use Rattle.std.specs.Option.{option_map, option_or}
 use Rattle.relation.specs.Refusal.{sooner, least_refusal, fault_of, version_refusal_from, excess_from, shape_refusal_from, most_atoms, separator_of, bad_version_of, bad_version_at}
 use Rattle.relation.specs.Spelling.{parts_of, separates}

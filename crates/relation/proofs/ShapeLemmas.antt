@@ -1,6 +1,7 @@
 -- From the dead place no bytes lead on, and from every other place some bytes lead to an end.
-use Rattle.std.proofs.Common.{◌≡◌, ◌≢◌, ℕ, Bool, true, false, List, [], ◌∷◌, ◌++◌, refl, sym, ap, ◌∙◌, codes}
-use Rattle.relation.specs.Shape.{next, place_after, is_end, HasShape}
+use Rattle.std.proofs.Common.{◌≡◌, ◌≢◌, ℕ, true, false, List, [], ◌∷◌, ◌++◌, refl, sym, ap, ◌∙◌, codes}
+use Rattle.relation.specs.Place.{is_end}
+use Rattle.relation.specs.Shape.{next, place_after, HasShape}
 use Rattle.relation.specs.declared.shape.Form.{Form}
 use Rattle.relation.specs.declared.shape.Place.{Place}
 use Rattle.relation.specs.declared.shape.Place.TheVariants.{Between, Alternative, InName, AfterName, BeforeQualifier, InQualifier, Opened, Less, Greater, AfterOperator, InVersion, AfterVersion, Closed, Dead}

@@ -1,5 +1,5 @@
 -- Refusals of relation fields, and the errors of the calls that take memory.
-use Rattle.std.specs.Prelude.{◌≡◌, ⊤, Result, Ok, Err}
+use Rattle.std.specs.Prelude.{◌≡◌, ⊤, Result, Err}
 use Rattle.relation.specs.declared.error.RelationError.{RelationError}
 use Rattle.relation.specs.declared.error.RelationError.TheVariants as error
 use Rattle.relation.specs.declared.error.RelationFault.{RelationFault}

@@ -1,10 +1,11 @@
 -- What is refused in the value of a relation field: of all refusals the one with the least offset.
-use Rattle.std.specs.Prelude.{◌≡◌, ℕ, ◌+◌, ◌-◌, Bool, true, false, ◌==◌, List, [], ◌∷◌, length, nat_lt, Option, Some, None, Result, Ok, Err, if◌then◌else◌}
+use Rattle.std.specs.Prelude.{ℕ, ◌+◌, ◌-◌, ◌==◌, List, [], ◌∷◌, length, nat_lt, Option, Some, None, Result, Ok, Err, if◌then◌else◌}
 use Rattle.std.specs.Option.{option_map, option_or, option_and_then, option_map_or, is_some}
 use Rattle.debversion.specs.Fault.{first_fault}
 use Rattle.rules.specs.Package.{Atom, Provided}
 use Rattle.relation.specs.Bytes.{is_white}
-use Rattle.relation.specs.Shape.{next, is_dead, is_end, awaits_name}
+use Rattle.relation.specs.Place.{awaits_name, is_dead, is_end}
+use Rattle.relation.specs.Shape.{next}
 use Rattle.relation.specs.Spelling.{after_run, inside_of, from_version, version_in, is_blank, parts_of, atoms_between, clauses_of, provided_items_of}
 use Rattle.relation.specs.declared.cut.Separator.{Separator}
 use Rattle.relation.specs.declared.cut.Separator.TheVariants.{Comma, CommaOrBar}
@@ -32,12 +33,12 @@ shape_refusal_from form place offset (b ∷ bytes) =
     if is_dead (next form place b) then Some (stop_at place offset)
     else shape_refusal_from form (next form place b) (offset + 1) bytes
 
--- where the version of an atom's text begins, if the text has one and it is refused
+-- where the version of a restriction begins in its atom's text, if it is refused
 abbrev pub bad_version_in : List ℕ → List ℕ → Option ℕ
 bad_version_in text inside =
     if is_some (first_fault (version_in inside)) then Some (length text - length (from_version inside)) else None
 
--- where the version of an atom's text begins, if the text has one and it is refused
+-- where the version of an atom's text begins, if the atom has a restriction and its version is refused
 unfoldable pub bad_version_of : List ℕ → Option ℕ
 bad_version_of text = option_and_then (bad_version_in text) (inside_of text)
 

@@ -1,9 +1,10 @@
 -- The shape of a relation field's value (Policy 7.1), as an automaton over its bytes. That items of white
 -- space alone are skipped is this project's own.
-use Rattle.std.specs.Prelude.{◌≡◌, ℕ, ◌+◌, ◌<◌, ◌≤◌, ◌++◌, length, take, Bool, true, false, ◌==◌, ◌||◌, List, [], ◌∷◌, if◌then◌else◌}
+use Rattle.std.specs.Prelude.{◌≡◌, ℕ, ◌+◌, ◌<◌, ◌≤◌, ◌++◌, length, take, true, ◌==◌, ◌||◌, List, [], ◌∷◌, if◌then◌else◌}
 use Rattle.std.specs.Char.{is_ascii_alphanumeric}
 use Rattle.rules.specs.Name.{is_name_byte}
 use Rattle.relation.specs.Bytes.{is_white, is_comma, is_bar, is_colon, is_opening, is_closing, is_less, is_equals, is_greater, is_qualifier_byte, is_version_byte}
+use Rattle.relation.specs.Place.{is_end}
 use Rattle.relation.specs.declared.shape.Form.{Form}
 use Rattle.relation.specs.declared.shape.Form.TheVariants.{Clauses, Atoms, Provides}
 use Rattle.relation.specs.declared.shape.Place.{Place}
@@ -88,57 +89,6 @@ next form Dead b = Dead
 abbrev pub place_after : Form → Place → List ℕ → Place
 place_after form place [] = place
 place_after form place (b ∷ bytes) = place_after form (next form place b) bytes
-
--- a value may end here
-abbrev pub is_end : Place → Bool
-is_end Between = true
-is_end Alternative = false
-is_end InName = true
-is_end AfterName = true
-is_end BeforeQualifier = false
-is_end InQualifier = true
-is_end Opened = false
-is_end Less = false
-is_end Greater = false
-is_end AfterOperator = false
-is_end InVersion = false
-is_end AfterVersion = false
-is_end Closed = true
-is_end Dead = false
-
--- the place from which nothing leads on
-abbrev pub is_dead : Place → Bool
-is_dead Between = false
-is_dead Alternative = false
-is_dead InName = false
-is_dead AfterName = false
-is_dead BeforeQualifier = false
-is_dead InQualifier = false
-is_dead Opened = false
-is_dead Less = false
-is_dead Greater = false
-is_dead AfterOperator = false
-is_dead InVersion = false
-is_dead AfterVersion = false
-is_dead Closed = false
-is_dead Dead = true
-
--- a name or a qualifier could begin here
-abbrev pub awaits_name : Place → Bool
-awaits_name Between = true
-awaits_name Alternative = true
-awaits_name InName = false
-awaits_name AfterName = false
-awaits_name BeforeQualifier = true
-awaits_name InQualifier = false
-awaits_name Opened = false
-awaits_name Less = false
-awaits_name Greater = false
-awaits_name AfterOperator = false
-awaits_name InVersion = false
-awaits_name AfterVersion = false
-awaits_name Closed = false
-awaits_name Dead = false
 
 -- the whole value has the shape of the form, whatever its versions are
 abbrev pub HasShape : Form → List ℕ → Type 0

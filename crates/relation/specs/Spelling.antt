@@ -1,7 +1,7 @@
 -- What a relation field's value spells (Policy 7.1), where nothing of it is refused: the texts of its atoms,
 -- and the parts of an atom. That `any`, `native` and the configured architecture are ignored, and that an
 -- atom with another qualifier is foreign, is this project's own.
-use Rattle.std.specs.Prelude.{◌≡◌, ℕ, ◌+◌, ◌-◌, Bool, true, false, not, ◌==◌, ◌||◌, List, [], ◌∷◌, map, filter, length, drop, Option, Some, None, codes, if◌then◌else◌}
+use Rattle.std.specs.Prelude.{ℕ, Bool, false, not, ◌||◌, List, [], ◌∷◌, map, filter, drop, Option, Some, None, codes, if◌then◌else◌}
 use Rattle.std.specs.List.{prefix_len, take_while, slice_split, list_all}
 use Rattle.std.specs.Option.{option_map}
 use Rattle.rules.specs.Name.{is_name_byte}

@@ -2,6 +2,7 @@
 ghost use Rattle.std.specs.Prelude.{◌≡◌, ◌≢◌, ℕ, List, ◌++◌};
 ghost use Rattle.relation.specs.Bytes.{is_white, is_qualifier_byte, is_version_byte};
 ghost use Rattle.rules.specs.Name.{is_name_byte};
+ghost use Rattle.relation.specs.Place as Tests;
 ghost use Rattle.relation.specs.Shape as Spec;
 ghost use Rattle.relation.specs.Shape.{HasShape, place_after};
 ghost use Rattle.relation.specs.declared.shape.Form.{Form as FormOf};
@@ -257,7 +258,7 @@ pub fn next(form: Form, place: Place, byte: u8) -> Place
 
 /// Whether a value may end here.
 pub fn is_end(place: Place) -> bool
-    ensures { result ≡ Spec.is_end place }
+    ensures { result ≡ Tests.is_end place }
 {
     matches!(
         place,
@@ -266,14 +267,14 @@ pub fn is_end(place: Place) -> bool
 }
 
 pub fn is_dead(place: Place) -> bool
-    ensures { result ≡ Spec.is_dead place }
+    ensures { result ≡ Tests.is_dead place }
 {
     matches!(place, Place::Dead)
 }
 
 /// Whether a name or a qualifier could begin here.
 pub fn awaits_name(place: Place) -> bool
-    ensures { result ≡ Spec.awaits_name place }
+    ensures { result ≡ Tests.awaits_name place }
 {
     matches!(
         place,

@@ -1,6 +1,6 @@
 //! Packages of stanzas, their refusals, and which package matches which atom.
 use super::{shown_atoms, shown_clauses, shown_items};
-use crate::{Pkg, PkgError, PkgFields, RelationError, parse_atoms};
+use crate::{Pkg, PkgError, PkgFields, RelationError, parse_atoms, parse_clauses, parse_provides};
 use stanza::Stanzas;
 use std::alloc::Global;
 use std::str;
@@ -170,4 +170,32 @@ fn want_of_memory_is_printed_by_its_code(rt: HostRuntime) -> Result<(), Fail> {
     let pkg = format!(in rt.alloc(); "{} / {}", PkgError::OutOfMemory, PkgError::TooLarge)?;
     assert_eq!(rt; pkg.as_str(), "E1 OutOfMemory / E10 TooLarge");
     Ok(())
+}
+
+/// Run with each allocation refused in turn (`rt try --test --fail-alloc N`): the answer is the same or want of memory.
+#[test]
+fn a_refused_growth_is_answered_as_want_of_memory(rt: HostRuntime) {
+    match parse_clauses(rt.alloc(), b"a | b (<< 2), c, d:i386", ARCH) {
+        Ok(clauses) => assert_eq!(rt; clauses.len(), 3),
+        Err(error) => assert_eq!(rt; error, RelationError::OutOfMemory),
+    }
+    match parse_provides(rt.alloc(), b"a, b (= 2)", ARCH) {
+        Ok(items) => assert_eq!(rt; items.len(), 2),
+        Err(error) => assert_eq!(rt; error, RelationError::OutOfMemory),
+    }
+    // A refused value takes no memory.
+    match parse_atoms(rt.alloc(), b"a, b, c (= )", ARCH) {
+        Ok(_) => assert!(rt; false, "accepted"),
+        Err(error) => assert_eq!(rt; error, RelationError::BadRelation(11)),
+    }
+    let text = b"Package: a\nVersion: 1\nDepends: b, c | d\nConflicts: e\nProvides: f, g (= 1)\n";
+    for item in Stanzas::new(text) {
+        let Ok(stanza) = item else {
+            continue;
+        };
+        match Pkg::from_stanza(rt.alloc(), &stanza, ARCH) {
+            Ok(pkg) => assert_eq!(rt; pkg.provides().len(), 2),
+            Err(error) => assert_eq!(rt; error, PkgError::OutOfMemory),
+        }
+    }
 }

@@ -1,6 +1,5 @@
-use Rattle.std.proofs.Common.{◌≡◌, sym, ap, ◌∙◌, arith}
+use Rattle.std.proofs.Common.{sym, arith}
 use Rattle.relation.specs.Spelling.{separates}
-use Rattle.relation.specs.Cut.{CutsPart}
 use Rattle.relation.proofs.Parts.{split_whole, split_at_position}
 use Rattle.relation.proofs.cut.cut_part.Goals as goal
 

@@ -1,6 +1,6 @@
 -- The alternatives of the clauses have good versions, since all atoms of the value have.
 use Rattle.std.proofs.lemmas.Grind.{common_steps}
-use Rattle.std.proofs.Common.{arith, rules}
+use Rattle.std.proofs.Common.{arith}
 use Rattle.relation.proofs.GoodVersions.{good_alternatives}
 use Rattle.relation.proofs.parse.clauses_of.Goals as goal
 

@@ -1,5 +1,5 @@
-use Rattle.std.proofs.Common.{◌≡◌, sym, ap, ◌∙◌}
-use Rattle.relation.specs.PkgFields.{fields_in, with_field}
+use Rattle.std.proofs.Common.{sym, ap, ◌∙◌}
+use Rattle.relation.specs.PkgFields.{with_field}
 use Rattle.relation.proofs.FieldsMore.{fields_more}
 use Rattle.relation.proofs.fields.PkgFields.in_stanza.Goals as goal
 
