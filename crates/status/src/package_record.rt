@@ -1,8 +1,9 @@
 // A record of the database with its package.
 
-ghost use Rattle.std.specs.Prelude.{◌≡◌, IfSome, is_some};
+ghost use Rattle.std.specs.Prelude.{◌≡◌, [], true, false, IfSome, is_some};
 ghost use Rattle.rules.specs.Database.{is_unfinished, pkg_of, stands};
 ghost use Rattle.rules.specs.State.{is_present_state};
+ghost use Rattle.rules.specs.Step.{no_relations};
 
 use debversion::Version;
 use relation::{Clause, Pkg};
@@ -47,6 +48,72 @@ impl<'p, 'a> Model for PackageRecord<'p, 'a> {
 }
 
 impl<'p, 'a> PackageRecord<'p, 'a> {
+    /// The record of a present package.
+    pub fn present(
+        pkg: &'p Pkg<'a>,
+        state: State,
+        want: Want,
+        flag: Flag,
+        config_version: Option<Version<'a>>,
+        is_essential: bool,
+    ) -> PackageRecord<'p, 'a>
+        requires { is_present_state state ≡ true }
+        ensures { result ≡ record {
+          name = pkg.now.name;
+          state = state;
+          want = want;
+          flag = flag;
+          version = pkg.now.version;
+          config_version = config_version.entry;
+          relations = pkg.now.relations;
+          is_essential = is_essential;
+        } }
+    {
+        PackageRecord {
+            name: pkg.name(),
+            state,
+            want,
+            flag,
+            version: Some(pkg.version().again()),
+            config_version,
+            pkg: Some(pkg),
+            is_essential,
+        }
+    }
+
+    /// The record of a package of which no files are there.
+    pub fn absent(
+        name: &'a [u8],
+        state: State,
+        want: Want,
+        flag: Flag,
+        config_version: Option<Version<'a>>,
+        is_essential: bool,
+    ) -> PackageRecord<'p, 'a>
+        requires { is_present_state state ≡ false }
+        ensures { result ≡ record {
+          name = name.now;
+          state = state;
+          want = want;
+          flag = flag;
+          version = [];
+          config_version = config_version.entry;
+          relations = no_relations;
+          is_essential = is_essential;
+        } }
+    {
+        PackageRecord {
+            name,
+            state,
+            want,
+            flag,
+            version: None,
+            config_version,
+            pkg: None,
+            is_essential,
+        }
+    }
+
     /// The name.
     pub fn name(&self) -> &'a [u8]
         ensures { result.now ≡ self.now.name }
@@ -121,13 +188,13 @@ impl<'p, 'a> PackageRecord<'p, 'a> {
     pub fn stands(&self) -> bool
         ensures { result ≡ stands self.now }
     {
-        (self.state.is_unconfigured() || self.state.is_installed()) && self.flag.is_sound()
+        (self.state().is_unconfigured() || self.state().is_installed()) && self.flag().is_sound()
     }
 
     /// Whether something of the package is left to be done, or it is to be installed again.
     pub fn is_unfinished(&self) -> bool
         ensures { result ≡ is_unfinished self.now }
     {
-        self.state.is_unfinished() || (!self.flag.is_sound() && !self.state.is_not_installed())
+        (!self.flag().is_sound() && !self.state().is_not_installed()) || self.state().is_unfinished()
     }
 }
