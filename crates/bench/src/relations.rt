@@ -1,4 +1,7 @@
 //! Testing and reading the relation fields of a Packages file.
+ghost use Rattle.std.specs.Prelude.{◌≡◌, None, All, IfOk};
+ghost use Rattle.relation.specs.Refusal.{fault_of};
+
 use crate::report::{print_share, print_time};
 use anyhow::Result;
 use relation::{
@@ -61,7 +64,9 @@ fn form_of(name: &[u8]) -> Option<Form> {
     }
 }
 
-fn check_all(fields: &[RelationField<'_>]) -> Result<(), RelationFault> {
+fn check_all(fields: &[RelationField<'_>]) -> Result<(), RelationFault>
+    ensures { IfOk result (λ _. All (λ field. fault_of field.form field.value.now ≡ None) fields.now) }
+{
     for field in fields {
         check(field.form, field.value)?;
     }

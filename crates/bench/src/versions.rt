@@ -1,4 +1,7 @@
 //! Reading and comparing pairs of versions.
+ghost use Rattle.std.specs.Prelude.{◌≡◌, ◌<◌, ◌+◌, ◌^◌, length, IfOk};
+ghost use Rattle.std.specs.declared.cmp.Ordering.TheVariants.{Less, Equal, Greater};
+
 use crate::report::{print_share, print_time};
 use anyhow::{Context, Result, bail};
 use debversion::{BadVersion, Version};
@@ -60,7 +63,9 @@ fn texts_of(alloc: Global, text: &[u8]) -> Result<Vec<Texts<'_>>> {
     Ok(pairs)
 }
 
-fn compare_texts(pairs: &[Texts<'_>]) -> Result<Tally, BadVersion> {
+fn compare_texts(pairs: &[Texts<'_>]) -> Result<Tally, BadVersion>
+    ensures { IfOk result (λ tally. tally.earlier + tally.equal + tally.later ≡ length pairs.now) }
+{
     let mut tally = Tally::default();
     for (first, second) in pairs {
         tally = tally.and(Version::parse(first)?.cmp(&Version::parse(second)?));
@@ -68,7 +73,9 @@ fn compare_texts(pairs: &[Texts<'_>]) -> Result<Tally, BadVersion> {
     Ok(tally)
 }
 
-fn versions_of<'a>(alloc: Global, pairs: &[Texts<'a>]) -> Result<Vec<Versions<'a>>> {
+fn versions_of<'a>(alloc: Global, pairs: &[Texts<'a>]) -> Result<Vec<Versions<'a>>>
+    ensures { IfOk result (λ versions. length versions.items ≡ length pairs.now) }
+{
     let mut versions = Vec::with_capacity(alloc, pairs.len())?;
     for (first, second) in pairs {
         versions.push((Version::parse(first)?, Version::parse(second)?))?;
@@ -76,7 +83,9 @@ fn versions_of<'a>(alloc: Global, pairs: &[Texts<'a>]) -> Result<Vec<Versions<'a
     Ok(versions)
 }
 
-fn compare(pairs: &[Versions<'_>]) -> Tally {
+fn compare(pairs: &[Versions<'_>]) -> Tally
+    ensures { result.earlier + result.equal + result.later ≡ length pairs.now }
+{
     let mut tally = Tally::default();
     for (first, second) in pairs {
         tally = tally.and(first.cmp(second));
@@ -86,12 +95,18 @@ fn compare(pairs: &[Versions<'_>]) -> Tally {
 
 impl Tally {
     /// With one pair more, of this order.
-    fn and(self, ordering: Ordering) -> Tally {
+    fn and(self, ordering: Ordering) -> Tally
+        requires room { self.earlier + self.equal + self.later + 1 < 2 ^ 64 }
+        ensures total { result.earlier + result.equal + result.later ≡ self.earlier + self.equal + self.later + 1 }
+        ensures earlier { ordering ≡ Less → result.earlier ≡ self.earlier + 1 }
+        ensures equal { ordering ≡ Equal → result.equal ≡ self.equal + 1 }
+        ensures later { ordering ≡ Greater → result.later ≡ self.later + 1 }
+    {
         let mut tally = self;
         match ordering {
-            Ordering::Less => tally.earlier = self.earlier.saturating_add(1),
-            Ordering::Equal => tally.equal = self.equal.saturating_add(1),
-            Ordering::Greater => tally.later = self.later.saturating_add(1),
+            Ordering::Less => tally.earlier += 1,
+            Ordering::Equal => tally.equal += 1,
+            Ordering::Greater => tally.later += 1,
         }
         tally
     }
