@@ -45,8 +45,8 @@ while [ "$round" -lt "$rounds" ]; do
     "$program" versions "$work/pairs" > "$work/ours" 2>> "$work/times"
     "$python" "$here/apt_versions.py" "$work/pairs" > "$work/apt" 2>> "$work/times"
     cat "$work/ours" >> "$work/counts"
-    for order in $(sed 's/^[a-z]* //; s/ /_/g' "$work/ours"); do
-        [ "$order" = "$(sed 's/^[a-z]* //; s/ /_/g' "$work/apt")" ] ||
+    for subject in pairs compared; do
+        [ "$(sed -n "s/^$subject //p" "$work/ours")" = "$(sed -n 's/^apt //p' "$work/apt")" ] ||
             fail "apt orders the pairs otherwise: $(cat "$work/apt")"
     done
 done

@@ -9,7 +9,7 @@ mod report;
 mod stanzas;
 mod versions;
 
-use anyhow::{Context, Result};
+use anyhow::Result;
 use arguments::{Measure, Task, tasks_of};
 use std::process::ExitCode;
 use std::{env, fs, io};
@@ -24,7 +24,8 @@ fn main(rt: HostRuntime) -> io::Result<ExitCode> {
     };
     for task in tasks.iter() {
         if let Err(error) = run(&rt, task) {
-            eprintln!(rt; "bench: {error:#}")?;
+            let path = task.path;
+            eprintln!(rt; "bench: {path}: {error:#}")?;
             return Ok(ExitCode::FAILURE);
         }
     }
@@ -32,8 +33,7 @@ fn main(rt: HostRuntime) -> io::Result<ExitCode> {
 }
 
 fn run(rt: &HostRuntime, task: &Task<'_>) -> Result<()> {
-    let path = task.path;
-    let text = fs::read(rt, path).context(format_args!("{path}"))?;
+    let text = fs::read(rt, task.path)?;
     match task.measure {
         Measure::Stanzas => stanzas::measure(rt, text.as_slice()),
         Measure::Versions => versions::measure(rt, text.as_slice()),
