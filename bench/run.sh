@@ -1,0 +1,56 @@
+#!/bin/sh
+# run.sh DIR: measures debplan's readers on the *.Packages files of DIR, beside wc, grep and apt, and prints a
+# table of medians. README.md says what is measured.
+# Environment: ROUNDS (default 5); PYTHON, which has python3-apt (default Debian's own, /usr/bin/python3).
+set -eu
+
+fail() {
+    echo "run.sh: $1" >&2
+    exit 1
+}
+
+[ $# -eq 1 ] || fail "usage: run.sh DIR"
+here=$(cd "$(dirname "$0")" && pwd)
+program=$here/../crates/bench/out/bench
+python=${PYTHON:-/usr/bin/python3}
+rounds=${ROUNDS:-5}
+[ -d "$1" ] || fail "$1 is no folder"
+ls "$1"/*.Packages > /dev/null 2>&1 || fail "$1 has no file *.Packages"
+[ -x "$program" ] || fail "crates/bench/out/bench is missing: 'rt run' in crates/bench builds it"
+"$python" -c 'import apt_pkg' 2> /dev/null || fail "$python has no apt_pkg: install python3-apt, or set PYTHON"
+
+work=$(mktemp -d)
+trap 'rm -rf "$work"' EXIT
+for file in "$1"/*.Packages; do
+    cat "$file"
+    echo
+done > "$work/Packages"
+"$python" "$here/version_pairs.py" "$work/Packages" > "$work/pairs"
+
+# Prints the time of a whole command, start and end of its process included.
+timed() {
+    "$python" "$here/time_command.py" "$@" >> "$work/counts" 2>> "$work/times"
+}
+
+export LC_ALL=C
+cut -d' ' -f1-3 /proc/loadavg > "$work/load"
+round=0
+while [ "$round" -lt "$rounds" ]; do
+    round=$((round + 1))
+    : > "$work/counts"
+    timed "wc -l" wc -l "$work/Packages"
+    timed "grep -c" grep -c ^Package: "$work/Packages"
+    timed "bench stanzas, whole process" "$program" stanzas "$work/Packages"
+    "$program" relations "$work/Packages" >> "$work/counts" 2>> "$work/times"
+    "$program" versions "$work/pairs" > "$work/ours" 2>> "$work/times"
+    "$python" "$here/apt_versions.py" "$work/pairs" > "$work/apt" 2>> "$work/times"
+    cat "$work/ours" >> "$work/counts"
+    for subject in pairs compared; do
+        [ "$(sed -n "s/^$subject //p" "$work/ours")" = "$(sed -n 's/^apt //p' "$work/apt")" ] ||
+            fail "apt orders the pairs otherwise: $(cat "$work/apt")"
+    done
+done
+echo "$rounds rounds; load of the machine before: $(cat "$work/load"), after: $(cut -d' ' -f1-3 /proc/loadavg)"
+echo "processor: $(sed -n 's/^model name[^:]*: *//p' /proc/cpuinfo | head -n 1)"
+sed "s,$work/,," "$work/counts"
+"$python" "$here/table.py" < "$work/times"

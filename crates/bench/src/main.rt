@@ -1,0 +1,42 @@
+//! What debplan's readers cost on real data. `bench MEASURE FILE ..` reads each FILE once, does the work of
+//! the MEASURE before it, and prints fixed counts; times go to standard error alone.
+//! It stands on `stanza`, `debversion` and `relation`, and nothing stands on it.
+#![tactic(auto)]
+
+mod arguments;
+mod relations;
+mod report;
+mod stanzas;
+mod versions;
+
+use anyhow::Result;
+use arguments::{Measure, Task, tasks_of};
+use std::process::ExitCode;
+use std::{env, fs, io};
+
+const USAGE: &str = "usage: bench (stanzas|versions|relations) FILE ..";
+
+fn main(rt: HostRuntime) -> io::Result<ExitCode> {
+    let words: Vec<String> = env::args(&rt)?.skip(1).collect(rt.alloc())?;
+    let Some(tasks) = tasks_of(rt.alloc(), words.as_slice())? else {
+        eprintln!(rt; "{USAGE}")?;
+        return Ok(ExitCode::from(2));
+    };
+    for task in tasks.iter() {
+        if let Err(error) = run(&rt, task) {
+            let path = task.path;
+            eprintln!(rt; "bench: {path}: {error:#}")?;
+            return Ok(ExitCode::FAILURE);
+        }
+    }
+    Ok(ExitCode::SUCCESS)
+}
+
+fn run(rt: &HostRuntime, task: &Task<'_>) -> Result<()> {
+    let text = fs::read(rt, task.path)?;
+    match task.measure {
+        Measure::Stanzas => stanzas::measure(rt, text.as_slice()),
+        Measure::Versions => versions::measure(rt, text.as_slice()),
+        Measure::Relations => relations::measure(rt, text.as_slice()),
+    }
+}
