@@ -31,7 +31,9 @@ fn has_configurable(db: &[PackageRecord<'_, '_>], name: &[u8]) -> bool
 pub fn are_configurable(db: &[PackageRecord<'_, '_>], names: &[Name]) -> bool
     ensures { IsTrue result ↔ AreConfigurable db.now names.now }
 {
-    names.iter().all(|name| has_configurable(db, name.as_bytes()))
+    names
+        .iter()
+        .all(|name| has_configurable(db, name.as_bytes()))
 }
 
 // Whether the record is of one of the names.
@@ -80,7 +82,11 @@ fn are_met(db: &[PackageRecord<'_, '_>], clauses: &[Clause<'_>]) -> bool
 }
 
 // Whether the record isn't of these names, or its Pre-Depends are met by installed packages.
-fn is_other_or_prepared(db: &[PackageRecord<'_, '_>], names: &[Name], member: &PackageRecord<'_, '_>) -> bool
+fn is_other_or_prepared(
+    db: &[PackageRecord<'_, '_>],
+    names: &[Name],
+    member: &PackageRecord<'_, '_>,
+) -> bool
     ensures { IsTrue result ↔ (Contains names.now member.now.name
         → MeetsClauses (installed_of db.now) member.now.relations.pre_depends) }
 {
@@ -93,11 +99,16 @@ fn is_other_or_prepared(db: &[PackageRecord<'_, '_>], names: &[Name], member: &P
 pub fn are_pre_depends_installed(db: &[PackageRecord<'_, '_>], names: &[Name]) -> bool
     ensures { IsTrue result ↔ ArePreDependsInstalled db.now names.now }
 {
-    db.iter().all(|member| is_other_or_prepared(db, names, member))
+    db.iter()
+        .all(|member| is_other_or_prepared(db, names, member))
 }
 
 // Whether a present package of another name breaks the package of the record.
-fn is_spared_by(other: &PackageRecord<'_, '_>, member: &PackageRecord<'_, '_>, here: &Pkg<'_>) -> bool
+fn is_spared_by(
+    other: &PackageRecord<'_, '_>,
+    member: &PackageRecord<'_, '_>,
+    here: &Pkg<'_>,
+) -> bool
     requires { here.now ≡ pkg_of member.now }
     ensures { IsTrue result ↔ (other.now.name ≢ member.now.name → IsPresent other.now
         → ¬ BreaksOther (pkg_of other.now) (pkg_of member.now)) }
@@ -127,7 +138,11 @@ fn is_unbroken(db: &[PackageRecord<'_, '_>], member: &PackageRecord<'_, '_>) -> 
     }
 }
 
-fn is_other_or_unbroken(db: &[PackageRecord<'_, '_>], names: &[Name], member: &PackageRecord<'_, '_>) -> bool
+fn is_other_or_unbroken(
+    db: &[PackageRecord<'_, '_>],
+    names: &[Name],
+    member: &PackageRecord<'_, '_>,
+) -> bool
     ensures { IsTrue result ↔ (Contains names.now member.now.name → IsUnbroken db.now member.now) }
 {
     !is_member(names, member) || is_unbroken(db, member)
@@ -139,7 +154,8 @@ fn is_other_or_unbroken(db: &[PackageRecord<'_, '_>], names: &[Name], member: &P
 pub fn are_unbroken(db: &[PackageRecord<'_, '_>], names: &[Name]) -> bool
     ensures { IsTrue result ↔ AreUnbroken db.now names.now }
 {
-    db.iter().all(|member| is_other_or_unbroken(db, names, member))
+    db.iter()
+        .all(|member| is_other_or_unbroken(db, names, member))
 }
 
 // Whether the record is present, of one of the names, and matches the clause.
@@ -175,7 +191,11 @@ fn are_met_with(db: &[PackageRecord<'_, '_>], names: &[Name], clauses: &[Clause<
 }
 
 // Whether the record isn't of these names, or its Depends are met by installed packages and members.
-fn is_other_or_supplied(db: &[PackageRecord<'_, '_>], names: &[Name], member: &PackageRecord<'_, '_>) -> bool
+fn is_other_or_supplied(
+    db: &[PackageRecord<'_, '_>],
+    names: &[Name],
+    member: &PackageRecord<'_, '_>,
+) -> bool
     ensures { IsTrue result ↔ (Contains names.now member.now.name
         → MeetsClauses (installed_of db.now ++ members_of names.now db.now) member.now.relations.depends) }
 {
@@ -188,5 +208,6 @@ fn is_other_or_supplied(db: &[PackageRecord<'_, '_>], names: &[Name], member: &P
 pub fn are_depends_installed(db: &[PackageRecord<'_, '_>], names: &[Name]) -> bool
     ensures { IsTrue result ↔ AreDependsInstalled db.now names.now }
 {
-    db.iter().all(|member| is_other_or_supplied(db, names, member))
+    db.iter()
+        .all(|member| is_other_or_supplied(db, names, member))
 }

@@ -53,5 +53,6 @@ fn is_named_version(found: &PackageRecord<'_, '_>, name: &[u8], version: &Versio
 pub fn stands_as(db: &[PackageRecord<'_, '_>], name: &[u8], version: &Version<'_>) -> bool
     ensures { IsTrue result ↔ StandsAs db.now name.now version.now }
 {
-    db.iter().any(|found| is_named_version(found, name, version))
+    db.iter()
+        .any(|found| is_named_version(found, name, version))
 }

@@ -9,7 +9,9 @@ mod matching;
 mod remove;
 mod unpack;
 
-pub use configure::{are_configurable, are_depends_installed, are_pre_depends_installed, are_unbroken};
+pub use configure::{
+    are_configurable, are_depends_installed, are_pre_depends_installed, are_unbroken,
+};
 pub use held::{is_not_held, stands_as};
 pub use remove::{can_be_removed, is_essential, is_installed, is_not_needed, is_removed};
 pub use unpack::{breaks_none, has_no_conflict, has_pre_depends};

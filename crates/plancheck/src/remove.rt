@@ -105,7 +105,9 @@ fn manages_without_all(
     requires { there.now ≡ pkg_of removed.now }
     ensures { IsTrue result ↔ All (ManagesWithout db.now removed.now) clauses.now }
 {
-    clauses.iter().all(|clause| manages_without(db, removed, there, clause))
+    clauses
+        .iter()
+        .all(|clause| manages_without(db, removed, there, clause))
 }
 
 // Whether each clause of the other record that the package matches is matched by another.
@@ -151,14 +153,23 @@ fn is_own_or_needs_not(
 
 // Whether no installed package of another name needs the package of the record.
 #[tactic(auto, unfolding(rules::specs::Remove::IsExpendable))]
-fn is_expendable(db: &[PackageRecord<'_, '_>], removed: &PackageRecord<'_, '_>, there: &Pkg<'_>) -> bool
+fn is_expendable(
+    db: &[PackageRecord<'_, '_>],
+    removed: &PackageRecord<'_, '_>,
+    there: &Pkg<'_>,
+) -> bool
     requires { there.now ≡ pkg_of removed.now }
     ensures { IsTrue result ↔ IsExpendable db.now removed.now }
 {
-    db.iter().all(|other| is_own_or_needs_not(db, removed, there, other))
+    db.iter()
+        .all(|other| is_own_or_needs_not(db, removed, there, other))
 }
 
-fn is_other_or_expendable(db: &[PackageRecord<'_, '_>], name: &[u8], removed: &PackageRecord<'_, '_>) -> bool
+fn is_other_or_expendable(
+    db: &[PackageRecord<'_, '_>],
+    name: &[u8],
+    removed: &PackageRecord<'_, '_>,
+) -> bool
     ensures { IsTrue result ↔ (removed.now.name ≡ name.now → IsPresent removed.now → IsExpendable db.now removed.now) }
 {
     match removed.present_pkg() {
@@ -173,5 +184,6 @@ fn is_other_or_expendable(db: &[PackageRecord<'_, '_>], name: &[u8], removed: &P
 pub fn is_not_needed(db: &[PackageRecord<'_, '_>], name: &[u8]) -> bool
     ensures { IsTrue result ↔ IsNotNeeded db.now name.now }
 {
-    db.iter().all(|removed| is_other_or_expendable(db, name, removed))
+    db.iter()
+        .all(|removed| is_other_or_expendable(db, name, removed))
 }

@@ -66,14 +66,18 @@ fn is_other_and_satisfies(found: &PackageRecord<'_, '_>, name: &[u8], atom: &Ato
 fn is_atom_satisfied(db: &[PackageRecord<'_, '_>], name: &[u8], atom: &Atom<'_>) -> bool
     ensures { IsTrue result ↔ SomeOther (λ other. SatisfiesAtom other atom.now) name.now db.now }
 {
-    db.iter().any(|other| is_other_and_satisfies(other, name, atom))
+    db.iter()
+        .any(|other| is_other_and_satisfies(other, name, atom))
 }
 
 #[tactic(auto, unfolding(rules::specs::Unpack::IsSatisfied))]
 fn is_satisfied(db: &[PackageRecord<'_, '_>], name: &[u8], clause: &Clause<'_>) -> bool
     ensures { IsTrue result ↔ IsSatisfied db.now name.now clause.now }
 {
-    clause.as_slice().iter().any(|atom| is_atom_satisfied(db, name, atom))
+    clause
+        .as_slice()
+        .iter()
+        .any(|atom| is_atom_satisfied(db, name, atom))
 }
 
 /// Whether each Pre-Depends clause of the package is satisfied by packages of other names. Linear in the
@@ -82,7 +86,9 @@ fn is_satisfied(db: &[PackageRecord<'_, '_>], name: &[u8], clause: &Clause<'_>) 
 pub fn has_pre_depends(db: &[PackageRecord<'_, '_>], pkg: &Pkg<'_>) -> bool
     ensures { IsTrue result ↔ HasPreDepends db.now pkg.now }
 {
-    pkg.pre_depends().iter().all(|clause| is_satisfied(db, pkg.name(), clause))
+    pkg.pre_depends()
+        .iter()
+        .all(|clause| is_satisfied(db, pkg.name(), clause))
 }
 
 // Whether neither of the two conflicts with the other.

@@ -131,4 +131,4 @@ unfoldable pub dec_IsNotNeeded : (db : List Record) (name : List ℕ) → Dec (I
 unfolding IsNotNeeded
 dec_IsNotNeeded db name = dec_All (λ removed. removed.name ≡ name → IsPresent removed → IsExpendable db removed)
     (λ removed. dec_implies (dec_text removed.name name)
-      (dec_implies (dec_IsTrue (is_present_state removed.state)) (dec_IsExpendable db removed))) db
+    (dec_implies (dec_IsTrue (is_present_state removed.state)) (dec_IsExpendable db removed))) db

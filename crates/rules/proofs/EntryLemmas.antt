@@ -1,5 +1,5 @@
 -- The records of what an action writes are what it leaves.
-use Rattle.std.proofs.Common.{◌≡◌, ℕ, Bool, true, false, not, cond, List, [], ◌∷◌, ◌++◌, map, Option, Some, None, refl, ap, ◌∙◌}
+use Rattle.std.proofs.Common.{◌≡◌, Bool, true, false, not, cond, List, [], ◌∷◌, ◌++◌, Option, Some, None, refl}
 use Rattle.std.specs.List.{filter, list_any}
 use Rattle.rules.specs.Database.{Record}
 use Rattle.rules.specs.Entry.{Entry, records_of, touched_entry, unpacked_entry, new_entry, changed_entries, entries_after_unpack, entries_after}

@@ -3,18 +3,17 @@ use Rattle.std.proofs.Common.{◌&&◌, ◌≡◌, ◌≢◌, ℕ, zero, suc, �
 use Rattle.std.specs.Prelude.{◌↔◌}
 use Rattle.std.specs.List.{All, Any, Contains, filter}
 use Rattle.std.proofs.lemmas.List.Elements.{All-contains, All-weaker, All-contains_itself, Contains-append_left, Contains-append_right, Contains-append_cases, All-head}
-use Rattle.std.proofs.lemmas.Slice.Eq.{bytes_eq-Decides}
 use Rattle.rules.specs.Configure.{is_present_among, HasConfigurable, IsConfigurable, AreConfigurable, ArePreDependsInstalled, AreDependsInstalled, IsUnbroken, AreUnbroken, GroupPasses, members_of, others_of, IsGreatestPart, IsProperPart, IsIndivisible}
 use Rattle.rules.specs.Database.{Record, HasRecord, ForMembers, pkg_of, installed_of}
 use Rattle.rules.specs.Package.{Pkg, Atom, MatchesSome, MeetsClause}
 use Rattle.rules.specs.Sound.{MeetsClauses}
 use Rattle.rules.specs.State.{is_present_state, is_unconfigured_state, is_sound_flag}
-use Rattle.rules.specs.Step.{is_among, is_named}
+use Rattle.rules.specs.Step.{is_among}
 use Rattle.rules.proofs.Decided.{dec_IsTrue, dec_and, dec_implies, dec_text, dec_All, dec_like, all_or_some}
 use Rattle.rules.proofs.DecidedPackages.{dec_MeetsClauses}
 use Rattle.rules.proofs.DecidedSteps.{dec_HasRecord, dec_IsUnbroken}
 use Rattle.rules.specs.NamedLaws.{bytes_eq-true, bytes_eq-same, is_among-contains, contains-is_among}
-use Rattle.rules.specs.ElementLaws.{All-intro, Any-intro, Any-elim, Any-contains, Any-from_list_any, list_any-from_contains, Contains-head, Contains-cons, Contains-nil, Contains-map, Contains-map_intro, Contains-filter, Contains-filter_intro}
+use Rattle.rules.specs.ElementLaws.{All-intro, Any-intro, Any-elim, Any-contains, Contains-head, Contains-cons, Contains-nil, Contains-map, Contains-map_intro, Contains-filter, Contains-filter_intro}
 use mathlib.Core.Logic.{inl, inr}
 
 -- what more members meet
@@ -46,7 +45,7 @@ members_of-more db names more within member there =
     let among : is_among more from.0 ≡ true = is_among-contains more from.0 (within from.0.name (contains-is_among names from.0 both.1)) in
     let passes : is_present_among more from.0 ≡ true = rw (both.0, among) refl in
     subst (Contains (members_of more db)) from.2
-        (Contains-map_intro pkg_of (filter (is_present_among more) db) from.0 (Contains-filter_intro (is_present_among more) db from.0 kept.0 passes))
+    (Contains-map_intro pkg_of (filter (is_present_among more) db) from.0 (Contains-filter_intro (is_present_among more) db from.0 kept.0 passes))
 
 -- the members of a group and the installed packages, of more names
 pub available-more : (db : List Record) (names more : List (List ℕ)) → ((name : List ℕ) → Contains names name → Contains more name)

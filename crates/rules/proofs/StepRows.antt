@@ -2,7 +2,7 @@
 use Rattle.std.proofs.Common.{◌≡◌, ℕ, List, [], ◌∷◌, ◌⊎◌, Option, Some, None, refl, sym, subst, lit<}
 use Rattle.std.specs.Prelude.{codes}
 use Rattle.std.specs.List.{Contains}
-use Rattle.rules.specs.Configure.{HasConfigurable, GroupPasses, IsIndivisible, IsGreatestPart, others_of}
+use Rattle.rules.specs.Configure.{GroupPasses, IsIndivisible, IsGreatestPart, others_of}
 use Rattle.rules.specs.Database.{Record}
 use Rattle.rules.specs.Legal.{Allowed, IsFirstFailing}
 use Rattle.rules.specs.Package.{Pkg}

@@ -112,21 +112,21 @@ pub Any-map_filter : {X Y : Type 0} (P : Y → Type 0) (f : X → Y) (p : X → 
     → Any (λ x. (p x ≡ true) × P (f x)) xs → Any P (map f (filter p xs))
 Any-map_filter P f p xs some = Any-elim (λ x. (p x ≡ true) × P (f x)) xs (Any P (map f (filter p xs)))
     (λ x within both. Any-intro P (map f (filter p xs)) (f x)
-      (Contains-map_intro f (filter p xs) x (Contains-filter_intro p xs x within both.0)) both.1) some
+    (Contains-map_intro f (filter p xs) x (Contains-filter_intro p xs x within both.0)) both.1) some
 
 pub Any-filter_map : {X Y : Type 0} (P : Y → Type 0) (f : X → Y) (p : X → Bool) (xs : List X)
     → Any P (map f (filter p xs)) → Any (λ x. (p x ≡ true) × P (f x)) xs
 Any-filter_map {X} {Y} P f p xs some = Any-elim P (map f (filter p xs)) (Any (λ x. (p x ≡ true) × P (f x)) xs)
     (λ y within holds.
-      let from = Contains-map f (filter p xs) y within in
-      let kept = Contains-filter p xs from.0 from.1 in
-      Any-intro (λ x. (p x ≡ true) × P (f x)) xs from.0 kept.0 (kept.1, subst P (sym from.2) holds)) some
+    let from = Contains-map f (filter p xs) y within in
+    let kept = Contains-filter p xs from.0 from.1 in
+    Any-intro (λ x. (p x ≡ true) × P (f x)) xs from.0 kept.0 (kept.1, subst P (sym from.2) holds)) some
 
 -- some element of either list
 pub Any-append : {X : Type 0} (P : X → Type 0) (xs ys : List X) → Any P (xs ++ ys) → Any P xs ⊎ Any P ys
 Any-append P xs ys some = Any-elim P (xs ++ ys) (Any P xs ⊎ Any P ys)
     (λ x within holds. elim (Contains-append_cases xs ys x within)
-      [ inl here ↦ inl (Any-intro P xs x here holds) | inr there ↦ inr (Any-intro P ys x there holds) ]) some
+    [ inl here ↦ inl (Any-intro P xs x here holds) | inr there ↦ inr (Any-intro P ys x there holds) ]) some
 
 pub Any-append_left : {X : Type 0} (P : X → Type 0) (xs ys : List X) → Any P xs → Any P (xs ++ ys)
 Any-append_left P xs ys some = Any-elim P xs (Any P (xs ++ ys))
@@ -138,5 +138,7 @@ Any-append_right P xs ys some = Any-elim P ys (Any P (xs ++ ys))
 
 -- what holds of each element of two lists in a row
 pub All-parts : {X : Type 0} (P : X → Type 0) (xs ys : List X) → All P (xs ++ ys) → All P xs × All P ys
-All-parts P xs ys all = (All-intro P xs (λ x within. All-contains P (xs ++ ys) x all (Contains-append_left xs ys x within)),
-    All-intro P ys (λ y within. All-contains P (xs ++ ys) y all (Contains-append_right xs ys y within)))
+All-parts P xs ys all = (
+  All-intro P xs (λ x within. All-contains P (xs ++ ys) x all (Contains-append_left xs ys x within)),
+  All-intro P ys (λ y within. All-contains P (xs ++ ys) y all (Contains-append_right xs ys y within)),
+)

@@ -1,6 +1,6 @@
 -- What an action writes: the entries of the status file, each a record with its stanza (Policy 5, dpkg(1)).
 -- Which fields are kept, dropped and in what order is this project's own.
-use Rattle.std.specs.Prelude.{◌≡◌, ℕ, Bool, not, List, [], ◌∷◌, ◌++◌, map, Option, Some, None, if◌then◌else◌}
+use Rattle.std.specs.Prelude.{◌≡◌, ℕ, Bool, not, List, [], ◌∷◌, ◌++◌, map, Option, None, if◌then◌else◌}
 use Rattle.std.specs.List.{filter, list_any}
 use Rattle.std.specs.Option.{option_map_or}
 use Rattle.rules.specs.Database.{Record}

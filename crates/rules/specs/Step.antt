@@ -9,7 +9,6 @@ use Rattle.rules.specs.Stanza.{Stanza}
 use Rattle.rules.specs.State.{is_unconfigured_state, is_installed_state}
 use Rattle.rules.specs.declared.status.Flag.TheVariants.{Sound}
 use Rattle.rules.specs.declared.status.State.TheVariants.{ConfigFiles, Unpacked, HalfConfigured, Installed}
-use Rattle.rules.specs.declared.status.Want.{Want}
 use Rattle.rules.specs.declared.status.Want.TheVariants.{Install, Deinstall}
 use Rattle.rules.specs.declared.step.Step.{Step}
 use Rattle.rules.specs.declared.step.Step.TheVariants.{Unpack, Deconfigure, Configure, Remove, Purge}

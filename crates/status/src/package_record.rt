@@ -41,7 +41,7 @@ impl<'p, 'a> Model for PackageRecord<'p, 'a> {
       version = unwrap_or r.version [];
       config_version = r.config_version;
       relations = option_map_or (λ p. p.now.relations) r.pkg no_relations;
-      is_essential = r.is_essential
+      is_essential = r.is_essential;
     } };
 
     ghost invariant = { λ r. HasItsPkg r.state r.name.now r.version (option_copied r.pkg) };
@@ -195,6 +195,7 @@ impl<'p, 'a> PackageRecord<'p, 'a> {
     pub fn is_unfinished(&self) -> bool
         ensures { result ≡ is_unfinished self.now }
     {
-        (!self.flag().is_sound() && !self.state().is_not_installed()) || self.state().is_unfinished()
+        (!self.flag().is_sound() && !self.state().is_not_installed())
+            || self.state().is_unfinished()
     }
 }

@@ -5,5 +5,6 @@ use Rattle.plancheck.proofs.configure.is_member.Goals as goal
 
 pub returns : goal.returns
 returns c = (
-    λ passes. contains-is_among c.args.names.now c.args.found.now (sym c.is_among.ensures ∙ passes),
-    λ within. c.is_among.ensures ∙ is_among-contains c.args.names.now c.args.found.now within)
+  λ passes. contains-is_among c.args.names.now c.args.found.now (sym c.is_among.ensures ∙ passes),
+  λ within. c.is_among.ensures ∙ is_among-contains c.args.names.now c.args.found.now within,
+)

@@ -12,17 +12,19 @@ returns-then-manages_without_all c =
     let relations = c.args.other.now.relations in
     let P : List Atom → Type 0 = ManagesWithout c.args.db.now c.args.removed.now in
     let Q : List (List Atom) → Type 0 = λ clauses. All P clauses in (
-    λ met. All-append P relations.pre_depends relations.depends
-      (subst Q c.pre_depends.ensures (c.manages_without_all.ensures.0 c.if-manages_without_all.true))
-      (subst Q c.depends.ensures (c.manages_without_all-then-manages_without_all.ensures.0 met)),
-    λ all. c.manages_without_all-then-manages_without_all.ensures.1
-      (subst Q (sym c.depends.ensures) (All-parts P relations.pre_depends relations.depends all).1))
+      λ met. All-append P relations.pre_depends relations.depends
+          (subst Q c.pre_depends.ensures (c.manages_without_all.ensures.0 c.if-manages_without_all.true))
+          (subst Q c.depends.ensures (c.manages_without_all-then-manages_without_all.ensures.0 met)),
+      λ all. c.manages_without_all-then-manages_without_all.ensures.1
+          (subst Q (sym c.depends.ensures) (All-parts P relations.pre_depends relations.depends all).1),
+    )
 
 pub returns-else-manages_without_all : goal.returns-else-manages_without_all
 returns-else-manages_without_all c =
     let relations = c.args.other.now.relations in
     let P : List Atom → Type 0 = ManagesWithout c.args.db.now c.args.removed.now in
     let Q : List (List Atom) → Type 0 = λ clauses. All P clauses in (
-    λ met. absurd (let e : true ≡ false = sym met ∙ c.if-manages_without_all.false in cc),
-    λ all. c.manages_without_all.ensures.1
-      (subst Q (sym c.pre_depends.ensures) (All-parts P relations.pre_depends relations.depends all).0))
+      λ met. absurd (let e : true ≡ false = sym met ∙ c.if-manages_without_all.false in cc),
+      λ all. c.manages_without_all.ensures.1
+          (subst Q (sym c.pre_depends.ensures) (All-parts P relations.pre_depends relations.depends all).0),
+    )
