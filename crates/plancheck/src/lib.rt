@@ -5,6 +5,7 @@
 
 mod configure;
 mod held;
+mod legal;
 mod matching;
 mod remove;
 mod unpack;
@@ -13,5 +14,6 @@ pub use configure::{
     are_configurable, are_depends_installed, are_pre_depends_installed, are_unbroken,
 };
 pub use held::{is_not_held, stands_as};
+pub use legal::{deconfigure_failing, purge_failing, remove_failing, unpack_failing};
 pub use remove::{can_be_removed, is_essential, is_installed, is_not_needed, is_removed};
 pub use unpack::{breaks_none, has_no_conflict, has_pre_depends};

@@ -1,10 +1,11 @@
 -- The first rule that fails: there is one where a step isn't allowed, and no second one.
-use Rattle.std.proofs.Common.{◌≡◌, ℕ, List, [], ◌∷◌, ◌⊎◌, refl, sym, ◌∙◌}
+use Rattle.std.proofs.Common.{Option, ◌≡◌, ℕ, List, [], ◌∷◌, ◌⊎◌, refl, sym, ◌∙◌}
 use Rattle.std.specs.Prelude.{◌↔◌, is_some}
 use Rattle.std.specs.List.{All}
 use Rattle.std.proofs.lemmas.List.Elements.{All-nil, All-cons, All-head, All-tail}
 use Rattle.rules.specs.Database.{Record, IsPresent, IsInstalled, IsRemoved, HasSoundFlag, IsEssential}
 use Rattle.rules.specs.Legal.{UnpackAsks, ConfigureAsks, RemoveAsks, DeconfigureAsks, PurgeAsks, Asks, rules_of, Allowed, IsFirstUnkept, IsFirstFailing}
+use Rattle.rules.specs.Step.{Listed}
 use Rattle.rules.specs.State.{is_present_state, is_installed_state, is_config_files_state, is_sound_flag}
 use Rattle.rules.specs.Universe.{Universe, listed_of}
 use Rattle.rules.specs.Unpack.{HasPreDepends, HasNoConflict, BreaksNone}
@@ -17,14 +18,14 @@ use Rattle.rules.proofs.DecidedSteps.{dec_HasRecord, dec_HasPreDepends, dec_HasN
 use Rattle.rules.proofs.GroupLemmas.{dec_IsIndivisible}
 use mathlib.Core.Logic.{inl, inr}
 
-unfoldable pub dec_UnpackAsks : (u : Universe) (db : List Record) (name version : List ℕ) (asked : Rule) → Dec (UnpackAsks u db name version asked)
-dec_UnpackAsks u db name version rule.NotAdmitted = dec_IsTrue (is_some (listed_of u name version))
-dec_UnpackAsks u db name version rule.Held = dec_IsNotHeld db name
-dec_UnpackAsks u db name version rule.WrongState = dec_not (dec_StandsAs db name version)
-dec_UnpackAsks u db name version rule.PreDepends = dec_OnListed (HasPreDepends db) (dec_HasPreDepends db) (listed_of u name version)
-dec_UnpackAsks u db name version rule.Conflict = dec_OnListed (HasNoConflict db) (dec_HasNoConflict db) (listed_of u name version)
-dec_UnpackAsks u db name version rule.Breaks = dec_OnListed (BreaksNone db) (dec_BreaksNone db) (listed_of u name version)
-dec_UnpackAsks u db name version other = yes tt
+unfoldable pub dec_UnpackAsks : (listed : Option Listed) (db : List Record) (name version : List ℕ) (asked : Rule) → Dec (UnpackAsks listed db name version asked)
+dec_UnpackAsks listed db name version rule.NotAdmitted = dec_IsTrue (is_some listed)
+dec_UnpackAsks listed db name version rule.Held = dec_IsNotHeld db name
+dec_UnpackAsks listed db name version rule.WrongState = dec_not (dec_StandsAs db name version)
+dec_UnpackAsks listed db name version rule.PreDepends = dec_OnListed (HasPreDepends db) (dec_HasPreDepends db) listed
+dec_UnpackAsks listed db name version rule.Conflict = dec_OnListed (HasNoConflict db) (dec_HasNoConflict db) listed
+dec_UnpackAsks listed db name version rule.Breaks = dec_OnListed (BreaksNone db) (dec_BreaksNone db) listed
+dec_UnpackAsks listed db name version other = yes tt
 
 unfoldable pub dec_ConfigureAsks : (db : List Record) (names : List (List ℕ)) (asked : Rule) → Dec (ConfigureAsks db names asked)
 dec_ConfigureAsks db names rule.WrongState = dec_AreConfigurable db names
@@ -53,7 +54,7 @@ dec_PurgeAsks db name other = yes tt
 
 -- whether a step keeps a rule is decided
 unfoldable pub dec_Asks : (u : Universe) (db : List Record) (taken : Step) (asked : Rule) → Dec (Asks u db taken asked)
-dec_Asks u db (step.Unpack name version) asked = dec_UnpackAsks u db name version asked
+dec_Asks u db (step.Unpack name version) asked = dec_UnpackAsks (listed_of u name version) db name version asked
 dec_Asks u db (step.Deconfigure name) asked = dec_DeconfigureAsks db name asked
 dec_Asks u db (step.Configure names) asked = dec_ConfigureAsks db names asked
 dec_Asks u db (step.Remove name) asked = dec_RemoveAsks db name asked

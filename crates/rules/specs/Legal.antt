@@ -1,11 +1,12 @@
 -- Which action is legal when (Policy 7.2, 7.3 and 7.4; dpkg(1)): for each action the rules that it is tested
 -- by, in the order of the tests, and what each rule asks of it. What is said of holds and of admitted versions
 -- is this project's own.
-use Rattle.std.specs.Prelude.{◌≡◌, ℕ, List, [], ◌∷◌, ◌⊎◌, ⊤, IsSome}
+use Rattle.std.specs.Prelude.{◌≡◌, ℕ, List, [], ◌∷◌, ◌⊎◌, ⊤, IsSome, Option}
 use Rattle.std.specs.List.{All}
 use Rattle.rules.specs.Configure.{AreConfigurable, ArePreDependsInstalled, AreDependsInstalled, AreUnbroken, IsIndivisible}
 use Rattle.rules.specs.Database.{Record, HasRecord, IsPresent, IsInstalled, IsRemoved, HasSoundFlag, IsHeld, IsEssential}
 use Rattle.rules.specs.Remove.{IsNotNeeded}
+use Rattle.rules.specs.Step.{Listed}
 use Rattle.rules.specs.Universe.{Universe, StandsAs, listed_of}
 use Rattle.rules.specs.Unpack.{OnListed, HasPreDepends, HasNoConflict, BreaksNone}
 use Rattle.rules.specs.declared.step.Rule.{Rule}
@@ -23,15 +24,15 @@ IsNotHeld db name = ¬ HasRecord IsHeld name db
 abbrev pub unpack_rules : List Rule
 unpack_rules = rule.NotAdmitted ∷ rule.Held ∷ rule.WrongState ∷ rule.PreDepends ∷ rule.Conflict ∷ rule.Breaks ∷ []
 
--- what each asks of an unpacking of this version of the name
-abbrev pub UnpackAsks : Universe → List Record → List ℕ → List ℕ → Rule → Type 0
-UnpackAsks u db name version rule.NotAdmitted = IsSome (listed_of u name version)
-UnpackAsks u db name version rule.Held = IsNotHeld db name
-UnpackAsks u db name version rule.WrongState = ¬ StandsAs db name version
-UnpackAsks u db name version rule.PreDepends = OnListed (HasPreDepends db) (listed_of u name version)
-UnpackAsks u db name version rule.Conflict = OnListed (HasNoConflict db) (listed_of u name version)
-UnpackAsks u db name version rule.Breaks = OnListed (BreaksNone db) (listed_of u name version)
-UnpackAsks u db name version other = ⊤
+-- what each asks of an unpacking of this version of the name from this stanza of an index, if there is one
+abbrev pub UnpackAsks : Option Listed → List Record → List ℕ → List ℕ → Rule → Type 0
+UnpackAsks listed db name version rule.NotAdmitted = IsSome listed
+UnpackAsks listed db name version rule.Held = IsNotHeld db name
+UnpackAsks listed db name version rule.WrongState = ¬ StandsAs db name version
+UnpackAsks listed db name version rule.PreDepends = OnListed (HasPreDepends db) listed
+UnpackAsks listed db name version rule.Conflict = OnListed (HasNoConflict db) listed
+UnpackAsks listed db name version rule.Breaks = OnListed (BreaksNone db) listed
+UnpackAsks listed db name version other = ⊤
 
 -- Configure
 
@@ -95,7 +96,7 @@ rules_of (step.Purge name) = purge_rules
 
 -- what each rule asks of a step
 abbrev pub Asks : Universe → List Record → Step → Rule → Type 0
-Asks u db (step.Unpack name version) = UnpackAsks u db name version
+Asks u db (step.Unpack name version) = UnpackAsks (listed_of u name version) db name version
 Asks u db (step.Deconfigure name) = DeconfigureAsks db name
 Asks u db (step.Configure names) = ConfigureAsks db names
 Asks u db (step.Remove name) = RemoveAsks db name

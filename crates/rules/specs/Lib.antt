@@ -20,6 +20,7 @@ pub mod Stanza
 pub mod State
 pub mod Step
 pub mod Universe
+pub mod UnkeptLaws
 pub mod Unpack
 pub mod Version
 pub mod VersionFrontLaws

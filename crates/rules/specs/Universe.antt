@@ -97,10 +97,14 @@ abbrev pub candidate_of : Universe → List ℕ → Option (List ℕ)
 candidate_of u name =
     option_map (λ candidate. candidate.version) (find (λ candidate. bytes_eq candidate.name name) u.candidates)
 
+-- the index package of this version of the name among the pairs, if there is one
+abbrev pub listed_among : List Pair → List ℕ → List ℕ → Option Listed
+listed_among pairs name version =
+    option_and_then (λ pair. pair.listed) (find (λ pair. is_of name version pair.pkg) pairs)
+
 -- the index package of an admitted pair, if the pair is admitted and in an index
 abbrev pub listed_of : Universe → List ℕ → List ℕ → Option Listed
-listed_of u name version =
-    option_and_then (λ pair. pair.listed) (find (λ pair. is_of name version pair.pkg) u.pairs)
+listed_of u name version = listed_among u.pairs name version
 
 -- the stanza that a step unpacks
 abbrev pub listed_for : Universe → Step → Option Listed
