@@ -8,6 +8,8 @@ mod held;
 mod legal;
 mod matching;
 mod remove;
+#[cfg(test)]
+mod tests;
 mod unpack;
 
 pub use configure::{
