@@ -2,12 +2,12 @@
 use Rattle.std.proofs.Common.{◌≡◌, Some, None}
 use Rattle.stanza.specs.Field.{FieldText}
 use Rattle.relation.specs.PkgText.{on_line, relation_fault_in, relations_fault}
-use Rattle.relation.specs.Refusal.{fault_of, separator_of}
-use Rattle.relation.specs.Spelling.{parts_of}
+use Rattle.relation_text.specs.Refusal.{fault_of, separator_of}
+use Rattle.relation_text.specs.Spelling.{parts_of}
 use Rattle.relation.specs.Value.{HaveGoodVersions}
 use Rattle.relation.specs.declared.fields.PkgFields.{PkgFields}
-use Rattle.relation.specs.declared.shape.Form.{Form}
-use Rattle.relation.specs.declared.shape.Form.TheVariants.{Clauses, Atoms, Provides}
+use Rattle.relation_text.specs.declared.shape.Form.{Form}
+use Rattle.relation_text.specs.declared.shape.Form.TheVariants.{Clauses, Atoms, Provides}
 use Rattle.relation.proofs.GoodVersions.{good_unless_refused, none_mapped, none_or}
 
 pub good_field : (form : Form) (field : FieldText) → relation_fault_in form (Some field) ≡ None → HaveGoodVersions (parts_of (separator_of form) field.value)

@@ -2,13 +2,13 @@
 use Rattle.std.proofs.Common.{◌≡◌, ℕ, Bool, true, false, cond, ltb, ◌+◌, List, [], ◌∷◌, ◌++◌, length, Option, Some, None, refl, subst}
 use Rattle.std.specs.List.{flat_map}
 use Rattle.std.specs.Option.{option_map, option_or}
-use Rattle.relation.specs.Refusal.{sooner, least_refusal, fault_of, version_refusal_from, excess_from, shape_refusal_from, most_atoms, separator_of, bad_version_of, bad_version_at}
-use Rattle.relation.specs.Spelling.{parts_of, separates}
+use Rattle.relation_text.specs.Refusal.{sooner, least_refusal, fault_of, version_refusal_from, excess_from, shape_refusal_from, most_atoms, separator_of, bad_version_of, bad_version_at}
+use Rattle.relation_text.specs.Spelling.{parts_of, separates}
 use Rattle.relation.specs.Value.{HaveGoodVersions, HaveGoodParts}
-use Rattle.relation.specs.declared.cut.Separator.TheVariants.{Bar, Comma, CommaOrBar}
-use Rattle.relation.specs.declared.refusal.Refusal.{Refusal}
-use Rattle.relation.specs.declared.shape.Form.{Form}
-use Rattle.relation.specs.declared.shape.Place.TheVariants.{Between}
+use Rattle.relation_text.specs.declared.cut.Separator.TheVariants.{Bar, Comma, CommaOrBar}
+use Rattle.relation_text.specs.declared.refusal.Refusal.{Refusal}
+use Rattle.relation_text.specs.declared.shape.Form.{Form}
+use Rattle.relation_text.specs.declared.shape.Place.TheVariants.{Between}
 use Rattle.relation.proofs.SplitTwice.{split_twice}
 
 pub none_mapped : {A B : Type 0} (f : A → B) (option : Option A) → option_map f option ≡ None → option ≡ None

@@ -1,7 +1,4 @@
-pub mod ShapeLemmas
-pub mod Parts
 pub mod SplitTwice
 pub mod GoodVersions
 pub mod FieldsMore
 pub mod GoodFields
-pub mod FirstStop

@@ -2,8 +2,8 @@
 use Rattle.std.specs.Prelude.{◌≡◌, ⊤, Result, Err}
 use Rattle.relation.specs.declared.error.RelationError.{RelationError}
 use Rattle.relation.specs.declared.error.RelationError.TheVariants as error
-use Rattle.relation.specs.declared.error.RelationFault.{RelationFault}
-use Rattle.relation.specs.declared.error.RelationFault.TheVariants.{BadRelation, BadName, TooLarge}
+use Rattle.relation_text.specs.declared.error.RelationFault.{RelationFault}
+use Rattle.relation_text.specs.declared.error.RelationFault.TheVariants.{BadRelation, BadName, TooLarge}
 
 -- a refusal as an error
 abbrev pub error_of : RelationFault → RelationError

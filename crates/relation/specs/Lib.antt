@@ -1,10 +1,5 @@
-pub mod Bytes
-pub mod Cut
 pub mod Error
 pub mod Refusal
-pub mod Place
-pub mod Shape
-pub mod Spelling
 pub mod Value
 pub mod PkgText
 pub mod PkgFields

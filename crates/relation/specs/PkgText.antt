@@ -9,19 +9,19 @@ use Rattle.rules.specs.Package.{Pkg, Relations}
 use Rattle.stanza.specs.Field.{FieldText}
 use Rattle.stanza.specs.Stanza.{StanzaText}
 use Rattle.relation.specs.PkgFields.{fields_of}
-use Rattle.relation.specs.Refusal.{fault_of}
-use Rattle.relation.specs.Spelling.{atoms_between, clauses_of, provided_items_of}
-use Rattle.relation.specs.declared.cut.Separator.TheVariants.{Comma}
+use Rattle.relation_text.specs.Refusal.{fault_of}
+use Rattle.relation_text.specs.Spelling.{atoms_between, clauses_of, provided_items_of}
+use Rattle.relation_text.specs.declared.cut.Separator.TheVariants.{Comma}
 use Rattle.relation.specs.declared.error.PkgError.{PkgError}
 use Rattle.relation.specs.declared.error.PkgError.TheVariants as error
 use Rattle.relation.specs.declared.error.PkgFault.{PkgFault}
 use Rattle.relation.specs.declared.error.PkgFault.TheVariants.{MissingField, BadVersion, BadRelation, BadName, TooLarge}
-use Rattle.relation.specs.declared.error.RelationFault.{RelationFault}
-use Rattle.relation.specs.declared.error.RelationFault.TheVariants as relation
+use Rattle.relation_text.specs.declared.error.RelationFault.{RelationFault}
+use Rattle.relation_text.specs.declared.error.RelationFault.TheVariants as relation
 use Rattle.relation.specs.declared.error.RequiredField.TheVariants as required
 use Rattle.relation.specs.declared.fields.PkgFields.{PkgFields}
-use Rattle.relation.specs.declared.shape.Form.{Form}
-use Rattle.relation.specs.declared.shape.Form.TheVariants.{Clauses, Atoms, Provides}
+use Rattle.relation_text.specs.declared.shape.Form.{Form}
+use Rattle.relation_text.specs.declared.shape.Form.TheVariants.{Clauses, Atoms, Provides}
 
 -- the value of a field, or nothing where there is none
 abbrev pub value_in : Option FieldText → List ℕ

@@ -4,9 +4,9 @@ use Rattle.std.specs.List.{AllByRecursion}
 use Rattle.std.specs.Borrow.{Bor}
 use Rattle.rules.specs.declared.goal.Restriction.{Restriction}
 use Rattle.rules.specs.declared.op.Op.{Op}
-use Rattle.relation.specs.Refusal.{bad_version_of}
-use Rattle.relation.specs.Spelling.{parts_of}
-use Rattle.relation.specs.declared.cut.Separator.TheVariants.{Bar}
+use Rattle.relation_text.specs.Refusal.{bad_version_of}
+use Rattle.relation_text.specs.Spelling.{parts_of}
+use Rattle.relation_text.specs.declared.cut.Separator.TheVariants.{Bar}
 
 -- an operator and a version as a restriction
 abbrev pub restriction_by : Op × List ℕ → Restriction

@@ -2,14 +2,14 @@
 ghost use Rattle.std.specs.Prelude.{◌≡◌, None};
 ghost use Rattle.std.specs.Option.{option_map};
 ghost use Rattle.debversion.specs.Fault.{first_fault};
-ghost use Rattle.relation.specs.Refusal.{bad_version_of};
-ghost use Rattle.relation.specs.Spelling.{atom_of, inside_of, restriction_in};
+ghost use Rattle.relation_text.specs.Refusal.{bad_version_of};
+ghost use Rattle.relation_text.specs.Spelling.{atom_of, inside_of, restriction_in};
 ghost use Rattle.relation.specs.Value.{restriction_by, restriction_by_ref};
 
-use crate::cut::{
+use debversion::{Op, Version};
+use relation_text::{
     inside_of, is_foreign, split_name, split_operator, split_qualifier, version_front,
 };
-use debversion::{Op, Version};
 use std::marker::Model;
 
 /// An atom of a relation field: a name, with a restriction or none. It is foreign where its qualifier names
@@ -40,7 +40,7 @@ fn version_of(bytes: &[u8]) -> Version<'_>
 }
 
 // The restriction in an atom's text, whose version is known to be one.
-#[tactic(auto, unfolding(crate::specs::Refusal::bad_version_of))]
+#[tactic(auto, unfolding(relation_text::specs::Refusal::bad_version_of))]
 pub fn restriction_of(text: &[u8]) -> Option<(Op, Version<'_>)>
     requires { bad_version_of text.now ≡ None }
     ensures { option_map restriction_by result ≡ option_map restriction_in (inside_of text.now) }

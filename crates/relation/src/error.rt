@@ -1,4 +1,4 @@
-//! What is refused in a relation field.
+//! Why a value or a package wasn't read.
 ghost use Rattle.relation.specs.declared.error.RelationError.TheVariants.{OutOfMemory};
 ghost use Rattle.relation.specs.Error.{error_of};
 ghost use Rattle.relation.specs.PkgText.{pkg_error_of};
@@ -6,23 +6,10 @@ ghost use Rattle.relation.specs.declared.error.PkgError.TheVariants as pkg_error
 ghost use Rattle.std.specs.Prelude.{◌≡◌};
 
 use debversion::BadVersion;
+use relation_text::RelationFault;
 use std::alloc::{AllocError, AllocFailed};
 use std::fmt;
 use thiserror::Error;
-
-/// A refusal of a value, with its offset in bytes from the value's beginning.
-#[derive(Clone, Copy, Debug, PartialEq, Eq, Error)]
-pub enum RelationFault {
-    /// No relation field goes on so.
-    #[error("E7 BadRelation {0}")]
-    BadRelation(usize),
-    /// A name or a qualifier could begin here, and none does.
-    #[error("E8 BadName {0}")]
-    BadName(usize),
-    /// An atom beyond the 65,535th.
-    #[error("E10 TooLarge")]
-    TooLarge,
-}
 
 /// Why a value wasn't read.
 #[derive(Clone, Copy, Debug, PartialEq, Eq, Error)]

@@ -5,20 +5,18 @@ ghost use Rattle.rules.specs.Name.{is_name, is_name_byte};
 ghost use Rattle.stanza.specs.Field.{same_name};
 ghost use Rattle.relation.specs.PkgText as Spec;
 ghost use Rattle.relation.specs.PkgText.{IsPkgFault, read_pkg, read_relations, relations_fault, value_in};
-ghost use Rattle.relation.specs.Spelling.{atoms_between, clauses_of, provided_items_of};
-ghost use Rattle.relation.specs.declared.cut.Separator.TheVariants.{Comma};
-ghost use Rattle.relation.specs.declared.shape.Form.TheVariants.{Atoms, Clauses, Provides};
+ghost use Rattle.relation_text.specs.Spelling.{atoms_between, clauses_of, provided_items_of};
+ghost use Rattle.relation_text.specs.declared.cut.Separator.TheVariants.{Comma};
+ghost use Rattle.relation_text.specs.declared.shape.Form.TheVariants.{Atoms, Clauses, Provides};
 
 use crate::atom::{Atom, Clause};
-use crate::cut::{Separator, name_len};
-use crate::error::{PkgError, PkgFault, RelationFault, RequiredField};
+use crate::error::{PkgError, PkgFault, RequiredField};
 use crate::fields::PkgFields;
 use crate::parse::{atoms_between, clauses_of, provided_items_of};
 use crate::pkg::{Pkg, Relations};
 use crate::provided::Provided;
-use crate::refusal::check;
-use crate::shape::{Form, is_name_byte};
 use debversion::Version;
+use relation_text::{Form, RelationFault, Separator, check, is_name_byte, name_len};
 use stanza::{Field, Stanza};
 use std::alloc::{AllocError, Global};
 

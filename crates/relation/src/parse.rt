@@ -1,17 +1,15 @@
 //! Reading the values of relation fields: a value is checked, and then its atoms are taken off its front.
 ghost use Rattle.std.specs.Prelude.{◌≡◌, IfOk, IfErr, Ok};
 ghost use Rattle.relation.specs.Error.{IsFault};
-ghost use Rattle.relation.specs.Refusal.{read_atoms, read_clauses, read_provides};
-ghost use Rattle.relation.specs.Spelling.{atoms_between, clauses_of, parts_of, provided_items_of};
+ghost use Rattle.relation_text.specs.Refusal.{read_atoms, read_clauses, read_provides};
+ghost use Rattle.relation_text.specs.Spelling.{atoms_between, clauses_of, parts_of, provided_items_of};
 ghost use Rattle.relation.specs.Value.{HaveGoodVersions};
-ghost use Rattle.relation.specs.declared.cut.Separator.TheVariants.{Comma, CommaOrBar};
+ghost use Rattle.relation_text.specs.declared.cut.Separator.TheVariants.{Comma, CommaOrBar};
 
 use crate::atom::{Atom, Clause};
-use crate::cut::{Separator, cut_part, is_blank};
 use crate::error::RelationError;
 use crate::provided::Provided;
-use crate::refusal::check;
-use crate::shape::Form;
+use relation_text::{Form, Separator, check, cut_part, is_blank};
 use std::alloc::{AllocError, Global};
 
 // The atoms that the separators part, of which no version is refused.

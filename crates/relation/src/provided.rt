@@ -1,12 +1,12 @@
 //! Items of Provides as values. They borrow the text that they were read from.
 ghost use Rattle.std.specs.Prelude.{◌≡◌, None};
 ghost use Rattle.std.specs.Option.{option_copied, option_map};
-ghost use Rattle.relation.specs.Refusal.{bad_version_of};
-ghost use Rattle.relation.specs.Spelling.{inside_of, provided_of, version_in};
+ghost use Rattle.relation_text.specs.Refusal.{bad_version_of};
+ghost use Rattle.relation_text.specs.Spelling.{inside_of, provided_of, version_in};
 
 use crate::atom::restriction_of;
-use crate::cut::{is_foreign, split_name, split_qualifier};
 use debversion::Version;
+use relation_text::{is_foreign, split_name, split_qualifier};
 use std::marker::Model;
 
 /// An item of Provides: a name, with a version or none.
@@ -26,7 +26,7 @@ impl<'a> Model for Provided<'a> {
 }
 
 // The version in a text's restriction, which is known to be one.
-#[tactic(auto, unfolding(crate::specs::Refusal::bad_version_of))]
+#[tactic(auto, unfolding(relation_text::specs::Refusal::bad_version_of))]
 fn provided_version_of(text: &[u8]) -> Option<Version<'_>>
     requires { bad_version_of text.now ≡ None }
     ensures { result ≡ option_map version_in (inside_of text.now) }

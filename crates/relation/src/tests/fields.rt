@@ -1,8 +1,6 @@
-//! Values of relation fields: what they spell, and where they are refused.
+//! Values of relation fields: what they spell, and that a parser refuses what the check refuses.
 use super::{shown_atoms, shown_clauses, shown_items};
-use crate::{
-    Form, RelationError, RelationFault, check, parse_atoms, parse_clauses, parse_provides,
-};
+use crate::{Form, RelationError, check, parse_atoms, parse_clauses, parse_provides};
 use std::alloc::Global;
 use std::process::Abort;
 use std::test::Fail;
@@ -93,66 +91,11 @@ fn a_value_is_refused_at_its_least_offset(rt: HostRuntime) -> Result<(), Fail> {
         &[
             ("a | , b", "E8 BadName 4"),
             ("a (= )", "E7 BadRelation 5"),
-            ("a (= 1", "E7 BadRelation 6"),
             ("a_b", "E7 BadRelation 1"),
             ("a:", "E8 BadName 2"),
-            ("a: any", "E8 BadName 2"),
-            ("a :any", "E7 BadRelation 2"),
-            (",(", "E8 BadName 1"),
             ("a (= 1-_)", "E7 BadRelation 5"),
-            ("_", "E8 BadName 0"),
-            ("-a", "E8 BadName 0"),
-            ("+a", "E8 BadName 0"),
-            (".a", "E8 BadName 0"),
-            ("| a", "E8 BadName 0"),
-            ("a |", "E8 BadName 3"),
-            ("a | | b", "E8 BadName 4"),
-            ("a |  ", "E8 BadName 5"),
-            ("a b", "E7 BadRelation 2"),
-            ("a, b c", "E7 BadRelation 5"),
-            ("a (1)", "E7 BadRelation 3"),
-            ("a (", "E7 BadRelation 3"),
-            ("a ()", "E7 BadRelation 3"),
-            ("a (=", "E7 BadRelation 4"),
-            ("a (=)", "E7 BadRelation 4"),
-            ("a (<", "E7 BadRelation 4"),
-            ("a (<)", "E7 BadRelation 4"),
-            ("a (< < 1)", "E7 BadRelation 5"),
-            ("a (<<< 1)", "E7 BadRelation 5"),
-            ("a (== 1)", "E7 BadRelation 4"),
-            ("a (=> 1)", "E7 BadRelation 4"),
-            ("a (>< 1)", "E7 BadRelation 4"),
-            ("a (!= 1)", "E7 BadRelation 3"),
-            ("a (~ 1)", "E7 BadRelation 3"),
-            ("a (= 1 2)", "E7 BadRelation 7"),
-            ("a (= 1) (= 2)", "E7 BadRelation 8"),
-            ("a (= 1)b", "E7 BadRelation 7"),
-            ("a (= 1, b)", "E7 BadRelation 6"),
-            ("a (= 1/2)", "E7 BadRelation 6"),
-            ("a (= :1)", "E7 BadRelation 5"),
-            ("a (= x:1)", "E7 BadRelation 5"),
-            ("a (= 1-)", "E7 BadRelation 5"),
-            ("a (= 1:)", "E7 BadRelation 5"),
-            ("a (= 2147483648:1)", "E7 BadRelation 5"),
-            ("a (= -", "E7 BadRelation 5"),
-            ("a (= 1-", "E7 BadRelation 5"),
-            ("a (<<1-)", "E7 BadRelation 5"),
-            ("a:b_c", "E7 BadRelation 3"),
-            ("a:-b", "E8 BadName 2"),
-            ("a::", "E8 BadName 2"),
-            ("a:any:b", "E7 BadRelation 5"),
-            ("a )", "E7 BadRelation 2"),
-            ("(= 1)", "E8 BadName 0"),
-            ("a, (", "E8 BadName 3"),
-            ("a\r", "E7 BadRelation 1"),
-            ("a [amd64]", "E7 BadRelation 2"),
-            ("a <!x>", "E7 BadRelation 2"),
-            ("é", "E8 BadName 0"),
-            ("\0", "E8 BadName 0"),
-            ("a (>= 1-_), b_", "E7 BadRelation 6"),
             ("a_, b (= -)", "E7 BadRelation 1"),
             ("a (= -), b_", "E7 BadRelation 5"),
-            ("a, b | c, d | _", "E8 BadName 14"),
         ],
     )
 }
@@ -166,10 +109,6 @@ fn atoms_have_no_alternatives(rt: HostRuntime) -> Result<(), Fail> {
             ("", ""),
             ("a, b:i386 (<< 2) ,, c(> 1),", "a,b!<<2,c>=1"),
             ("a | b", "E7 BadRelation 2"),
-            ("a|b", "E7 BadRelation 1"),
-            ("a (= 1) | b", "E7 BadRelation 8"),
-            ("a, | b", "E8 BadName 3"),
-            ("a (= 1-), b", "E7 BadRelation 5"),
         ],
     )
 }
@@ -182,60 +121,25 @@ fn provides_takes_one_operator(rt: HostRuntime) -> Result<(), Fail> {
         &[
             ("a, b (= 1.0) , c:any(=2), d:i386 (= 3)", "a,b=1.0,c=2,d!=3"),
             ("a (>= 1)", "E7 BadRelation 3"),
-            ("a (<= 1)", "E7 BadRelation 3"),
-            ("a (<< 1)", "E7 BadRelation 3"),
-            ("a (>> 1)", "E7 BadRelation 3"),
-            ("a ( < 1)", "E7 BadRelation 4"),
-            ("a (>", "E7 BadRelation 3"),
-            ("a (<_", "E7 BadRelation 3"),
-            ("a | b", "E7 BadRelation 2"),
-            ("b (= 1-), a (>= 1)", "E7 BadRelation 5"),
-            ("a (>= 1), b (= 1-)", "E7 BadRelation 3"),
         ],
     )
 }
 
 /// So many atoms of one byte, each with a comma behind it.
-fn many_atoms(alloc: Global, count: usize, separator: u8) -> Result<Vec<u8>, Fail> {
+fn many_atoms(alloc: Global, count: usize) -> Result<Vec<u8>, Fail> {
     let mut value = Vec::new(alloc);
     for _ in 0..count {
-        value.push(b'a')?;
-        value.push(separator)?;
+        value.extend_from_slice(b"a,")?;
     }
     Ok(value)
 }
 
 #[test]
 fn a_field_has_65535_atoms_at_most(rt: HostRuntime) -> Result<(), Fail> {
-    let rows: [(usize, u8, &[u8], Result<(), RelationFault>); 8] = [
-        (65534, b'|', b"a", Ok(())),
-        (65535, b',', b" ,\n", Ok(())),
-        (65535, b',', b"_", Err(RelationFault::BadName(131070))),
-        (65535, b',', b"a", Err(RelationFault::TooLarge)),
-        (65535, b'|', b"a", Err(RelationFault::TooLarge)),
-        // The place of the atom too many is where it begins, before all that is wrong in it and behind it.
-        (65535, b',', b" a_", Err(RelationFault::TooLarge)),
-        (65536, b',', b"_", Err(RelationFault::TooLarge)),
-        (
-            65534,
-            b',',
-            b"a (= 1-), a",
-            Err(RelationFault::BadRelation(131073)),
-        ),
-    ];
-    for (count, separator, end, wanted) in rows {
-        let mut value = many_atoms(rt.alloc(), count, separator)?;
-        value.extend_from_slice(end)?;
-        assert_eq!(rt;
-            check(Form::Clauses, value.as_slice()),
-            wanted,
-            "{count} atoms"
-        );
-    }
-    let value = many_atoms(rt.alloc(), 65535, b',')?;
+    let value = many_atoms(rt.alloc(), 65535)?;
     let atoms = parse_atoms(rt.alloc(), value.as_slice(), ARCH)?;
     assert_eq!(rt; atoms.len(), 65535);
-    let value = many_atoms(rt.alloc(), 65536, b',')?;
+    let value = many_atoms(rt.alloc(), 65536)?;
     assert!(rt;
         matches!(
             parse_atoms(rt.alloc(), value.as_slice(), ARCH),

@@ -1,4 +1,4 @@
-use Rattle.relation.specs.declared.shape.Form.TheVariants.{Provides}
+use Rattle.relation_text.specs.declared.shape.Form.TheVariants.{Provides}
 use Rattle.relation.proofs.GoodFields.{good_field}
 use Rattle.relation.proofs.from_stanza.provided_items_in.Goals as goal
 

@@ -1,7 +1,7 @@
 -- What was read, and what is left to be read, are together what the value spells.
 use Rattle.std.proofs.Common.{◌≡◌, ◌++◌, map}
-use Rattle.relation.specs.Cut.{parts_left, len_left}
-use Rattle.relation.specs.Spelling.{atom_of, atoms_between, items_of}
+use Rattle.relation_text.specs.Cut.{parts_left, len_left}
+use Rattle.relation_text.specs.Spelling.{atom_of, atoms_between, items_of}
 use Rattle.relation.specs.Value.{HaveGoodVersions}
 use Rattle.relation.proofs.parse.atoms_between.Given as goal
 

@@ -1,9 +1,9 @@
 -- What was read, and what is left to be read, are together what the value spells.
 use Rattle.std.proofs.Common.{◌≡◌, ◌++◌, map}
-use Rattle.relation.specs.Cut.{parts_left, len_left}
-use Rattle.relation.specs.Spelling.{items_of, provided_items_of, provided_of}
+use Rattle.relation_text.specs.Cut.{parts_left, len_left}
+use Rattle.relation_text.specs.Spelling.{items_of, provided_items_of, provided_of}
 use Rattle.relation.specs.Value.{HaveGoodVersions}
-use Rattle.relation.specs.declared.cut.Separator.TheVariants.{Comma}
+use Rattle.relation_text.specs.declared.cut.Separator.TheVariants.{Comma}
 use Rattle.relation.proofs.parse.provided_items_of.Given as goal
 
 abbrev pub invariant-loop-left : goal.invariant-loop-left

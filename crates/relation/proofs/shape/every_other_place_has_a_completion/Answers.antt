@@ -1,5 +1,0 @@
-use Rattle.relation.proofs.ShapeLemmas.{live_front}
-use Rattle.relation.proofs.shape.every_other_place_has_a_completion.Goals as goal
-
-pub returns : goal.returns
-returns c = live_front

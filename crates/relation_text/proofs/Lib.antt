@@ -1,0 +1,3 @@
+pub mod ShapeLemmas
+pub mod Parts
+pub mod FirstStop

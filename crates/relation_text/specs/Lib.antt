@@ -1,0 +1,6 @@
+pub mod Bytes
+pub mod Cut
+pub mod Place
+pub mod Refusal
+pub mod Shape
+pub mod Spelling
