@@ -1,5 +1,5 @@
 -- A stanza of an index as the definitions see it.
-use Rattle.std.specs.Prelude.{◌≡◌, ℕ, List, map, Option, Some}
+use Rattle.std.specs.Prelude.{map, Some}
 use Rattle.rules.specs.Stanza.{Field, Stanza}
 use Rattle.stanza.specs.Field.{FieldText}
 use Rattle.stanza.specs.Stanza.{StanzaText}

@@ -1,5 +1,5 @@
 -- The package of an admitted pair.
-use Rattle.std.specs.Prelude.{ℕ, List, [], Option, Some, None}
+use Rattle.std.specs.Prelude.{[], Option, Some, None}
 use Rattle.rules.specs.Package.{Pkg}
 use Rattle.rules.specs.Step.{Listed, no_relations}
 
