@@ -146,6 +146,7 @@ fn what_is_removed_is_purged(rt: HostRuntime) -> Result<(), Fail> {
         Want::Deinstall,
         Flag::Sound,
         None,
+        None,
         false,
     );
     let held = PackageRecord::absent(
@@ -153,6 +154,7 @@ fn what_is_removed_is_purged(rt: HostRuntime) -> Result<(), Fail> {
         State::ConfigFiles,
         Want::Hold,
         Flag::Sound,
+        None,
         None,
         false,
     );

@@ -3,6 +3,8 @@
 #![tactic(auto)]
 
 mod package_record;
+mod step;
 
 pub use package_record::PackageRecord;
 pub use rules::{Flag, State, Step, Want};
+pub use step::{configure, deconfigure, remove};

@@ -1,6 +1,6 @@
 // A record of the database with its package.
 
-ghost use Rattle.std.specs.Prelude.{◌≡◌, [], true, false, IfSome, is_some};
+ghost use Rattle.std.specs.Prelude.{◌≡◌, [], true, false, unwrap_or, IfSome, is_some};
 ghost use Rattle.rules.specs.Database.{is_unfinished, pkg_of, stands};
 ghost use Rattle.rules.specs.State.{is_present_state};
 ghost use Rattle.rules.specs.Step.{no_relations};
@@ -81,12 +81,13 @@ impl<'p, 'a> PackageRecord<'p, 'a> {
         }
     }
 
-    /// The record of a package of which no files are there.
+    /// The record of a package of which no files are there; its stanza may have a version.
     pub fn absent(
         name: &'a [u8],
         state: State,
         want: Want,
         flag: Flag,
+        version: Option<Version<'a>>,
         config_version: Option<Version<'a>>,
         is_essential: bool,
     ) -> PackageRecord<'p, 'a>
@@ -96,7 +97,7 @@ impl<'p, 'a> PackageRecord<'p, 'a> {
           state = state;
           want = want;
           flag = flag;
-          version = [];
+          version = unwrap_or version.entry [];
           config_version = config_version.entry;
           relations = no_relations;
           is_essential = is_essential;
@@ -107,7 +108,7 @@ impl<'p, 'a> PackageRecord<'p, 'a> {
             state,
             want,
             flag,
-            version: None,
+            version,
             config_version,
             pkg: None,
             is_essential,

@@ -1,0 +1,141 @@
+// What an action leaves of the record of its package (dpkg(1)).
+
+ghost use Rattle.std.specs.Prelude.{◌≡◌, true};
+ghost use Rattle.std.specs.List.{All};
+ghost use Rattle.rules.specs.Database.{IsPresent};
+ghost use Rattle.rules.specs.State.{is_present_state};
+ghost use Rattle.rules.specs.Step.{changed, configured, deconfigured, is_among, is_named, kept_config_version, last_configured, removed};
+
+use crate::package_record::PackageRecord;
+use debversion::Version;
+use rules::{Name, State, Want};
+
+impl<'p, 'a> PackageRecord<'p, 'a> {
+    // The record in this state, with its version as the one configured last.
+    fn settled(&self, state: State) -> PackageRecord<'p, 'a>
+        requires present { IsPresent self.now }
+        requires settled { is_present_state state ≡ true }
+        ensures { result ≡ record self.now { state = state; config_version = Some self.now.version } }
+    {
+        match self.present_pkg() {
+            Some(pkg) => PackageRecord::present(
+                pkg,
+                state,
+                self.want(),
+                self.flag(),
+                Some(pkg.version().again()),
+                self.is_essential(),
+            ),
+            None => unreachable!(),
+        }
+    }
+
+    /// The record once its package is configured.
+    pub fn configured(&self) -> PackageRecord<'p, 'a>
+        requires { IsPresent self.now }
+        ensures { result ≡ configured self.now }
+    {
+        self.settled(State::Installed)
+    }
+
+    /// The record once its package is deconfigured.
+    pub fn deconfigured(&self) -> PackageRecord<'p, 'a>
+        requires { IsPresent self.now }
+        ensures { result ≡ deconfigured self.now }
+    {
+        self.settled(State::HalfConfigured)
+    }
+
+    // The version that was configured last: of an installed package its version.
+    fn last_configured(&self) -> Option<Version<'a>>
+        requires { IsPresent self.now }
+        ensures { result ≡ last_configured self.now }
+    {
+        match (self.present_pkg(), self.config_version()) {
+            (Some(pkg), _) if self.state().is_installed() => Some(pkg.version().again()),
+            (_, Some(version)) => Some(version.again()),
+            (_, None) => None,
+        }
+    }
+
+    /// The config version of what is unpacked over the record.
+    pub fn kept_config_version(&self) -> Option<Version<'a>>
+        ensures { result ≡ kept_config_version self.now }
+    {
+        if self.state().is_unconfigured() || self.state().is_installed() {
+            self.last_configured()
+        } else {
+            None
+        }
+    }
+
+    /// The record once its package is removed.
+    pub fn removed(&self) -> PackageRecord<'p, 'a>
+        requires { IsPresent self.now }
+        ensures { result ≡ removed self.now }
+    {
+        match self.present_pkg() {
+            Some(pkg) => PackageRecord::absent(
+                pkg.name(),
+                State::ConfigFiles,
+                Want::Deinstall,
+                self.flag(),
+                Some(pkg.version().again()),
+                self.last_configured(),
+                self.is_essential(),
+            ),
+            None => unreachable!(),
+        }
+    }
+}
+
+// Whether the record is of one of the names.
+fn is_among(names: &[Name], found: &PackageRecord<'_, '_>) -> bool
+    ensures { result ≡ is_among names.now found.now }
+{
+    names.iter().any(|name| found.name() == name.as_bytes())
+}
+
+/// Configures the records of these names. For each record linear in the names.
+pub fn configure<'p, 'a>(records: &mut [PackageRecord<'p, 'a>], names: &[Name])
+    requires { All (λ found. is_among names.now found ≡ true → IsPresent found) records.old }
+    ensures { records.new ≡ changed (is_among names.now) configured records.old }
+{
+    for record in records.iter_mut() {
+        if is_among(names, record) {
+            *record = record.configured();
+        }
+    }
+}
+
+// Whether the record is of the name.
+fn is_named(name: &[u8], found: &PackageRecord<'_, '_>) -> bool
+    ensures { result ≡ is_named name.now found.now }
+{
+    found.name() == name
+}
+
+/// Deconfigures the record of the name. Linear in the records.
+pub fn deconfigure<'p, 'a>(records: &mut [PackageRecord<'p, 'a>], name: &[u8])
+    requires { All (λ found. is_named name.now found ≡ true → IsPresent found) records.old }
+    ensures { records.new ≡ changed (is_named name.now) deconfigured records.old }
+{
+    for record in records.iter_mut() {
+        if is_named(name, record) {
+            *record = record.deconfigured();
+        }
+    }
+}
+
+/// Removes the package of the name: its record says that configuration files alone are left. Linear in the
+/// records.
+pub fn remove<'p, 'a>(records: &mut [PackageRecord<'p, 'a>], name: &[u8])
+    requires { All (λ found. is_named name.now found ≡ true → IsPresent found) records.old }
+    ensures { records.new ≡ changed (is_named name.now) removed records.old }
+{
+    for record in records.iter_mut() {
+        if is_named(name, record) {
+            *record = record.removed();
+        }
+    }
+}
