@@ -2,10 +2,9 @@
 // in the indices. It stands on `rules`, which says which pairs are admitted. The main type today is `Pairs`.
 #![tactic(auto)]
 
-mod listed;
 mod pair;
 mod pairs;
 
-pub use listed::Listed;
+pub use index::Listed;
 pub use pair::Pair;
 pub use pairs::Pairs;
