@@ -22,6 +22,7 @@ pub mod Step
 pub mod Universe
 pub mod UnkeptLaws
 pub mod Unpack
+pub mod Verdict
 pub mod Version
 pub mod VersionFault
 pub mod VersionFrontLaws

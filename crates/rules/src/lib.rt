@@ -28,7 +28,7 @@ pub use name::{Name, Names, is_name, is_name_byte};
 pub use op::Op;
 pub use release::{Pin, PinnedNames, Preference, Release, ReleaseItem, ReleaseKey};
 pub use status::{Flag, State, Want};
-pub use step::{Reason, Rule, Step};
+pub use step::{Reason, Rule, Step, Verdict};
 pub use text::{Items, Text};
 pub use version_order::{
     first_difference_decides, pieces_are_fronts, same_version_is_equivalence,

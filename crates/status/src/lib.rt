@@ -4,7 +4,9 @@
 
 mod package_record;
 mod step;
+mod unpack;
 
 pub use package_record::PackageRecord;
 pub use rules::{Flag, State, Step, Want};
 pub use step::{configure, deconfigure, remove};
+pub use unpack::{purge, unpack};
