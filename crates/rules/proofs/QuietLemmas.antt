@@ -75,7 +75,7 @@ distinct_changed test change keeps db distinct =
     distinct_map (λ found. cond (test found) (change found) found) (changed_name test change keeps) db distinct
 
 -- where the test names no record, none has the name
-unnamed : (name : List ℕ) (db : List Record) → list_any (is_named name) db ≡ false → (found : Record) → Contains db found
+pub unnamed : (name : List ℕ) (db : List Record) → list_any (is_named name) db ≡ false → (found : Record) → Contains db found
     → found.name ≢ name
 unnamed name db none found within same = absurd (let e : true ≡ false =
     sym (list_any-from_contains (is_named name) db found within (bytes_eq-same found.name name same)) ∙ none in cc)
@@ -108,7 +108,7 @@ distinct_names_kept listed (step.Remove name) db distinct =
 distinct_names_kept listed (step.Purge name) db distinct = distinct_filter (λ found. not (is_named name found)) db distinct
 
 -- of two records with one name there is one
-one_record : (db : List Record) → HasDistinctNames db → (found other : Record) → Contains db found → Contains db other
+pub one_record : (db : List Record) → HasDistinctNames db → (found other : Record) → Contains db found → Contains db other
     → other.name ≡ found.name → other ≡ found
 unfolding HasDistinctNames
 one_record [] distinct found other within there same = absurd (Contains-nil found within)
@@ -128,7 +128,7 @@ one_record (first ∷ rest) distinct found other within there same =
     at (inr behind) (inr further) later = later behind further
 
 -- what the record of a name has, each record of that name has
-the_record : (P : Record → Type 0) (db : List Record) → HasDistinctNames db → (found : Record) → Contains db found
+pub the_record : (P : Record → Type 0) (db : List Record) → HasDistinctNames db → (found : Record) → Contains db found
     → HasRecord P found.name db → P found
 the_record P db distinct found within has = Any-elim (λ (r : Record). (r.name ≡ found.name) × P r) db (P found)
     (λ other there both. subst P (one_record db distinct found other within there both.0) both.1) has
@@ -205,7 +205,7 @@ installed_present HalfConfigured is = refl
 installed_present Installed is = refl
 
 -- the name under which a record is found has a property, and so has the record
-the_named : (P : Record → Type 0) (db : List Record) → HasDistinctNames db → (name : List ℕ) → HasRecord P name db
+pub the_named : (P : Record → Type 0) (db : List Record) → HasDistinctNames db → (name : List ℕ) → HasRecord P name db
     → (found : Record) → Contains db found → is_named name found ≡ true → P found
 the_named P db distinct name has found within is = the_record P db distinct found within
     (let Q : List ℕ → Type 0 = λ n. HasRecord P n db in subst Q (sym (bytes_eq-true found.name name is)) has)
