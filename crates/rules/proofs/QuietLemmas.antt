@@ -7,8 +7,9 @@ use Rattle.std.proofs.lemmas.List.Quantifiers.{all_pairs_push}
 use Rattle.std.proofs.lemmas.List.Elements.{All-contains, Contains-get_or, Contains-append_cases, All-filter}
 use Rattle.std.proofs.Math.ListN.{length-map}
 use Rattle.rules.specs.Configure.{HasConfigurable, IsConfigurable, AreConfigurable}
-use Rattle.rules.specs.Database.{IsInstalled, Record, HasRecord, HasDistinctNames, IsAtPeaceWith, IsQuiet, IsPresent, pkg_of}
+use Rattle.rules.specs.Database.{IsInstalled, Record, HasRecord, HasDistinctNames, IsAtPeaceWith, IsQuiet, IsPresent, HasSoundFlag, pkg_of}
 use Rattle.rules.specs.Legal.{Allowed}
+use Rattle.rules.specs.LegalLaws.{ActsOnPresent, AllowedActsOnPresent}
 use Rattle.rules.specs.Package.{Pkg, ConflictsWith}
 use Rattle.rules.specs.Run.{Run, after}
 use Rattle.rules.specs.State.{is_present_state, is_unconfigured_state, is_installed_state}
@@ -312,3 +313,22 @@ pub quiet_after_run : (u : Universe) (start reached : List Record) (steps : List
 quiet_after_run u start reached [] distinct quiet run = subst IsQuiet (sym run) quiet
 quiet_after_run u start reached (taken ∷ rest) distinct quiet run = quiet_after_run u (after u start taken) reached rest
     (distinct_names_kept (listed_for u taken) taken start distinct) (quiet_kept u start taken distinct quiet run.0) run.1
+
+-- what an allowed step configures, deconfigures or removes is present
+pub allowed_acts_on_present : AllowedActsOnPresent
+unfolding Allowed ActsOnPresent AreConfigurable HasConfigurable
+allowed_acts_on_present u db (step.Unpack name version) distinct allowed =
+    All-intro (λ found. false ≡ true → IsPresent found) db (λ found within is. absurd (let e : false ≡ true = is in cc))
+allowed_acts_on_present u db (step.Deconfigure name) distinct allowed =
+    All-intro (λ found. is_named name found ≡ true → IsPresent found) db (λ found within is.
+    installed_present found.state (the_named IsInstalled db distinct name (allowed 0 rule.WrongState (lit< tt)) found within is))
+allowed_acts_on_present u db (step.Configure names) distinct allowed =
+    All-intro (λ found. is_among names found ≡ true → IsPresent found) db (λ found within is.
+    unconfigured_present found.state (the_record IsConfigurable db distinct found within
+    (All-contains (λ name. HasRecord IsConfigurable name db) names found.name (allowed 0 rule.WrongState (lit< tt))
+    (contains-is_among names found is))).0)
+allowed_acts_on_present u db (step.Remove name) distinct allowed =
+    All-intro (λ found. is_named name found ≡ true → IsPresent found) db (λ found within is.
+    (the_named (λ found. IsPresent found × HasSoundFlag found) db distinct name (allowed 0 rule.WrongState (lit< tt)) found within is).0)
+allowed_acts_on_present u db (step.Purge name) distinct allowed =
+    All-intro (λ found. false ≡ true → IsPresent found) db (λ found within is. absurd (let e : false ≡ true = is in cc))

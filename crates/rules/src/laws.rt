@@ -2,7 +2,7 @@
 
 ghost use Rattle.rules.specs.Entry.{WrittenAsLeft};
 ghost use Rattle.rules.specs.GroupLaws.{UnionPasses, HasGreatestPart, IndivisibleByOthers};
-ghost use Rattle.rules.specs.LegalLaws.{OneFirstFailing, AllowedOrFailing, AllowedWhereNoneFails};
+ghost use Rattle.rules.specs.LegalLaws.{AllowedActsOnPresent, OneFirstFailing, AllowedOrFailing, AllowedWhereNoneFails};
 ghost use Rattle.rules.specs.PlanLaws.{GoodPlanKeepsPromise};
 ghost use Rattle.rules.specs.Verdict.{GoodPlanHasYes, GoodWhereNothingIsAgainst, UniverseIsBuilt};
 ghost use Rattle.rules.specs.RunLaws.{RunGoesOn, OneEnd, RunOrStops, DistinctNamesKept, QuietKept, QuietAfterRun};
@@ -94,4 +94,9 @@ pub fn good_where_nothing_is_against()
 /// A plan that is good has no other verdict than yes.
 pub fn good_plan_has_yes()
     ensures { GoodPlanHasYes }
+{}
+
+/// What an allowed step configures, deconfigures or removes is present.
+pub fn allowed_acts_on_present()
+    ensures { AllowedActsOnPresent }
 {}

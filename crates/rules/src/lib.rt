@@ -19,8 +19,8 @@ mod version_text;
 pub use bad_version::BadVersion;
 pub use goal::{Goal, Restriction};
 pub use laws::{
-    allowed_or_failing, allowed_where_none_fails, distinct_names_kept, good_plan_has_yes,
-    good_plan_keeps_promise, good_where_nothing_is_against, has_greatest_part,
+    allowed_acts_on_present, allowed_or_failing, allowed_where_none_fails, distinct_names_kept,
+    good_plan_has_yes, good_plan_keeps_promise, good_where_nothing_is_against, has_greatest_part,
     indivisible_by_others, one_end, one_first_failing, quiet_after_run, quiet_kept, run_goes_on,
     run_or_stops, union_passes, universe_is_built, written_as_left,
 };
