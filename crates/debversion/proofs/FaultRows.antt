@@ -1,8 +1,8 @@
 -- Texts that are no versions, each with its first fault, and the parts of one that is (Policy 5.6.12).
 use Rattle.std.proofs.Common.{◌≡◌, Some, None, [], codes, refl}
 use Rattle.rules.specs.Version.{revision_of, upstream_of}
-use Rattle.debversion.specs.Fault.{first_fault}
-use Rattle.debversion.specs.declared.error.BadVersion.TheVariants.{BadByte, BadEpoch, Empty, EmptyRevision, EmptyUpstream, EpochTooLarge}
+use Rattle.rules.specs.VersionFault.{first_fault}
+use Rattle.rules.specs.declared.bad_version.BadVersion.TheVariants.{BadByte, BadEpoch, Empty, EmptyRevision, EmptyUpstream, EpochTooLarge}
 
 no_revision_behind_the_hyphen : first_fault (codes "1.0-") ≡ Some EmptyRevision
 unfolding first_fault

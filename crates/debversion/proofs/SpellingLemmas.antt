@@ -11,12 +11,12 @@ use Rattle.std.specs.Option.{option_or}
 use Rattle.std.specs.Str.Parse.{digits_value}
 use Rattle.rules.specs.Version.{after_epoch, after_upstream, before_revision, epoch_of, is_colon, is_hyphen}
 use Rattle.debversion.proofs.Cuts.{after_last-at, before_last-at, cut-behind, cut-behind, list_any-at_last, list_any-nowhere}
-use Rattle.debversion.specs.Fault.{epoch_fault, first_fault, greatest_epoch, has_empty_revision, has_good_bytes, is_nothing, is_numeral, is_revision_byte, is_upstream_byte, rest_fault, text_epoch_fault}
+use Rattle.rules.specs.VersionFault.{epoch_fault, first_fault, greatest_epoch, has_empty_revision, has_good_bytes, is_nothing, is_numeral, is_revision_byte, is_upstream_byte, rest_fault, text_epoch_fault}
 use Rattle.debversion.specs.Parts.{IsLastAt}
 use Rattle.debversion.specs.Spelling.{FaultlessIsSpelled, IsEpoch, IsRevision, IsSpelled, IsUpstream, before_hyphen, behind_epoch}
-use Rattle.debversion.specs.declared.error.BadVersion.{BadVersion}
-use Rattle.debversion.specs.declared.error.BadVersion.TheVariants.{BadByte, EmptyRevision, EmptyUpstream}
-use Rattle.debversion.specs.declared.error.BadVersion.TheVariants.{BadByte, EmptyRevision, EmptyUpstream}
+use Rattle.rules.specs.declared.bad_version.BadVersion.{BadVersion}
+use Rattle.rules.specs.declared.bad_version.BadVersion.TheVariants.{BadByte, EmptyRevision, EmptyUpstream}
+use Rattle.rules.specs.declared.bad_version.BadVersion.TheVariants.{BadByte, EmptyRevision, EmptyUpstream}
 
 -- what is written isn't nothing
 something : (bytes : List ℕ) → 0 < length bytes → is_nothing bytes ≡ false

@@ -4,7 +4,7 @@ use Rattle.std.specs.Hash.{HashWrites, u32}
 use Rattle.std.specs.List.{flat_map}
 use Rattle.std.specs.Str.Parse.{digits_value}
 use Rattle.rules.specs.Version.{Piece, epoch_of, pieces_of, revision_of, upstream_of}
-use Rattle.debversion.specs.Fault.{is_nothing}
+use Rattle.rules.specs.VersionFault.{is_nothing}
 use Rattle.debversion.specs.Zeros.{without_zeros}
 
 -- a piece: its word, and its number without zeros in front

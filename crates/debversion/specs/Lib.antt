@@ -1,4 +1,3 @@
-pub mod Fault
 pub mod Spelling
 pub mod Parts
 pub mod Weight

@@ -2,7 +2,7 @@
 use Rattle.std.specs.Prelude.{◌≡◌, ℕ, ◌<◌, Bool, true, false, List, None, length, slice_index}
 use Rattle.std.specs.Str.Parse.{digits_value}
 use Rattle.rules.specs.Version.{epoch_of, revision_of, upstream_of}
-use Rattle.debversion.specs.Fault.{first_fault}
+use Rattle.rules.specs.VersionFault.{first_fault}
 
 -- a text without fault was read: the value of its epoch, its upstream version and its revision
 pub record IsRead (text : List ℕ) (epoch : ℕ) (upstream revision : List ℕ) : Type 0 where

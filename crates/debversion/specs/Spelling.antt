@@ -4,7 +4,7 @@ use Rattle.std.specs.Char.{is_ascii_digit}
 use Rattle.std.specs.List.{AllPass, list_any}
 use Rattle.std.specs.Str.Parse.{digits_value}
 use Rattle.rules.specs.Version.{is_colon, is_hyphen}
-use Rattle.debversion.specs.Fault.{first_fault, greatest_epoch, is_revision_byte, is_upstream_byte}
+use Rattle.rules.specs.VersionFault.{first_fault, greatest_epoch, is_revision_byte, is_upstream_byte}
 
 -- an epoch: one digit or more, of a value that isn't too large
 pub record IsEpoch (bytes : List ℕ) : Type 0 where

@@ -4,7 +4,6 @@
 #![tactic(auto)]
 
 mod compare;
-mod error;
 mod feed;
 mod parse;
 mod spelling;
@@ -12,7 +11,6 @@ mod spelling;
 mod tests;
 mod version;
 
-pub use error::BadVersion;
-pub use rules::Op;
+pub use rules::{BadVersion, Op};
 pub use spelling::faultless_texts_are_spelled;
 pub use version::Version;

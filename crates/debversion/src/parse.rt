@@ -6,10 +6,10 @@ ghost use Rattle.std.specs.Char.{is_ascii_digit};
 ghost use Rattle.std.specs.List.{AllPass, list_all, list_any, position};
 ghost use Rattle.std.specs.Str.Parse.{digits_value};
 ghost use Rattle.rules.specs.Version.{after_epoch, after_upstream, before_revision, epoch_of, is_colon, is_hyphen};
-ghost use Rattle.debversion.specs.Fault.{epoch_fault, greatest_epoch, is_numeral, is_revision_byte, is_upstream_byte, rest_fault, text_epoch_fault};
+ghost use Rattle.rules.specs.VersionFault.{epoch_fault, greatest_epoch, is_numeral, is_revision_byte, is_upstream_byte, rest_fault, text_epoch_fault};
 ghost use Rattle.debversion.specs.Parts.{IsLastAt};
 
-use crate::error::BadVersion;
+use rules::BadVersion;
 
 // The greatest epoch that is read, which dpkg reads too.
 const GREATEST_EPOCH: u64 = 2147483647;

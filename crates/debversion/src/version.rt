@@ -5,15 +5,14 @@ ghost use Rattle.std.specs.Cmp.{eq_by_cmp_equiv, partial_equiv_from_equiv, po};
 ghost use Rattle.std.specs.Ordering.{as_partial_cmp, eq_by_cmp, ordering_then};
 ghost use Rattle.rules.specs.Version.{is_met, part_cmp, revision_of, upstream_of, version_cmp};
 ghost use Rattle.rules.specs.VersionOrderLaws.{version_cmp_total};
-ghost use Rattle.debversion.specs.Fault.{first_fault};
+ghost use Rattle.rules.specs.VersionFault.{first_fault};
 ghost use Rattle.debversion.specs.HashInput.{version_input};
 ghost use Rattle.debversion.specs.HashLaws.{version_input-alike};
 
 use crate::compare::part_cmp;
-use crate::error::BadVersion;
 use crate::feed::feed_part;
 use crate::parse::{split_epoch, split_revision};
-use rules::Op;
+use rules::{BadVersion, Op};
 use std::cmp::Ordering;
 use std::hash::{Hash, Hasher};
 use std::marker::Model;
@@ -41,7 +40,7 @@ impl<'a> Model for Version<'a> {
 impl<'a> Version<'a> {
     /// Reads a version, or answers the first fault of the text (Policy 5.6.12). One pass over the text, and
     /// no memory is taken.
-    #[tactic(auto, unfolding(crate::specs::Fault::first_fault))]
+    #[tactic(auto, unfolding(rules::specs::VersionFault::first_fault))]
     pub fn parse(text: &'a [u8]) -> Result<Version<'a>, BadVersion>
         ensures { MatchResult result (λ version. (first_fault text.now ≡ None) × (version ≡ text.now))
             (λ fault. first_fault text.now ≡ Some fault) }

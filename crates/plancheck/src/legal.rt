@@ -12,7 +12,7 @@ use crate::unpack::{breaks_none, has_no_conflict, has_pre_depends};
 use debversion::Version;
 use rules::Rule;
 use status::PackageRecord;
-use universe::Listed;
+use index::Listed;
 
 // Whether the unpacking keeps the rule.
 fn unpack_keeps(

@@ -8,7 +8,7 @@ use stanza::Stanzas;
 use status::PackageRecord;
 use std::alloc::Global;
 use std::test::Fail;
-use universe::Listed;
+use index::Listed;
 
 // The first stanza of the text as one of an index.
 fn listed<'a>(alloc: Global, text: &'a [u8]) -> Result<Listed<'a>, Fail> {

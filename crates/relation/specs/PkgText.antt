@@ -3,7 +3,7 @@ use Rattle.std.specs.Prelude.{◌≡◌, ℕ, ◌+◌, List, [], ◌∷◌, Opti
 use Rattle.std.specs.Char.{is_ascii_alphanumeric}
 use Rattle.std.specs.List.{prefix_len}
 use Rattle.std.specs.Option.{option_map, option_map_or, option_or, option_and_then}
-use Rattle.debversion.specs.Fault.{first_fault}
+use Rattle.rules.specs.VersionFault.{first_fault}
 use Rattle.rules.specs.Name.{is_name, is_name_byte}
 use Rattle.rules.specs.Package.{Pkg, Relations}
 use Rattle.stanza.specs.Field.{FieldText}
@@ -110,9 +110,13 @@ unless_fault (Some fault) read = Err fault
 abbrev pub read_relations : List ℕ → PkgFields → Result Relations PkgFault
 read_relations arch fields = unless_fault (relations_fault fields) (relations_of arch fields)
 
+-- the package of the fields, or their first refusal
+abbrev pub read_fields : List ℕ → PkgFields → Result Pkg PkgFault
+read_fields arch fields = unless_fault (pkg_fault fields) (pkg_of arch fields)
+
 -- the package of a stanza, or its first refusal
 abbrev pub read_pkg : List ℕ → StanzaText → Result Pkg PkgFault
-read_pkg arch stanza = unless_fault (pkg_fault (fields_of stanza)) (pkg_of arch (fields_of stanza))
+read_pkg arch stanza = read_fields arch (fields_of stanza)
 
 -- a refusal as an error
 abbrev pub pkg_error_of : PkgFault → PkgError

@@ -1,7 +1,7 @@
 //! Atoms and clauses as values. They borrow the text that they were read from.
 ghost use Rattle.std.specs.Prelude.{◌≡◌, None};
 ghost use Rattle.std.specs.Option.{option_map};
-ghost use Rattle.debversion.specs.Fault.{first_fault};
+ghost use Rattle.rules.specs.VersionFault.{first_fault};
 ghost use Rattle.relation_text.specs.Refusal.{bad_version_of};
 ghost use Rattle.relation_text.specs.Spelling.{atom_of, inside_of, restriction_in};
 ghost use Rattle.relation.specs.Value.{restriction_by, restriction_by_ref};

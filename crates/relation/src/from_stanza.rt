@@ -1,10 +1,10 @@
 //! The fields of a package in its stanza: their tests, and the package that they spell.
 ghost use Rattle.std.specs.Prelude.{◌≡◌, IfErr, IfOk, IsTrue, MatchOption, MatchResult, None, Ok, Some, codes};
-ghost use Rattle.std.specs.List.{list_all};
-ghost use Rattle.rules.specs.Name.{is_name, is_name_byte};
+ghost use Rattle.rules.specs.Name.{is_name};
 ghost use Rattle.stanza.specs.Field.{same_name};
 ghost use Rattle.relation.specs.PkgText as Spec;
-ghost use Rattle.relation.specs.PkgText.{IsPkgFault, read_pkg, read_relations, relations_fault, value_in};
+ghost use Rattle.relation.specs.PkgFields.{depends_alone};
+ghost use Rattle.relation.specs.PkgText.{IsPkgFault, read_fields, read_pkg, read_relations, relations_fault, value_in};
 ghost use Rattle.relation_text.specs.Spelling.{atoms_between, clauses_of, provided_items_of};
 ghost use Rattle.relation_text.specs.declared.cut.Separator.TheVariants.{Comma};
 ghost use Rattle.relation_text.specs.declared.shape.Form.TheVariants.{Atoms, Clauses, Provides};
@@ -16,7 +16,8 @@ use crate::parse::{atoms_between, clauses_of, provided_items_of};
 use crate::pkg::{Pkg, Relations};
 use crate::provided::Provided;
 use debversion::Version;
-use relation_text::{Form, RelationFault, Separator, check, is_name_byte, name_len};
+use relation_text::{Form, RelationFault, Separator, check, name_len};
+use rules::is_name;
 use stanza::{Field, Stanza};
 use std::alloc::{AllocError, Global};
 
@@ -27,21 +28,6 @@ fn name_front(text: &[u8]) -> usize
     match text {
         [first, rest @ ..] if first.is_ascii_alphanumeric() => 1 + name_len(rest),
         _ => 0,
-    }
-}
-
-fn has_name_bytes(text: &[u8]) -> bool
-    ensures { result ≡ list_all is_name_byte text.now }
-{
-    text.iter().all(|byte| is_name_byte(*byte))
-}
-
-fn is_name(text: &[u8]) -> bool
-    ensures { result ≡ is_name text.now }
-{
-    match text {
-        [first, rest @ ..] => first.is_ascii_alphanumeric() && has_name_bytes(rest),
-        [] => false,
     }
 }
 
@@ -172,6 +158,22 @@ impl<'a> PkgFields<'a> {
         version_in(self.line, &self.version)
     }
 
+    /// These fields, but of the relation fields Depends alone.
+    pub fn depends_alone(self) -> PkgFields<'a>
+        ensures { result ≡ depends_alone self.entry }
+    {
+        PkgFields {
+            line: self.line,
+            name: self.name,
+            version: self.version,
+            pre_depends: None,
+            depends: self.depends,
+            conflicts: None,
+            breaks: None,
+            provides: None,
+        }
+    }
+
     /// Tests the relation fields in the order Pre-Depends, Depends, Conflicts, Breaks, Provides, and takes no
     /// memory. Linear in their values.
     #[tactic(auto, unfolding(crate::specs::PkgText::relations_fault))]
@@ -186,7 +188,7 @@ impl<'a> PkgFields<'a> {
     }
 
     // The relations of the package; a field that isn't there has none.
-    pub(crate) fn relations(&self, alloc: Global, arch: &[u8]) -> Result<Relations<'a>, PkgError>
+    fn relations(&self, alloc: Global, arch: &[u8]) -> Result<Relations<'a>, PkgError>
         ensures ok { IfOk result (λ relations. read_relations arch.now self.now ≡ Ok relations) }
         ensures err { IfErr result (λ e. IsPkgFault e (read_relations arch.now self.now)) }
     {
@@ -209,7 +211,18 @@ impl<'a> Pkg<'a> {
         ensures ok { IfOk result (λ pkg. read_pkg arch.now stanza.now ≡ Ok pkg) }
         ensures err { IfErr result (λ e. IsPkgFault e (read_pkg arch.now stanza.now)) }
     {
-        let fields = PkgFields::in_stanza(stanza);
+        Pkg::from_fields(alloc, &PkgFields::in_stanza(stanza), arch)
+    }
+
+    /// The package that these fields spell, or their first refusal, as `from_stanza` has it.
+    pub fn from_fields(
+        alloc: Global,
+        fields: &PkgFields<'a>,
+        arch: &[u8],
+    ) -> Result<Pkg<'a>, PkgError>
+        ensures ok { IfOk result (λ pkg. read_fields arch.now fields.now ≡ Ok pkg) }
+        ensures err { IfErr result (λ e. IsPkgFault e (read_fields arch.now fields.now)) }
+    {
         let name = fields.name()?;
         let version = fields.version()?;
         let relations = fields.relations(alloc, arch)?;

@@ -1,7 +1,7 @@
 -- What is refused in the value of a relation field: of all refusals the one with the least offset.
 use Rattle.std.specs.Prelude.{ℕ, ◌+◌, ◌-◌, ◌==◌, List, [], ◌∷◌, length, nat_lt, Option, Some, None, Result, Ok, Err, if◌then◌else◌}
 use Rattle.std.specs.Option.{option_map, option_or, option_and_then, option_map_or, is_some}
-use Rattle.debversion.specs.Fault.{first_fault}
+use Rattle.rules.specs.VersionFault.{first_fault}
 use Rattle.rules.specs.Package.{Atom, Provided}
 use Rattle.relation_text.specs.Bytes.{is_white}
 use Rattle.relation_text.specs.Place.{awaits_name, is_dead, is_end}

@@ -2,7 +2,7 @@
 ghost use Rattle.std.specs.Prelude.{◌≡◌, ◌≤◌, ◌∷◌, ◌+◌, Bool, List, length, not, IfSome, MatchOption, None};
 ghost use Rattle.std.specs.List.{prefix_len, list_all, take_while, position};
 ghost use Rattle.std.specs.Option.{option_copied, is_some};
-ghost use Rattle.debversion.specs.Fault.{first_fault};
+ghost use Rattle.rules.specs.VersionFault.{first_fault};
 ghost use Rattle.relation_text.specs.Bytes.{is_white, is_operator_byte, is_qualifier_byte, is_version_byte};
 ghost use Rattle.relation_text.specs.Cut.{CutsPart};
 ghost use Rattle.relation_text.specs.Spelling as Spec;
@@ -10,9 +10,9 @@ ghost use Rattle.relation_text.specs.Spelling.{after_run, separates};
 ghost use Rattle.rules.specs.Name.{is_name_byte};
 ghost use Rattle.std.specs.Str.{bytes_eq};
 
-use crate::shape::{is_name_byte, is_qualifier_byte, is_version_byte, is_white};
+use crate::shape::{is_qualifier_byte, is_version_byte, is_white};
 use debversion::Version;
-use rules::Op;
+use rules::{Op, is_name_byte};
 
 /// The bytes that part a value.
 #[derive(Clone, Copy, Debug, PartialEq, Eq)]

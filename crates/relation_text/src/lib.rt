@@ -17,6 +17,4 @@ pub use cut::{
 };
 pub use error::RelationFault;
 pub use refusal::{a_shape_is_refused_at_the_first_byte_that_goes_on_with_no_text, check};
-pub use shape::{
-    Form, every_other_place_has_a_completion, is_name_byte, no_text_goes_on_from_the_dead_place,
-};
+pub use shape::{Form, every_other_place_has_a_completion, no_text_goes_on_from_the_dead_place};

@@ -1,12 +1,13 @@
 //! The shape of a relation field's value: an automaton that reads it byte by byte.
 ghost use Rattle.std.specs.Prelude.{◌≡◌, ◌≢◌, ℕ, List, ◌++◌};
 ghost use Rattle.relation_text.specs.Bytes.{is_white, is_qualifier_byte, is_version_byte};
-ghost use Rattle.rules.specs.Name.{is_name_byte};
 ghost use Rattle.relation_text.specs.Place as Tests;
 ghost use Rattle.relation_text.specs.Shape as Spec;
 ghost use Rattle.relation_text.specs.Shape.{HasShape, place_after};
 ghost use Rattle.relation_text.specs.declared.shape.Form.{Form as FormOf};
 ghost use Rattle.relation_text.specs.declared.shape.Place.TheVariants.{Between, Dead};
+
+use rules::is_name_byte;
 
 /// The kind of a relation field.
 #[derive(Clone, Copy, Debug, PartialEq, Eq)]
@@ -56,13 +57,6 @@ pub fn is_white(byte: u8) -> bool
     ensures { result ≡ is_white byte }
 {
     matches!(byte, b' ' | b'\t' | b'\n')
-}
-
-/// Whether a name may have the byte behind its first.
-pub fn is_name_byte(byte: u8) -> bool
-    ensures { result ≡ is_name_byte byte }
-{
-    byte.is_ascii_alphanumeric() || matches!(byte, b'+' | b'-' | b'.')
 }
 
 pub fn is_qualifier_byte(byte: u8) -> bool

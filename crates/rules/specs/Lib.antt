@@ -23,6 +23,7 @@ pub mod Universe
 pub mod UnkeptLaws
 pub mod Unpack
 pub mod Version
+pub mod VersionFault
 pub mod VersionFrontLaws
 pub mod VersionLaws
 pub mod VersionOrderLaws

@@ -3,8 +3,10 @@
 // Begin with `specs/Version.antt`, and read on as docs/SPECIFICATION.md lists.
 #![tactic(auto)]
 
+mod bad_version;
 mod goal;
 mod laws;
+mod limits;
 mod name;
 mod op;
 mod release;
@@ -14,13 +16,15 @@ mod text;
 mod version_order;
 mod version_text;
 
+pub use bad_version::BadVersion;
 pub use goal::{Goal, Restriction};
 pub use laws::{
     allowed_or_failing, allowed_where_none_fails, distinct_names_kept, good_plan_keeps_promise,
     has_greatest_part, indivisible_by_others, one_end, one_first_failing, quiet_after_run,
     quiet_kept, run_goes_on, run_or_stops, union_passes, written_as_left,
 };
-pub use name::{Name, Names};
+pub use limits::{GOALS, INDICES, PACKAGES, PAIRS, STEPS, TEXT_BYTES};
+pub use name::{Name, Names, is_name, is_name_byte};
 pub use op::Op;
 pub use release::{Pin, PinnedNames, Preference, Release, ReleaseItem, ReleaseKey};
 pub use status::{Flag, State, Want};

@@ -1,10 +1,34 @@
 // Owned names and groups of names, which a contract sees as their bytes.
 
 ghost use Rattle.std.specs.Prelude.{◌≡◌, ℕ, ◌<◌, List, length, IfOk, IsTrue};
-ghost use Rattle.rules.specs.Name.{is_name, IsAscending};
+ghost use Rattle.std.specs.List.{list_all};
+ghost use Rattle.rules.specs.Name.{is_name, is_name_byte, IsAscending};
 
 use std::alloc::{AllocError, Global};
 use std::marker::Model;
+
+/// Whether a name may have the byte behind its first.
+pub fn is_name_byte(byte: u8) -> bool
+    ensures { result ≡ is_name_byte byte }
+{
+    byte.is_ascii_alphanumeric() || matches!(byte, b'+' | b'-' | b'.')
+}
+
+fn has_name_bytes(text: &[u8]) -> bool
+    ensures { result ≡ list_all is_name_byte text.now }
+{
+    text.iter().all(|byte| is_name_byte(*byte))
+}
+
+/// Whether the text is a package name (Policy 5.6.1). Linear in it.
+pub fn is_name(text: &[u8]) -> bool
+    ensures { result ≡ is_name text.now }
+{
+    match text {
+        [first, rest @ ..] => first.is_ascii_alphanumeric() && has_name_bytes(rest),
+        [] => false,
+    }
+}
 
 /// The name of a package (Policy 5.6.1), which owns its bytes.
 #[derive(Debug, Drop)]

@@ -4,14 +4,13 @@
 #![tactic(auto)]
 
 mod candidate;
-mod listed;
 mod pair;
 mod pairs;
 mod start;
 mod universe;
 
 pub use candidate::Candidate;
-pub use listed::Listed;
+pub use index::Listed;
 pub use pair::Pair;
 pub use pairs::Pairs;
 pub use start::Start;

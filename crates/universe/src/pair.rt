@@ -3,7 +3,7 @@
 ghost use Rattle.std.specs.Prelude.{◌≡◌, None, Some};
 ghost use Rattle.std.specs.Option.{option_copied};
 
-use crate::listed::Listed;
+use index::Listed;
 use relation::Pkg;
 use std::marker::Model;
 

@@ -6,9 +6,9 @@ ghost use Rattle.std.specs.Option.{option_copied};
 ghost use Rattle.rules.specs.Available.{is_of};
 ghost use Rattle.rules.specs.Universe.{listed_among};
 
-use crate::listed::Listed;
 use crate::pair::Pair;
 use debversion::Version;
+use index::Listed;
 use std::marker::Model;
 
 /// The admitted pairs of a request, numbered from 1.

@@ -7,7 +7,7 @@ ghost use Rattle.rules.specs.Universe.{candidate_of, listed_of};
 ghost use Rattle.universe.specs.Universe.{numbered};
 
 use crate::candidate::Candidate;
-use crate::listed::Listed;
+use index::Listed;
 use crate::pair::Pair;
 use crate::pairs::Pairs;
 use crate::start::Start;

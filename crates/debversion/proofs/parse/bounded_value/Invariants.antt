@@ -1,6 +1,6 @@
 use Rattle.std.proofs.Common.{◌≡◌, ◌≤◌, take}
 use Rattle.std.specs.Str.Parse.{digits_value}
-use Rattle.debversion.specs.Fault.{greatest_epoch}
+use Rattle.rules.specs.VersionFault.{greatest_epoch}
 use Rattle.debversion.proofs.parse.bounded_value.Given as goal
 
 abbrev pub invariant-loop-digit : goal.invariant-loop-digit

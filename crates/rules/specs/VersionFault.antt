@@ -7,8 +7,8 @@ use Rattle.std.specs.List.{list_all, list_any}
 use Rattle.std.specs.Option.{option_or}
 use Rattle.std.specs.Str.Parse.{digits_value}
 use Rattle.rules.specs.Version.{after_epoch, after_upstream, before_revision, epoch_of, is_colon, is_hyphen, is_tilde}
-use Rattle.debversion.specs.declared.error.BadVersion.{BadVersion}
-use Rattle.debversion.specs.declared.error.BadVersion.TheVariants.{BadByte, BadEpoch, Empty, EmptyRevision, EmptyUpstream, EpochTooLarge}
+use Rattle.rules.specs.declared.bad_version.BadVersion.{BadVersion}
+use Rattle.rules.specs.declared.bad_version.BadVersion.TheVariants.{BadByte, BadEpoch, Empty, EmptyRevision, EmptyUpstream, EpochTooLarge}
 
 -- the greatest epoch (this project's own choice, and dpkg's)
 abbrev pub greatest_epoch : ℕ
