@@ -17,7 +17,7 @@ mod version_order;
 mod version_text;
 
 pub use bad_version::BadVersion;
-pub use goal::{Goal, Restriction};
+pub use goal::{Goal, GoalLine, Restriction};
 pub use laws::{
     allowed_acts_on_present, allowed_or_failing, allowed_where_none_fails, distinct_names_kept,
     good_plan_has_yes, good_plan_keeps_promise, good_where_nothing_is_against, has_greatest_part,
