@@ -15,6 +15,7 @@ pub mod Priority
 pub mod Remove
 pub mod Run
 pub mod RunLaws
+pub mod RunStepLaws
 pub mod Sound
 pub mod Stanza
 pub mod State

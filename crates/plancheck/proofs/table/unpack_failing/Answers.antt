@@ -4,7 +4,7 @@ use Rattle.std.specs.Option.{option_copied}
 use Rattle.rules.specs.Legal.{UnpackAsks, unpack_rules}
 use Rattle.rules.specs.UnkeptLaws.{IsFirstUnkept-at}
 use Rattle.rules.specs.declared.step.Rule.TheVariants as rule
-use Rattle.plancheck.proofs.legal.unpack_failing.Goals as goal
+use Rattle.plancheck.proofs.table.unpack_failing.Goals as goal
 
 pub returns-then-not-unpack_keeps : goal.returns-then-not-unpack_keeps
 returns-then-not-unpack_keeps c = IsFirstUnkept-at (UnpackAsks (option_copied c.args.listed) c.args.db.now c.args.name.now c.args.version.now) unpack_rules

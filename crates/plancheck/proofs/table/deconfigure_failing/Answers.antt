@@ -3,7 +3,7 @@ use Rattle.std.proofs.Common.{◌≡◌, true, false, sym, ◌∙◌}
 use Rattle.rules.specs.Legal.{DeconfigureAsks, deconfigure_rules}
 use Rattle.rules.specs.UnkeptLaws.{IsFirstUnkept-at}
 use Rattle.rules.specs.declared.step.Rule.TheVariants as rule
-use Rattle.plancheck.proofs.legal.deconfigure_failing.Goals as goal
+use Rattle.plancheck.proofs.table.deconfigure_failing.Goals as goal
 
 pub returns-then-not-deconfigure_keeps : goal.returns-then-not-deconfigure_keeps
 returns-then-not-deconfigure_keeps c = IsFirstUnkept-at (DeconfigureAsks c.args.db.now c.args.name.now) deconfigure_rules

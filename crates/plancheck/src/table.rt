@@ -1,18 +1,21 @@
 // The first rule that an action fails, by the table of its rules (Policy 7.2 to 7.4).
 
-ghost use Rattle.std.specs.Prelude.{◌≡◌, ◌↔◌, ℕ, ◌<◌, IsTrue, MatchOption, MatchBool};
+ghost use Rattle.std.specs.Prelude.{◌≡◌, ◌↔◌, ℕ, ◌<◌, IsTrue, MatchOption, MatchBool, length};
 ghost use Rattle.std.specs.List.{All};
 ghost use Rattle.std.specs.Option.{option_copied};
 ghost use Rattle.rules.specs.Database.{HasRecord, HasSoundFlag, IsEssential, IsInstalled, IsPresent, IsRemoved};
-ghost use Rattle.rules.specs.Legal.{DeconfigureAsks, IsFirstUnkept, PurgeAsks, RemoveAsks, UnpackAsks, deconfigure_rules, purge_rules, remove_rules, unpack_rules};
+ghost use Rattle.rules.specs.Legal.{ConfigureAsks, DeconfigureAsks, IsFirstUnkept, PurgeAsks, RemoveAsks, UnpackAsks, configure_rules, deconfigure_rules, purge_rules, remove_rules, unpack_rules};
 
+use crate::configure::{
+    are_configurable, are_depends_installed, are_pre_depends_installed, are_unbroken,
+};
 use crate::held::{is_not_held, stands_as};
 use crate::remove::{can_be_removed, is_essential, is_installed, is_not_needed, is_removed};
 use crate::unpack::{breaks_none, has_no_conflict, has_pre_depends};
 use debversion::Version;
-use rules::Rule;
-use status::PackageRecord;
 use index::Listed;
+use rules::{Name, Names, Rule};
+use status::PackageRecord;
 
 // Whether the unpacking keeps the rule.
 fn unpack_keeps(
@@ -135,6 +138,41 @@ pub fn deconfigure_failing(db: &[PackageRecord<'_, '_>], name: &[u8]) -> Option<
 {
     for rule in [Rule::WrongState] {
         if !deconfigure_keeps(db, name, rule) {
+            return Some(rule);
+        }
+    }
+    None
+}
+
+// Whether the configuring of one name keeps the rule; a group of one has no proper part.
+fn configure_keeps(db: &[PackageRecord<'_, '_>], names: &[Name], rule: Rule) -> bool
+    requires { length names.now ≡ 1 }
+    ensures { IsTrue result ↔ ConfigureAsks db.now names.now rule }
+{
+    match rule {
+        Rule::WrongState => are_configurable(db, names),
+        Rule::PreDepends => are_pre_depends_installed(db, names),
+        Rule::Depends => are_depends_installed(db, names),
+        Rule::Breaks => are_unbroken(db, names),
+        _ => true,
+    }
+}
+
+/// The first rule that a configuring of one name fails, if there is one. Linear in the records for each clause of
+/// the package.
+pub fn configure_failing(db: &[PackageRecord<'_, '_>], names: &Names) -> Option<Rule>
+    requires { length names.now ≡ 1 }
+    ensures { MatchOption result (All (ConfigureAsks db.now names.now) configure_rules)
+        (λ rule. IsFirstUnkept (ConfigureAsks db.now names.now) configure_rules rule) }
+{
+    for rule in [
+        Rule::WrongState,
+        Rule::PreDepends,
+        Rule::Depends,
+        Rule::Breaks,
+        Rule::Group,
+    ] {
+        if !configure_keeps(db, names.as_slice(), rule) {
             return Some(rule);
         }
     }

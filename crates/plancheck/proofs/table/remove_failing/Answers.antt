@@ -3,7 +3,7 @@ use Rattle.std.proofs.Common.{◌≡◌, true, false, sym, ◌∙◌}
 use Rattle.rules.specs.Legal.{RemoveAsks, remove_rules}
 use Rattle.rules.specs.UnkeptLaws.{IsFirstUnkept-at}
 use Rattle.rules.specs.declared.step.Rule.TheVariants as rule
-use Rattle.plancheck.proofs.legal.remove_failing.Goals as goal
+use Rattle.plancheck.proofs.table.remove_failing.Goals as goal
 
 pub returns-then-not-remove_keeps : goal.returns-then-not-remove_keeps
 returns-then-not-remove_keeps c = IsFirstUnkept-at (RemoveAsks c.args.db.now c.args.name.now) remove_rules

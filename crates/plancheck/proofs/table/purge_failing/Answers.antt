@@ -3,7 +3,7 @@ use Rattle.std.proofs.Common.{◌≡◌, true, false, sym, ◌∙◌}
 use Rattle.rules.specs.Legal.{PurgeAsks, purge_rules}
 use Rattle.rules.specs.UnkeptLaws.{IsFirstUnkept-at}
 use Rattle.rules.specs.declared.step.Rule.TheVariants as rule
-use Rattle.plancheck.proofs.legal.purge_failing.Goals as goal
+use Rattle.plancheck.proofs.table.purge_failing.Goals as goal
 
 pub returns-then-not-purge_keeps : goal.returns-then-not-purge_keeps
 returns-then-not-purge_keeps c = IsFirstUnkept-at (PurgeAsks c.args.db.now c.args.name.now) purge_rules
