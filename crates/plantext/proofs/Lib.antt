@@ -1,0 +1,3 @@
+pub mod GroupLemmas
+pub mod PartLemmas
+pub mod PlanLemmas
