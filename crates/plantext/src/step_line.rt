@@ -84,10 +84,7 @@ fn unpack_of(alloc: Global, words: Option<&[u8]>) -> Result<Option<Step>, AllocE
     };
     match only_version(alloc, after)? {
         None => Ok(None),
-        Some(version) => Ok(Some(Step::Unpack(
-            Name::copied_from(alloc, name)?,
-            version,
-        ))),
+        Some(version) => Ok(Some(Step::Unpack(Name::copied_from(alloc, name)?, version))),
     }
 }
 
@@ -109,11 +106,7 @@ fn same_text(text: &[u8], other: &[u8]) -> bool
 }
 
 // The step of an action that is about the words that are left.
-fn step_by(
-    alloc: Global,
-    action: &[u8],
-    words: Option<&[u8]>,
-) -> Result<Option<Step>, AllocError>
+fn step_by(alloc: Global, action: &[u8], words: Option<&[u8]>) -> Result<Option<Step>, AllocError>
     ensures { IfOk result (λ step. step ≡ step_by action.now (parts_left SPACE words.entry)) }
 {
     if same_text(action, b"unpack") {
