@@ -1,0 +1,4 @@
+pub mod GroupLemmas
+pub mod PartLemmas
+pub mod PlanLemmas
+mod PlanRows

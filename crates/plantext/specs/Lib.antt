@@ -1,0 +1,5 @@
+pub mod Cut
+pub mod Error
+pub mod Group
+pub mod Plan
+pub mod StepLine

@@ -1,0 +1,67 @@
+-- The text of a plan (this project's own): the line `plan 1`, and then a line for each step. Each line ends with a
+-- newline, so that newlines part the text into the lines and, last, nothing.
+use Rattle.std.specs.Prelude.{ℕ, ◌+◌, List, [], ◌∷◌, ◌++◌, length, nat_lt, Option, Some, None, Result, Ok, Err, codes, if◌then◌else◌}
+use Rattle.std.specs.List.{flat_map}
+use Rattle.std.specs.Str.{bytes_eq}
+use Rattle.rules.specs.declared.limits.TheConstants.{STEPS, TEXT_BYTES}
+use Rattle.rules.specs.declared.step.Step.{Step}
+use Rattle.plantext.specs.Cut.{parts_at}
+use Rattle.plantext.specs.StepLine.{step_of, step_line}
+use Rattle.plantext.specs.declared.cut.TheConstants.{NEWLINE}
+use Rattle.plantext.specs.declared.error.PlanFault.{PlanFault}
+use Rattle.plantext.specs.declared.error.PlanFault.TheVariants.{BadPlan, TooLarge}
+
+-- the first line, without its newline
+abbrev pub header : List ℕ
+header = codes "plan 1"
+
+-- Reading
+
+-- this step of this number, unless it is one too many
+abbrev pub counted_step : ℕ → Step → Result Step PlanFault
+counted_step number step = if nat_lt STEPS number then Err TooLarge else Ok step
+
+-- the step, if the line of this number had one: the header stands before the lines of steps
+abbrev pub numbered_step : ℕ → Option Step → Result Step PlanFault
+numbered_step number None = Err (BadPlan (number + 1))
+numbered_step number (Some step) = counted_step number step
+
+-- the step of this number in its line, which has its newline
+abbrev pub read_step : ℕ → List ℕ → Result Step PlanFault
+read_step number line = numbered_step number (step_of line)
+
+-- the steps before those that are read behind them
+abbrev pub put_steps : List Step → Result (List Step) PlanFault → Result (List Step) PlanFault
+put_steps steps (Ok later) = Ok (steps ++ later)
+put_steps steps (Err fault) = Err fault
+
+-- the step that is read, before those that are read behind it
+abbrev pub put_step : Result Step PlanFault → Result (List Step) PlanFault → Result (List Step) PlanFault
+put_step (Ok step) later = put_steps (step ∷ []) later
+put_step (Err fault) later = Err fault
+
+-- behind the last newline nothing may stand: a line that lacks its newline is refused
+abbrev pub read_end : ℕ → List ℕ → Result (List Step) PlanFault
+read_end number [] = Ok []
+read_end number (b ∷ bytes) = Err (BadPlan (number + 1))
+
+-- the steps from this number on, of what newlines part; where nothing is parted, the line before lacks its newline
+abbrev pub read_steps : ℕ → List (List ℕ) → Result (List Step) PlanFault
+read_steps number [] = Err (BadPlan number)
+read_steps number (last ∷ []) = read_end number last
+read_steps number (line ∷ next ∷ later) = put_step (read_step number line) (read_steps (number + 1) (next ∷ later))
+
+-- the steps of what newlines part, of which the first has to be the header
+abbrev pub read_lines : List (List ℕ) → Result (List Step) PlanFault
+read_lines [] = Err (BadPlan 1)
+read_lines (first ∷ later) = if bytes_eq first header then read_steps 1 later else Err (BadPlan 1)
+
+-- the steps of a plan's text, or its first refusal
+unfoldable pub read_plan : List ℕ → Result (List Step) PlanFault
+read_plan text = if nat_lt TEXT_BYTES (length text) then Err TooLarge else read_lines (parts_at NEWLINE text)
+
+-- Writing
+
+-- the text of a plan with these steps
+unfoldable pub plan_text : List Step → List ℕ
+plan_text steps = header ++ NEWLINE ∷ [] ++ flat_map step_line steps

@@ -1,0 +1,84 @@
+// The steps in the text of a plan.
+
+ghost use Rattle.std.specs.Prelude.{◌≡◌, ◌<◌, ◌+◌, ◌^◌, [], Err, ◌≤◌, IfErr, IfOk, MatchResult, Ok, OnOk};
+ghost use Rattle.std.specs.Str.{bytes_eq};
+ghost use Rattle.plantext.specs.Error.{IsPlanFault};
+ghost use Rattle.plantext.specs.Cut.{parts_at};
+ghost use Rattle.plantext.specs.Plan as Spec;
+ghost use Rattle.plantext.specs.Plan.{header, read_plan, read_step, read_steps};
+ghost use Rattle.rules.specs.declared.limits.TheConstants.{STEPS};
+ghost use Rattle.plantext.specs.declared.cut.TheConstants.{NEWLINE};
+
+use crate::cut::{NEWLINE, cut_part, split_part};
+use crate::error::{PlanError, PlanFault};
+use crate::step_line::step_of;
+use rules::{STEPS, Step, TEXT_BYTES};
+use std::alloc::Global;
+
+fn is_header(line: &[u8]) -> bool
+    ensures { result ≡ bytes_eq line.now header }
+{
+    line == b"plan 1".as_slice()
+}
+
+// The step of this number in its line, which has its newline.
+fn read_step(alloc: Global, number: usize, line: &[u8]) -> Result<Step, PlanError>
+    requires { number + 1 < 2 ^ 64 }
+    ensures ok { IfOk result (λ step. read_step number line.now ≡ Ok step) }
+    ensures err { IfErr result (λ e. IsPlanFault e (read_step number line.now)) }
+    ensures within { OnOk result (number ≤ STEPS) }
+{
+    let Some(step) = step_of(alloc, line)? else {
+        return Err(PlanError::BadPlan(number + 1));
+    };
+    if number > STEPS {
+        return Err(PlanError::TooLarge);
+    }
+    Ok(step)
+}
+
+// Behind the last newline nothing may stand.
+fn check_end(number: usize, last: &[u8]) -> Result<(), PlanFault>
+    requires { number + 1 < 2 ^ 64 }
+    ensures { MatchResult result (λ _. Spec.read_end number last.now ≡ Ok []) (λ fault. Spec.read_end number last.now ≡ Err fault) }
+{
+    match last {
+        [] => Ok(()),
+        [_, ..] => Err(PlanFault::BadPlan(number + 1)),
+    }
+}
+
+// The steps of the lines behind the header's.
+fn read_steps(alloc: Global, lines: &[u8]) -> Result<Vec<Step>, PlanError>
+    ensures ok { IfOk result (λ steps. read_steps 1 (parts_at NEWLINE lines.now) ≡ Ok steps.items) }
+    ensures err { IfErr result (λ e. IsPlanFault e (read_steps 1 (parts_at NEWLINE lines.now))) }
+{
+    let mut steps = Vec::new(alloc);
+    let mut rest = lines;
+    while let Some((line, after)) = split_part(NEWLINE, rest) {
+        steps.push(read_step(alloc, steps.len() + 1, line)?)?;
+        rest = after;
+    }
+    check_end(steps.len() + 1, rest)?;
+    Ok(steps)
+}
+
+/// Reads the text of a plan: the line `plan 1`, then one step a line, each line with its newline. The answer to
+/// a text that isn't one is its first refusal in reading order. Linear in the text, and the memory in its steps.
+#[tactic(auto, unfolding(crate::specs::Plan::read_plan))]
+pub fn read_plan(alloc: Global, text: &[u8]) -> Result<Vec<Step>, PlanError>
+    ensures ok { IfOk result (λ steps. read_plan text.now ≡ Ok steps.items) }
+    ensures err { IfErr result (λ e. IsPlanFault e (read_plan text.now)) }
+{
+    if text.len() > TEXT_BYTES {
+        return Err(PlanError::TooLarge);
+    }
+    let (first, left) = cut_part(NEWLINE, text);
+    if !is_header(first) {
+        return Err(PlanError::BadPlan(1));
+    }
+    match left {
+        None => Err(PlanError::BadPlan(1)),
+        Some(lines) => read_steps(alloc, lines),
+    }
+}
