@@ -1,10 +1,17 @@
 // What a request chooses from: the admitted pairs of names and versions, each with its package and its stanza
-// in the indices. It stands on `rules`, which says which pairs are admitted. The main type today is `Pairs`.
+// in the indices, the goals, the facts of the start and the candidates. It stands on `rules`, which says which
+// pairs are admitted. The main type is `Universe`.
 #![tactic(auto)]
 
+mod candidate;
 mod pair;
 mod pairs;
+mod start;
+mod universe;
 
+pub use candidate::Candidate;
 pub use index::Listed;
 pub use pair::Pair;
 pub use pairs::Pairs;
+pub use start::Start;
+pub use universe::Universe;
