@@ -17,7 +17,7 @@ mod version_order;
 mod version_text;
 
 pub use bad_version::BadVersion;
-pub use goal::{Goal, Restriction};
+pub use goal::{Goal, GoalLine, Restriction};
 pub use laws::{
     allowed_or_failing, allowed_where_none_fails, distinct_names_kept, good_plan_keeps_promise,
     has_greatest_part, indivisible_by_others, one_end, one_first_failing, quiet_after_run,

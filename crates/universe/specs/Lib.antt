@@ -1,2 +1,4 @@
+pub mod Build
+pub mod Choice
 pub mod Pair
 pub mod Universe

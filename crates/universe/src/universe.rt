@@ -1,17 +1,17 @@
 // What a plan and a refutation are judged by.
 
-ghost use Rattle.std.specs.Prelude.{◌≡◌, ◌-◌, pos, bytes_eq};
+ghost use Rattle.std.specs.Prelude.{◌≡◌, bytes_eq};
 ghost use Rattle.std.specs.List.{find};
 ghost use Rattle.std.specs.Option.{option_copied};
 ghost use Rattle.rules.specs.Universe.{candidate_of, listed_of};
 ghost use Rattle.universe.specs.Universe.{numbered};
 
 use crate::candidate::Candidate;
-use index::Listed;
 use crate::pair::Pair;
 use crate::pairs::Pairs;
 use crate::start::Start;
 use debversion::Version;
+use index::Listed;
 use rules::Goal;
 use std::marker::Model;
 
@@ -57,7 +57,7 @@ impl<'a> Universe<'a> {
     ) -> Universe<'a>
         ensures { result ≡ record {
           pairs = pairs.entry;
-          goals = goals.entry.items;
+          goals = goals.items;
           starts = starts.entry.items;
           candidates = candidates.entry.items;
         } }

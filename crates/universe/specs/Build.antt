@@ -1,0 +1,56 @@
+-- The universe of a request where nothing is installed at the start and every index has the usual priority
+-- (apt_preferences(5)). Which request is refused is this project's own.
+use Rattle.std.specs.Prelude.{◌≡◌, ℕ, ◌<◌, pos, Bool, false, not, List, [], map, ◌||◌, ◌&&◌, ⊤, Option, Some, None, length, bytes_eq}
+use Rattle.std.specs.List.{All, list_any, filter, find}
+use Rattle.std.specs.List.Sorted.{IsStrictlySortedBy}
+use Rattle.std.specs.Option.{option_map, option_map_or}
+use Rattle.std.specs.Ordering.{is_eq, is_lt}
+use Rattle.rules.specs.Available.{Index, Inputs, all_listed, is_of, same_version}
+use Rattle.rules.specs.Priority.{default_priority}
+use Rattle.rules.specs.Step.{Listed}
+use Rattle.rules.specs.Universe.{Candidate, IsUniverse, Pair, Universe, pair_cmp}
+use Rattle.rules.specs.Version.{version_cmp}
+use Rattle.rules.specs.declared.goal.Goal.{Goal}
+use Rattle.rules.specs.declared.goal.Goal.TheVariants as goal
+use Rattle.rules.specs.declared.goal.GoalLine.{GoalLine}
+use Rattle.rules.specs.declared.goal.Restriction.{Restriction}
+use Rattle.rules.specs.declared.op.Op.{Op}
+use Rattle.rules.specs.declared.op.Op.TheVariants as op
+
+-- the inputs of a request where nothing is installed or preferred
+abbrev pub inputs_of : List Index → List Goal → Inputs
+inputs_of indices goals = record { start = []; indices = indices; preferences = []; target = None; goals = goals }
+
+-- the indices have these stanzas, and the usual priority
+pub record HaveStanzas (indices : List Index) (listed : List Listed) : Type 0 where
+  pub stanzas : all_listed indices ≡ listed
+  pub usual : All (λ index. default_priority index.release ≡ pos 500) indices
+
+-- the universe of the goals over these stanzas, in whatever indices they stand
+abbrev pub IsUniverseOf : List Listed → List Goal → Universe → Type 0
+IsUniverseOf listed goals u = (indices : List Index) → HaveStanzas indices listed → IsUniverse (inputs_of indices goals) u
+
+-- the goals of the lines
+abbrev pub goals_of : List GoalLine → List Goal
+goals_of lines = map (λ asked. asked.goal) lines
+
+-- the name that the goal names, if it names one
+abbrev pub named_by : Goal → Option (List ℕ)
+named_by (goal.Install name restriction) = Some name
+named_by (goal.Remove name) = Some name
+named_by (goal.Purge name) = Some name
+named_by (goal.Upgrade name) = Some name
+named_by goal.UpgradeAll = None
+named_by goal.NoRemove = None
+
+-- a stanza has the name
+abbrev pub has_name : List Listed → List ℕ → Bool
+has_name listed name = list_any (λ found. bytes_eq found.pkg.name name) listed
+
+-- the goal names a package that no stanza has
+abbrev pub is_unknown : List Listed → Goal → Bool
+is_unknown listed asked = option_map_or (λ name. not (has_name listed name)) (named_by asked) false
+
+-- the line of the first goal that names a package that no stanza has
+abbrev pub first_unknown : List Listed → List GoalLine → Option ℕ
+first_unknown listed lines = option_map (λ asked. asked.line) (find (λ asked. is_unknown listed asked.goal) lines)
