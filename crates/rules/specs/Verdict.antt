@@ -38,7 +38,7 @@ abbrev pub GoodWhereNothingIsAgainst : Type 0
 GoodWhereNothingIsAgainst = (u : Universe) (start finish : List Record) (steps : List Step) → IsBuiltOn start u
     → Run u start steps finish → IsGoodEnd u finish ↔ HasNothingAgainst u finish
 
--- of every plan one verdict is true at most
-abbrev pub OneVerdict : Type 0
-OneVerdict = (u : Universe) (start : List Record) (steps : List Step) (first second : Verdict)
-    → IsVerdict u start steps first → IsVerdict u start steps second → first ≡ second
+-- a plan that is good has no other verdict than yes
+abbrev pub GoodPlanHasYes : Type 0
+GoodPlanHasYes = (u : Universe) (start : List Record) (steps : List Step) (found : Verdict) → IsGoodPlan u start steps
+    → IsVerdict u start steps found → found ≡ verdict.Yes

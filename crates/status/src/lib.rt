@@ -4,9 +4,9 @@
 
 mod package_record;
 mod step;
-mod unpack;
+mod unpacking;
 
 pub use package_record::PackageRecord;
 pub use rules::{Flag, State, Step, Want};
 pub use step::{configure, deconfigure, remove};
-pub use unpack::{purge, unpack};
+pub use unpacking::{purge, unpack};

@@ -2,7 +2,7 @@
 use Rattle.std.proofs.Common.{◌≡◌, ℕ, ◌<◌, ◌≤◌, get_or, cond}
 use Rattle.rules.specs.Database.{Record}
 use Rattle.rules.specs.Step.{unpacked_over, is_named}
-use Rattle.status.proofs.unpack.unpack_over.Given as goal
+use Rattle.status.proofs.unpacking.unpack_over.Given as goal
 
 abbrev pub invariant-loop-record : goal.invariant-loop-record
 invariant-loop-record l = record {
