@@ -13,7 +13,7 @@ use Rattle.rules.specs.declared.goal.GoalLine.{GoalLine}
 use Rattle.rules.specs.declared.step.Step.{Step}
 use Rattle.rules.specs.declared.step.Verdict.{Verdict}
 use Rattle.stanza.specs.Stanza.{items_of}
-use Rattle.cli_engine.specs.Reading.{refusal_at}
+use Rattle.cli_engine.specs.Reading.{refusal_at, refusal_of}
 use Rattle.cli_engine.specs.Texts.{Texts, status_fault, read_early_sources, read_early_index, read_early_request, read_early_plan}
 use Rattle.cli_engine.specs.declared.refusal.Fault.{Fault}
 use Rattle.cli_engine.specs.declared.refusal.Place.TheVariants as place
@@ -44,7 +44,7 @@ indices_refusal arch number (text ∷ texts) =
 -- the first refusal of the texts before the plan, in the order of reading
 unfoldable pub inputs_refusal : Texts → Option Refusal
 inputs_refusal texts =
-    option_or (option_map (λ refused. record { place = place.Status; fault = refused }) (status_fault texts.status))
+    option_or (option_map (refusal_of place.Status) (status_fault texts.status))
     (option_or (refusal_at place.Sources (read_early_sources texts.sources))
     (option_or (indices_refusal texts.arch 1 texts.indices)
     (refusal_at place.Request (read_early_request texts.arch (listed_in texts.arch texts.indices) texts.request))))

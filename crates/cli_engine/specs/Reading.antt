@@ -28,14 +28,27 @@ unless_fault (Some found) (Ok read) = Err found
 abbrev pub IsFaultOf : {A : Type 0} → Result A Fault → Fault → Type 0
 IsFaultOf read found = (found ≡ fault.OutOfMemory) ⊎ (read ≡ Err found)
 
--- the refusal of a reading of the text at this place, if it is refused
-abbrev pub refusal_at : {A : Type 0} → Place → Result A Fault → Option Refusal
-refusal_at where_ (Ok read) = None
-refusal_at where_ (Err refused) = Some (record { place = where_; fault = refused })
-
 -- the refusal for want of memory
 abbrev pub out_of_memory : Refusal
 out_of_memory = record { place = place.Memory; fault = fault.OutOfMemory }
+
+-- a fault of the text at this place as a refusal; of no text, where memory was wanting
+abbrev pub refusal_of : Place → Fault → Refusal
+refusal_of where_ (fault.Stanza refused) = record { place = where_; fault = fault.Stanza refused }
+refusal_of where_ (fault.Sources refused) = record { place = where_; fault = fault.Sources refused }
+refusal_of where_ (fault.Index refused) = record { place = where_; fault = fault.Index refused }
+refusal_of where_ (fault.Request refused) = record { place = where_; fault = fault.Request refused }
+refusal_of where_ (fault.Universe refused) = record { place = where_; fault = fault.Universe refused }
+refusal_of where_ (fault.Plan refused) = record { place = where_; fault = fault.Plan refused }
+refusal_of where_ fault.TooLarge = record { place = where_; fault = fault.TooLarge }
+refusal_of where_ (fault.NotYet found) = record { place = where_; fault = fault.NotYet found }
+refusal_of where_ fault.Read = record { place = where_; fault = fault.Read }
+refusal_of where_ fault.OutOfMemory = out_of_memory
+
+-- the refusal of a reading of the text at this place, if it is refused
+abbrev pub refusal_at : {A : Type 0} → Place → Result A Fault → Option Refusal
+refusal_at where_ (Ok read) = None
+refusal_at where_ (Err refused) = Some (refusal_of where_ refused)
 
 -- the refusal is this one, or want of memory
 abbrev pub IsRefusalOf : Option Refusal → Refusal → Type 0

@@ -1,9 +1,12 @@
 // Why a text was refused, and what is printed of it.
 
+ghost use Rattle.std.specs.Prelude.{◌≡◌, Some};
+ghost use Rattle.cli_engine.specs.Reading.{out_of_memory, refusal_of};
+
 use index::{IndexFault, LaterField, SourcesFault};
 use plantext::PlanFault;
 use stanza::StanzaError;
-use std::fmt;
+use std::alloc::AllocError;
 use thiserror::Error;
 use universe::UniverseFault;
 use universe_request::RequestFault;
@@ -109,4 +112,28 @@ pub struct Refusal {
     pub place: Place,
     /// What is wrong with it.
     pub fault: Fault,
+}
+
+/// The refusal of the text at this place; where memory was wanting, no text is refused.
+pub(crate) fn refused_at(place: Place, fault: Fault) -> Refusal
+    ensures { result ≡ refusal_of place fault }
+{
+    match fault {
+        Fault::OutOfMemory => Refusal {
+            place: Place::Memory,
+            fault,
+        },
+        _ => Refusal { place, fault },
+    }
+}
+
+impl From<AllocError> for Refusal {
+    ghost from_gives = { λ _ e. e ≡ out_of_memory };
+
+    fn from(_e: AllocError) -> Refusal {
+        Refusal {
+            place: Place::Memory,
+            fault: Fault::OutOfMemory,
+        }
+    }
 }
