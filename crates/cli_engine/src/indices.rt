@@ -1,9 +1,9 @@
 // The indices, of whose relation fields today Depends alone is judged.
 
-ghost use Rattle.std.specs.Prelude.{◌≡◌, IfErr, IfOk, None, Ok};
+ghost use Rattle.std.specs.Prelude.{◌≡◌, ◌⊎◌, ◌++◌, IfErr, IfOk, None, Ok, Some, map};
 ghost use Rattle.index.specs.Index as Read;
 ghost use Rattle.cli_engine.specs.Answer.{indices_refusal, listed_in};
-ghost use Rattle.cli_engine.specs.Reading.{IsFaultOf, IsRefusalOf, with_fault};
+ghost use Rattle.cli_engine.specs.Reading.{IsFaultOf, out_of_memory, with_fault};
 ghost use Rattle.cli_engine.specs.Texts as Spec;
 ghost use Rattle.cli_engine.specs.declared.refusal.Fault.TheVariants as fault;
 
@@ -51,9 +51,10 @@ pub(crate) fn read_indices<'a>(
     texts: &[&'a [u8]],
     arch: &[u8],
 ) -> Result<Vec<Listed<'a>>, Refusal>
-    ensures accepted { IfOk result (λ _. indices_refusal arch.now 1 texts.now ≡ None) }
-    ensures ok { IfOk result (λ listed. listed.items ≡ listed_in arch.now texts.now) }
-    ensures err { IfErr result (λ refused. IsRefusalOf (indices_refusal arch.now 1 texts.now) refused) }
+    ensures accepted { IfOk result (λ _. indices_refusal arch.now 1 (map (λ text. text.now) texts.now) ≡ None) }
+    ensures ok { IfOk result (λ listed. listed.items ≡ listed_in arch.now (map (λ text. text.now) texts.now)) }
+    ensures err { IfErr result (λ refused. (refused ≡ out_of_memory)
+        ⊎ (indices_refusal arch.now 1 (map (λ text. text.now) texts.now) ≡ Some refused)) }
 {
     let mut all = Vec::new(alloc);
     for (place, text) in texts.iter().enumerate() {

@@ -8,7 +8,6 @@ use plantext::PlanFault;
 use stanza::StanzaError;
 use std::alloc::AllocError;
 use thiserror::Error;
-use universe::UniverseFault;
 use universe_request::RequestFault;
 
 /// The text that is refused.
@@ -84,13 +83,13 @@ pub enum Fault {
     /// The request is refused.
     #[error("{0}")]
     Request(RequestFault),
-    /// The request names what isn't there, or admits too much.
-    #[error("{0}")]
-    Universe(UniverseFault),
+    /// The goal of this line of the request names a package that nothing has.
+    #[error("E17 UnknownName {0}")]
+    UnknownName(usize),
     /// The plan is refused.
     #[error("{0}")]
     Plan(PlanFault),
-    /// A text of more bytes than are read.
+    /// A text of more bytes than are read, or a request that admits more pairs than are kept.
     #[error("E10 TooLarge")]
     TooLarge,
     /// The text is accepted, but has what isn't judged yet.

@@ -50,11 +50,7 @@ fn unpack_stop(
 
 // The first rule that a removal of the name fails.
 #[tactic(auto, unfolding(rules::specs::Legal::Allowed, rules::specs::Legal::IsFirstFailing))]
-fn remove_stop(
-    db: &[PackageRecord<'_, '_>],
-    universe: &Universe<'_>,
-    name: &Name,
-) -> Option<Rule>
+fn remove_stop(db: &[PackageRecord<'_, '_>], universe: &Universe<'_>, name: &Name) -> Option<Rule>
     ensures { MatchOption result (Allowed universe.now db.now (Remove name.now))
         (λ rule. IsFirstFailing universe.now db.now (Remove name.now) rule) }
 {
@@ -63,11 +59,7 @@ fn remove_stop(
 
 /// The first rule that the step fails, if there is one. The cost is that of the action's rules.
 #[tactic(auto, unfolding(rules::specs::Legal::Allowed, rules::specs::Legal::IsFirstFailing, crate::specs::Single::IsSingle))]
-pub fn legal(
-    db: &[PackageRecord<'_, '_>],
-    universe: &Universe<'_>,
-    step: &Step,
-) -> Option<Rule>
+pub fn legal(db: &[PackageRecord<'_, '_>], universe: &Universe<'_>, step: &Step) -> Option<Rule>
     requires { IsSingle step.now }
     ensures { MatchOption result (Allowed universe.now db.now step.now)
         (λ rule. IsFirstFailing universe.now db.now step.now rule) }
