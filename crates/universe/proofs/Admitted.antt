@@ -23,7 +23,8 @@ use Rattle.universe.specs.Choice.{IsOrdered, admitted_among, candidate_at, candi
 use Rattle.universe.proofs.Asked.{is_asked-from, is_asked-names}
 use Rattle.universe.proofs.Finding.{find-exists, find-some, sorted-one}
 use Rattle.universe.proofs.Fresh.{AreUsual, IsAdmitted-from, IsAdmitted-is, IsCandidate-is, IsCandidate-usual, NoneHigher}
-use Rattle.universe.proofs.PairOrder.{is_of-from, is_of-parts, pair_cmp-tied, pair_cmp_total}
+use Rattle.universe.proofs.PairOrder.{is_of-from, is_of-parts, pair_cmp-tied}
+use Rattle.universe.specs.PairLaws.{pair_cmp_total}
 use mathlib.Core.Logic.{inl, inr}
 
 -- the pair that is found of a version is the stanza's
@@ -32,7 +33,7 @@ pub pair_found : (indices : List Index) (pairs : List Pair) → IsOrdered (all_l
     → Contains pairs (listed_pair found) × IsOf name version found.pkg
 pair_found indices pairs ordered name version found is =
     let at = find-some (λ (pair : Pair). is_of name version pair.pkg) pairs (listed_pair found)
-            (ordered.earliest name version ∙ ap (option_map listed_pair) is) in
+    (ordered.earliest name version ∙ ap (option_map listed_pair) is) in
     (at.0, is_of-parts name version found.pkg at.1)
 
 -- a pair of a sorted list is the one that is found of its name and version
@@ -44,8 +45,11 @@ found_itself pairs ascending pair within name version of =
     let found = find-exists p pairs pair within (is_of-from name version pair.pkg of) in
     let at = find-some p pairs found.0 found.1 in
     let own = is_of-parts name version found.0.pkg at.1 in
-    let tied = pair_cmp-tied found.0 pair (own.0 ∙ sym of.0, SameVersion-trans found.0.pkg.version version pair.pkg.version own.1
-            (SameVersion-symm pair.pkg.version version of.1)) in
+    let tied = pair_cmp-tied found.0 pair (
+      own.0 ∙ sym of.0,
+      SameVersion-trans found.0.pkg.version version pair.pkg.version own.1
+          (SameVersion-symm pair.pkg.version version of.1),
+    ) in
     found.1 ∙ ap Some (sorted-one pair_cmp_total pairs ascending found.0 pair at.0 within tied)
 
 -- the stanza of a pair
@@ -73,8 +77,8 @@ pub is_highest-none : (pairs : List Pair) (pair : Pair) → is_highest pairs pai
 is_highest-none pairs pair highest other within named below =
     let none : list_any (is_higher pair) pairs ≡ false = not-true (list_any (is_higher pair) pairs) highest in
     let some : list_any (is_higher pair) pairs ≡ true = list_any-from_contains (is_higher pair) pairs other within
-            (and_from (bytes_eq other.pkg.name pair.pkg.name) (is_lt (version_cmp pair.pkg.version other.pkg.version))
-            (bytes_eq-same other.pkg.name pair.pkg.name named) (ap is_lt below)) in
+    (and_from (bytes_eq other.pkg.name pair.pkg.name) (is_lt (version_cmp pair.pkg.version other.pkg.version))
+    (bytes_eq-same other.pkg.name pair.pkg.name named) (ap is_lt below)) in
     absurd (cc)
 
 pub is_highest-from : (pairs : List Pair) (pair : Pair)
@@ -97,18 +101,18 @@ NoneHigher-highest : (indices : List Index) (pairs : List Pair) → IsOrdered (a
 NoneHigher-highest indices pairs ordered pair name version of highest other found is above =
     let there = pair_found indices pairs ordered name other found is in
     is_highest-none pairs pair highest (listed_pair found) there.0 (there.1.0 ∙ sym of.0)
-        (version_cmp-same_left pair.pkg.version version found.pkg.version of.1
-        ∙ version_cmp-same_right version found.pkg.version other there.1.1
-        ∙ version_cmp-antisymm version other ∙ ap ordering_reverse above)
+    (version_cmp-same_left pair.pkg.version version found.pkg.version of.1
+    ∙ version_cmp-same_right version found.pkg.version other there.1.1
+    ∙ version_cmp-antisymm version other ∙ ap ordering_reverse above)
 
 highest-NoneHigher : (indices : List Index) (pairs : List Pair) → IsOrdered (all_listed indices) pairs → (pair : Pair)
     → (name version : List ℕ) → IsOf name version pair.pkg → NoneHigher indices name version → is_highest pairs pair ≡ true
 highest-NoneHigher indices pairs ordered pair name version of none = is_highest-from pairs pair (λ other within named below.
     let there = stanza_found indices pairs ordered other within name other.pkg.version
-            (named ∙ of.0, SameVersion-refl other.pkg.version) in
+    (named ∙ of.0, SameVersion-refl other.pkg.version) in
     none other.pkg.version there.0 there.1
-        (sym (version_cmp-same_right other.pkg.version pair.pkg.version version of.1)
-        ∙ version_cmp-antisymm other.pkg.version pair.pkg.version ∙ ap ordering_reverse below))
+    (sym (version_cmp-same_right other.pkg.version pair.pkg.version version of.1)
+    ∙ version_cmp-antisymm other.pkg.version pair.pkg.version ∙ ap ordering_reverse below))
 
 -- the pair is of its own name and version
 pub of_itself : (pair : Pair) → IsOf pair.pkg.name pair.pkg.version pair.pkg
@@ -122,7 +126,7 @@ pub candidate_of_highest : (indices : List Index) (goals : List Goal) → AreUsu
 candidate_of_highest indices goals usual pairs ordered pair within highest name version of =
     let there = stanza_found indices pairs ordered pair within name version of in
     IsCandidate-usual indices goals name version usual there.0 there.1
-        (NoneHigher-highest indices pairs ordered pair name version of highest)
+    (NoneHigher-highest indices pairs ordered pair name version of highest)
 
 -- the candidate of a name is its highest pair
 pub highest_of_candidate : (indices : List Index) (goals : List Goal) → AreUsual indices → (pairs : List Pair)

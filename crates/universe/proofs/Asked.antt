@@ -70,9 +70,11 @@ NamesExactly-from name version (goal.Install own (Some restriction)) exact is na
         → (own ≡ name) × (restriction.op ≡ operator.ExactlyEqual) × SameVersion version restriction.version
     at true passes whole =
         let found : Exact = record { name = own; version = restriction.version } in
-        let alike : found ≡ exact = same_Some found exact whole in
-        (ap (λ (e : Exact). e.name) alike ∙ named, exactly-is restriction.op passes,
-        subst (SameVersion version) (sym (ap (λ (e : Exact). e.version) alike)) same)
+        let alike : found ≡ exact = same_Some found exact whole in (
+          ap (λ (e : Exact). e.name) alike ∙ named,
+          exactly-is restriction.op passes,
+          subst (SameVersion version) (sym (ap (λ (e : Exact). e.version) alike)) same,
+        )
     at false passes whole = absurd (let e : None ≡ Some exact = whole in cc)
 NamesExactly-from name version (goal.Remove own) exact is named same = absurd (let e : None ≡ Some exact = is in cc)
 NamesExactly-from name version (goal.Purge own) exact is named same = absurd (let e : None ≡ Some exact = is in cc)

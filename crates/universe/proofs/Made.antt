@@ -37,11 +37,11 @@ AllPairs-sorted {X} R (x ∷ xs) sorted = AllPairs-cons (λ (earlier : X) (later
     (All-after_first R x xs sorted) (AllPairs-sorted R xs (sorted_tail R x xs sorted))
 
 -- of one name the earlier pair has the lower version
-below_named : (pair other : Pair) → pair_cmp pair other ≡ Less → pair.pkg.name ≡ other.pkg.name
+pub below_named : (pair other : Pair) → pair_cmp pair other ≡ Less → pair.pkg.name ≡ other.pkg.name
     → version_cmp pair.pkg.version other.pkg.version ≡ Less
 below_named pair other below named =
     let tied : name_cmp pair.pkg.name other.pkg.name ≡ Equal =
-        subst (λ (n : List ℕ). name_cmp pair.pkg.name n ≡ Equal) named (tied_itself nat_list_cmp_total pair.pkg.name) in
+    subst (λ (n : List ℕ). name_cmp pair.pkg.name n ≡ Equal) named (tied_itself nat_list_cmp_total pair.pkg.name) in
     sym (ap (λ (o : Ordering). ordering_then o (version_cmp pair.pkg.version other.pkg.version)) tied) ∙ below
 
 -- the pair is the highest of its name among these
@@ -74,14 +74,14 @@ unfolding IsOffered
 kept_of_admitted indices goals usual pairs ordered name version (inl candidate) =
     let there = highest_of_candidate indices goals usual pairs ordered name version candidate.0 candidate.1 in
     Any-intro (λ (pair : Pair). IsOf name version pair.pkg) (admitted_among (exacts_of goals) pairs) there.0
-        (Contains-filter_intro (is_kept goals pairs) pairs there.0 there.1
-        (or_left (is_highest pairs there.0) (is_asked (exacts_of goals) there.0) there.2)) there.3
+    (Contains-filter_intro (is_kept goals pairs) pairs there.0 there.1
+    (or_left (is_highest pairs there.0) (is_asked (exacts_of goals) there.0) there.2)) there.3
 kept_of_admitted indices goals usual pairs ordered name version (inr asked) =
     let there = pair_of_available indices goals pairs ordered name version asked.0 in
     Any-intro (λ (pair : Pair). IsOf name version pair.pkg) (admitted_among (exacts_of goals) pairs) there.0
-        (Contains-filter_intro (is_kept goals pairs) pairs there.0 there.1
-        (or_right (is_highest pairs there.0) (is_asked (exacts_of goals) there.0)
-        (is_asked-from goals there.0 name version there.2 asked.1))) there.2
+    (Contains-filter_intro (is_kept goals pairs) pairs there.0 there.1
+    (or_right (is_highest pairs there.0) (is_asked (exacts_of goals) there.0)
+    (is_asked-from goals there.0 name version there.2 asked.1))) there.2
 
 -- a pair that is kept is offered
 offered_of_kept : (indices : List Index) (goals : List Goal) → AreUsual indices → (pairs : List Pair)
@@ -91,8 +91,10 @@ unfolding IsOffered
 offered_of_kept indices goals usual pairs ordered pair within kept name version of =
     elim (or_cases (is_highest pairs pair) (is_asked (exacts_of goals) pair) kept) [
       | inl highest ↦ inl (pos 500, candidate_of_highest indices goals usual pairs ordered pair within highest name version of)
-      | inr asked ↦ inr (available_of_pair indices goals pairs ordered pair within name version of,
-        is_asked-names goals pair asked name version of)
+      | inr asked ↦ inr (
+        available_of_pair indices goals pairs ordered pair within name version of,
+        is_asked-names goals pair asked name version of,
+      )
     ]
 
 -- an admitted pair is the highest of its name or asked for
@@ -116,9 +118,10 @@ counting_of_pair : (indices : List Index) (goals : List Goal) (pairs : List Pair
     → (counting_package (inputs_of indices goals) pair.pkg.name pair.pkg.version ≡ Some pair.pkg)
     × (index_package indices pair.pkg.name pair.pkg.version ≡ pair.listed)
 counting_of_pair indices goals pairs ordered pair within =
-    let there = stanza_found indices pairs ordered pair within pair.pkg.name pair.pkg.version (of_itself pair) in
-    (ap (option_map (λ (found : Listed). found.pkg)) there.1 ∙ ap (λ (p : Pair). Some p.pkg) there.2,
-    there.1 ∙ ap (λ (p : Pair). p.listed) there.2)
+    let there = stanza_found indices pairs ordered pair within pair.pkg.name pair.pkg.version (of_itself pair) in (
+      ap (option_map (λ (found : Listed). found.pkg)) there.1 ∙ ap (λ (p : Pair). Some p.pkg) there.2,
+      there.1 ∙ ap (λ (p : Pair). p.listed) there.2,
+    )
 
 -- the universe of these indices
 universe_in : (indices : List Index) (goals : List Goal) → AreUsual indices → (pairs : List Pair)
@@ -151,9 +154,9 @@ universe_in indices goals usual pairs ordered = record {
   every_candidate = λ name version priority candidate.
       let there = highest_of_candidate indices goals usual pairs ordered name version priority candidate in
       Any-intro (λ (candidate : Candidate). (candidate.name ≡ name) × SameVersion candidate.version version) (candidates_among pairs)
-          (candidate_at there.0)
-          (Contains-map_intro candidate_at (filter (is_highest pairs) pairs) there.0
-          (Contains-filter_intro (is_highest pairs) pairs there.0 there.1 there.2)) there.3;
+      (candidate_at there.0)
+      (Contains-map_intro candidate_at (filter (is_highest pairs) pairs) there.0
+      (Contains-filter_intro (is_highest pairs) pairs there.0 there.1 there.2)) there.3;
   one_candidate = names_differ pairs (filter (is_highest pairs) pairs)
       (IsStrictlySortedBy-filter pair_cmp (is_highest pairs) pairs ordered.ascending)
       (All-intro (IsHighestAmong pairs) (filter (is_highest pairs) pairs)

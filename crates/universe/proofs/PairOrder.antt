@@ -21,13 +21,9 @@ use Rattle.rules.specs.Step.{Listed, no_relations}
 use Rattle.rules.specs.Universe.{IsOf, Pair, pair_cmp}
 use Rattle.rules.specs.Version.{SameVersion, version_cmp}
 use Rattle.rules.specs.VersionOrderLaws.{version_cmp_total, version_cmp-same_left}
+use Rattle.universe.specs.PairLaws.{pair_cmp_total}
 use Rattle.universe.specs.Choice.{IsOrdered, listed_pair}
 use Rattle.universe.proofs.Finding.{find-dedup, find-filter, find-map, first_of_all}
-
-pub pair_cmp_total : IsTotalOrder pair_cmp
-pair_cmp_total = then_total
-    (on_total (λ (pair : Pair). pair.pkg.name) nat_list_cmp_total)
-    (on_total (λ (pair : Pair). pair.pkg.version) version_cmp_total)
 
 -- the test of a name and a version says just this
 pub is_of-parts : (name version : List ℕ) (pkg : Pkg) → is_of name version pkg ≡ true → IsOf name version pkg

@@ -2,7 +2,7 @@
 use Rattle.std.specs.Prelude.{◌≡◌, ℕ, Bool, true, false, not, List, map, ◌||◌, ◌&&◌, Option, Some, None, if◌then◌else◌, bytes_eq}
 use Rattle.std.specs.List.{list_any, filter, filter_map, find}
 use Rattle.std.specs.List.Sorted.{IsStrictlySortedBy}
-use Rattle.std.specs.Option.{option_map}
+use Rattle.std.specs.Option.{option_map, option_map_or}
 use Rattle.std.specs.Ordering.{is_lt}
 use Rattle.rules.specs.Available.{is_of}
 use Rattle.rules.specs.Step.{Listed}
@@ -80,3 +80,12 @@ candidate_at pair = record { name = pair.pkg.name; version = pair.pkg.version }
 -- the highest pair of each name as its candidate
 abbrev pub candidates_among : List Pair → List Candidate
 candidates_among pairs = map candidate_at (filter (is_highest pairs) pairs)
+
+-- what is chosen of the pairs: the admitted ones, and the candidates
+pub record IsChosen (exacts : List Exact) (pairs admitted : List Pair) (candidates : List Candidate) : Type 0 where
+  pub admitted_ones : admitted ≡ admitted_among exacts pairs
+  pub candidate_ones : candidates ≡ candidates_among pairs
+
+-- the name is another than this one, or there is none to compare
+abbrev pub differs : Option (List ℕ) → List ℕ → Bool
+differs above name = option_map_or (λ other. not (bytes_eq other name)) above true

@@ -1,4 +1,5 @@
 pub mod Build
 pub mod Choice
 pub mod Pair
+pub mod PairLaws
 pub mod Universe

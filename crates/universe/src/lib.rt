@@ -4,6 +4,9 @@
 #![tactic(auto)]
 
 mod candidate;
+mod choice;
+mod exact;
+mod order;
 mod pair;
 mod pairs;
 mod start;
