@@ -3,7 +3,7 @@
 use Rattle.std.proofs.Common.{◌≡◌, ◌≢◌, ◌<◌, ℕ, ℤ, pos, Bool, true, ◌||◌, List, [], ◌∷◌, map, length, Option, Some, None, ◌⊎◌, ◌↔◌, refl, sym, ap, subst, ◌∙◌, arith}
 use Rattle.std.specs.Cmp.{tied_itself}
 use Rattle.std.specs.Cmp.Lexicographic.{nat_list_cmp_total}
-use Rattle.std.specs.List.{All, AllPairs, Any, Contains, filter}
+use Rattle.std.specs.List.{All, AllPairs, Any, Contains, cons_option, filter, filter_map}
 use Rattle.std.specs.List.Sorted.{IsStrictlySortedBy}
 use Rattle.std.specs.Option.{option_map}
 use Rattle.std.specs.Ordering.{ordering_then}
@@ -22,8 +22,9 @@ use Rattle.rules.specs.Step.{Listed}
 use Rattle.rules.specs.Universe.{Candidate, IsAdmitted, IsOf, IsOffered, IsUniverse, NamesExactly, Pair, Universe, pair_cmp}
 use Rattle.rules.specs.Version.{SameVersion, version_cmp}
 use Rattle.rules.specs.declared.goal.Goal.{Goal}
-use Rattle.universe.specs.Build.{HaveStanzas, IsUniverseOf, inputs_of}
-use Rattle.universe.specs.Choice.{IsOrdered, admitted_among, candidate_at, candidates_among, exacts_of, is_asked, is_highest, listed_pair}
+use Rattle.rules.specs.declared.goal.GoalLine.{GoalLine}
+use Rattle.universe.specs.Build.{HaveStanzas, IsUniverseOf, goals_of, inputs_of}
+use Rattle.universe.specs.Choice.{Exact, IsChosen, IsOrdered, admitted_among, candidate_at, candidates_among, exact_of, exacts_of, is_asked, is_highest, listed_pair}
 use Rattle.universe.proofs.Admitted.{available_of_pair, candidate_of_highest, highest_of_candidate, is_highest-none, of_itself, pair_of_available, stanza_found}
 use Rattle.universe.proofs.Asked.{is_asked-from, is_asked-names}
 use Rattle.universe.proofs.Fresh.{AreUsual, IsAdmitted-from, IsAdmitted-is}
@@ -173,3 +174,34 @@ pub universe_of : (listed : List Listed) (goals : List Goal) (pairs : List Pair)
     })
 universe_of listed goals pairs ordered indices have = universe_in indices goals have.usual pairs
     (subst (λ (stanzas : List Listed). IsOrdered stanzas pairs) (sym have.stanzas) ordered)
+
+-- what is left of changed elements by a filter that changes
+filter_map-map : {X Y Z : Type 0} (h : Y → Option Z) (f : X → Y) (xs : List X)
+    → filter_map h (map f xs) ≡ filter_map (λ x. h (f x)) xs
+filter_map-map h f [] = refl
+filter_map-map h f (x ∷ xs) = ap (cons_option (h (f x))) (filter_map-map h f xs)
+
+-- the universe of what is chosen
+pub universe_chosen : (listed : List Listed) (lines : List GoalLine) (exacts : List Exact) (pairs admitted : List Pair)
+    (candidates : List Candidate) → IsOrdered listed pairs → exacts ≡ filter_map (λ asked. exact_of asked.goal) lines
+    → IsChosen exacts pairs admitted candidates
+    → IsUniverseOf listed (goals_of lines) (record {
+      pairs = admitted;
+      goals = goals_of lines;
+      starts = [];
+      candidates = candidates;
+    })
+universe_chosen listed lines exacts pairs admitted candidates ordered asked chosen =
+    let goals : List Goal = goals_of lines in
+    let same : exacts ≡ exacts_of goals = asked ∙ sym (filter_map-map exact_of (λ (line : GoalLine). line.goal) lines) in
+    let kept : admitted ≡ admitted_among (exacts_of goals) pairs =
+        chosen.admitted_ones ∙ ap (λ (e : List Exact). admitted_among e pairs) same in
+    let made : Universe = record { pairs = admitted; goals = goals; starts = []; candidates = candidates } in
+    let other : Universe = record {
+      pairs = admitted_among (exacts_of goals) pairs;
+      goals = goals;
+      starts = [];
+      candidates = candidates_among pairs;
+    } in
+    let is : other ≡ made = sym (cc (kept, chosen.candidate_ones)) in
+    subst (IsUniverseOf listed goals) is (universe_of listed goals pairs ordered)
