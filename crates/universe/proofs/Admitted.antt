@@ -19,7 +19,7 @@ use Rattle.rules.specs.Version.{SameVersion, version_cmp}
 use Rattle.rules.specs.VersionOrderLaws.{SameVersion-refl, SameVersion-symm, SameVersion-trans, version_cmp-antisymm, version_cmp-same_left, version_cmp-same_right}
 use Rattle.rules.specs.declared.goal.Goal.{Goal}
 use Rattle.universe.specs.Build.{inputs_of}
-use Rattle.universe.specs.Choice.{IsOrdered, admitted_among, candidate_at, candidates_among, exacts_of, is_asked, is_higher, is_highest, listed_pair}
+use Rattle.universe.specs.Choice.{IsOrdered, admitted_among, candidate_at, candidates_among, exacts_of, is_asked, is_higher, is_highest, listed_pair, stanza_of}
 use Rattle.universe.proofs.Asked.{is_asked-from, is_asked-names}
 use Rattle.universe.proofs.Finding.{find-exists, find-some, sorted-one}
 use Rattle.universe.proofs.Fresh.{AreUsual, IsAdmitted-from, IsAdmitted-is, IsCandidate-is, IsCandidate-usual, NoneHigher}
@@ -28,10 +28,10 @@ use Rattle.universe.specs.PairLaws.{pair_cmp_total}
 use mathlib.Core.Logic.{inl, inr}
 
 -- the pair that is found of a version is the stanza's
-pub pair_found : (indices : List Index) (pairs : List Pair) → IsOrdered (all_listed indices) pairs
-    → (name version : List ℕ) (found : Listed) → index_package indices name version ≡ Some found
+pub pair_found : (listed : List Listed) (pairs : List Pair) → IsOrdered listed pairs
+    → (name version : List ℕ) (found : Listed) → stanza_of listed name version ≡ Some found
     → Contains pairs (listed_pair found) × IsOf name version found.pkg
-pair_found indices pairs ordered name version found is =
+pair_found listed pairs ordered name version found is =
     let at = find-some (λ (pair : Pair). is_of name version pair.pkg) pairs (listed_pair found)
     (ordered.earliest name version ∙ ap (option_map listed_pair) is) in
     (at.0, is_of-parts name version found.pkg at.1)
@@ -53,15 +53,15 @@ found_itself pairs ascending pair within name version of =
     found.1 ∙ ap Some (sorted-one pair_cmp_total pairs ascending found.0 pair at.0 within tied)
 
 -- the stanza of a pair
-pub stanza_found : (indices : List Index) (pairs : List Pair) → IsOrdered (all_listed indices) pairs → (pair : Pair)
+pub stanza_found : (listed : List Listed) (pairs : List Pair) → IsOrdered listed pairs → (pair : Pair)
     → Contains pairs pair → (name version : List ℕ) → IsOf name version pair.pkg
-    → (found : Listed) × (index_package indices name version ≡ Some found) × (listed_pair found ≡ pair)
-stanza_found indices pairs ordered pair within name version of =
-    at (index_package indices name version) refl
+    → (found : Listed) × (stanza_of listed name version ≡ Some found) × (listed_pair found ≡ pair)
+stanza_found listed pairs ordered pair within name version of =
+    at (stanza_of listed name version) refl
     (sym (ordered.earliest name version) ∙ found_itself pairs ordered.ascending pair within name version of)
   where
-    at : (o : Option Listed) → index_package indices name version ≡ o → option_map listed_pair o ≡ Some pair
-        → (found : Listed) × (index_package indices name version ≡ Some found) × (listed_pair found ≡ pair)
+    at : (o : Option Listed) → stanza_of listed name version ≡ o → option_map listed_pair o ≡ Some pair
+        → (found : Listed) × (stanza_of listed name version ≡ Some found) × (listed_pair found ≡ pair)
     at None is whole = absurd (let e : None ≡ Some pair = whole in cc)
     at (Some found) is whole = (found, is, same_Some (listed_pair found) pair whole)
 
@@ -99,7 +99,7 @@ is_highest-from pairs pair none = elim (cases_Bool (list_any (is_higher pair) pa
 NoneHigher-highest : (indices : List Index) (pairs : List Pair) → IsOrdered (all_listed indices) pairs → (pair : Pair)
     → (name version : List ℕ) → IsOf name version pair.pkg → is_highest pairs pair ≡ true → NoneHigher indices name version
 NoneHigher-highest indices pairs ordered pair name version of highest other found is above =
-    let there = pair_found indices pairs ordered name other found is in
+    let there = pair_found (all_listed indices) pairs ordered name other found is in
     is_highest-none pairs pair highest (listed_pair found) there.0 (there.1.0 ∙ sym of.0)
     (version_cmp-same_left pair.pkg.version version found.pkg.version of.1
     ∙ version_cmp-same_right version found.pkg.version other there.1.1
@@ -108,7 +108,7 @@ NoneHigher-highest indices pairs ordered pair name version of highest other foun
 highest-NoneHigher : (indices : List Index) (pairs : List Pair) → IsOrdered (all_listed indices) pairs → (pair : Pair)
     → (name version : List ℕ) → IsOf name version pair.pkg → NoneHigher indices name version → is_highest pairs pair ≡ true
 highest-NoneHigher indices pairs ordered pair name version of none = is_highest-from pairs pair (λ other within named below.
-    let there = stanza_found indices pairs ordered other within name other.pkg.version
+    let there = stanza_found (all_listed indices) pairs ordered other within name other.pkg.version
     (named ∙ of.0, SameVersion-refl other.pkg.version) in
     none other.pkg.version there.0 there.1
     (sym (version_cmp-same_right other.pkg.version pair.pkg.version version of.1)
@@ -124,7 +124,7 @@ pub candidate_of_highest : (indices : List Index) (goals : List Goal) → AreUsu
     → (name version : List ℕ) → IsOf name version pair.pkg
     → IsCandidate (inputs_of indices goals) name version (pos 500)
 candidate_of_highest indices goals usual pairs ordered pair within highest name version of =
-    let there = stanza_found indices pairs ordered pair within name version of in
+    let there = stanza_found (all_listed indices) pairs ordered pair within name version of in
     IsCandidate-usual indices goals name version usual there.0 there.1
     (NoneHigher-highest indices pairs ordered pair name version of highest)
 
@@ -135,7 +135,7 @@ pub highest_of_candidate : (indices : List Index) (goals : List Goal) → AreUsu
     → (pair : Pair) × Contains pairs pair × (is_highest pairs pair ≡ true) × IsOf name version pair.pkg
 highest_of_candidate indices goals usual pairs ordered name version priority candidate =
     let is = IsCandidate-is indices goals name version usual priority candidate in
-    let there = pair_found indices pairs ordered name version is.0 is.1 in
+    let there = pair_found (all_listed indices) pairs ordered name version is.0 is.1 in
     (listed_pair is.0, there.0, highest-NoneHigher indices pairs ordered (listed_pair is.0) name version there.1 is.2, there.1)
 
 -- a version that is available is a pair
@@ -148,12 +148,12 @@ pair_of_available indices goals pairs ordered name version available = at (index
         → (pair : Pair) × Contains pairs pair × IsOf name version pair.pkg
     at None is some = absurd (let e : false ≡ true = some in cc)
     at (Some found) is some =
-        let there = pair_found indices pairs ordered name version found is in
+        let there = pair_found (all_listed indices) pairs ordered name version found is in
         (listed_pair found, there.0, there.1)
 
 pub available_of_pair : (indices : List Index) (goals : List Goal) (pairs : List Pair)
     → IsOrdered (all_listed indices) pairs → (pair : Pair) → Contains pairs pair → (name version : List ℕ)
     → IsOf name version pair.pkg → IsAvailable (inputs_of indices goals) name version
 available_of_pair indices goals pairs ordered pair within name version of =
-    let there = stanza_found indices pairs ordered pair within name version of in
+    let there = stanza_found (all_listed indices) pairs ordered pair within name version of in
     subst (λ (o : Option Listed). IsSome (option_map (λ (found : Listed). found.pkg) o)) (sym there.1) refl

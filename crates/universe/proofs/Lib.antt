@@ -6,3 +6,4 @@ pub mod Fresh
 pub mod Made
 pub mod Neighbours
 pub mod PairOrder
+pub mod Searching

@@ -4,17 +4,18 @@ use Rattle.std.proofs.Common.{◌≡◌, ◌≢◌, ◌<◌, ℕ, ℤ, pos, Bool
 use Rattle.std.specs.Cmp.{tied_itself}
 use Rattle.std.specs.Cmp.Lexicographic.{nat_list_cmp_total}
 use Rattle.std.specs.List.{All, AllPairs, Any, Contains, cons_option, filter, filter_map}
-use Rattle.std.specs.List.Sorted.{IsStrictlySortedBy}
+use Rattle.std.specs.List.Sorted.{IsPermutation, IsStrictlySortedBy}
 use Rattle.std.specs.Option.{option_map}
 use Rattle.std.specs.Ordering.{ordering_then}
 use Rattle.std.specs.declared.cmp.Ordering.{Ordering}
 use Rattle.std.specs.declared.cmp.Ordering.TheVariants.{Less, Equal}
 use Rattle.std.proofs.lemmas.Bool.{or_cases, or_left, or_right}
-use Rattle.std.proofs.lemmas.List.Elements.{All-contains, All-head, All-map, All-tail}
+use Rattle.std.proofs.lemmas.List.Elements.{filter_agree, All-contains, All-head, All-map, All-tail}
 use Rattle.std.proofs.lemmas.List.Kept.{AllPairs-cons, IsStrictlySortedBy-filter}
+use Rattle.std.proofs.lemmas.List.Sorted.{list_any-IsPermutation}
 use Rattle.std.proofs.lemmas.Map.Keys.{sorted_tail}
 use Rattle.std.proofs.lemmas.Map.Views.{All-after_first}
-use Rattle.rules.specs.Available.{Index, Inputs, all_listed, counting_package, index_package}
+use Rattle.rules.specs.Available.{Index, Inputs, is_of, all_listed, counting_package, index_package}
 use Rattle.rules.specs.ElementLaws.{All-intro, Any-elim, Any-intro, Contains-filter, Contains-filter_intro, Contains-map, Contains-map_intro}
 use Rattle.rules.specs.Name.{name_cmp}
 use Rattle.rules.specs.Priority.{IsCandidate}
@@ -24,14 +25,14 @@ use Rattle.rules.specs.Version.{SameVersion, version_cmp}
 use Rattle.rules.specs.declared.goal.Goal.{Goal}
 use Rattle.rules.specs.declared.goal.GoalLine.{GoalLine}
 use Rattle.universe.specs.Build.{HaveStanzas, IsUniverseOf, goals_of, inputs_of}
-use Rattle.universe.specs.Choice.{Exact, IsChosen, IsOrdered, admitted_among, candidate_at, candidates_among, exact_of, exacts_of, is_asked, is_highest, listed_pair}
+use Rattle.universe.specs.Choice.{AreExacts, Exact, IsChosen, IsOrdered, admitted_among, candidate_at, candidates_among, exact_of, exacts_of, is_asked, is_highest, listed_pair}
 use Rattle.universe.proofs.Admitted.{available_of_pair, candidate_of_highest, highest_of_candidate, is_highest-none, of_itself, pair_of_available, stanza_found}
 use Rattle.universe.proofs.Asked.{is_asked-from, is_asked-names}
 use Rattle.universe.proofs.Fresh.{AreUsual, IsAdmitted-from, IsAdmitted-is}
 use mathlib.Core.Logic.{inl, inr}
 
 -- each pair of a sorted list is before all that follow
-AllPairs-sorted : {X : Type 0} (R : X → X → Ordering) (xs : List X) → IsStrictlySortedBy R xs
+pub AllPairs-sorted : {X : Type 0} (R : X → X → Ordering) (xs : List X) → IsStrictlySortedBy R xs
     → AllPairs (λ earlier later. R earlier later ≡ Less) xs
 AllPairs-sorted R [] sorted = λ i j d before within. absurd (omega arith)
 AllPairs-sorted {X} R (x ∷ xs) sorted = AllPairs-cons (λ (earlier : X) (later : X). R earlier later ≡ Less) x xs
@@ -119,7 +120,7 @@ counting_of_pair : (indices : List Index) (goals : List Goal) (pairs : List Pair
     → (counting_package (inputs_of indices goals) pair.pkg.name pair.pkg.version ≡ Some pair.pkg)
     × (index_package indices pair.pkg.name pair.pkg.version ≡ pair.listed)
 counting_of_pair indices goals pairs ordered pair within =
-    let there = stanza_found indices pairs ordered pair within pair.pkg.name pair.pkg.version (of_itself pair) in (
+    let there = stanza_found (all_listed indices) pairs ordered pair within pair.pkg.name pair.pkg.version (of_itself pair) in (
       ap (option_map (λ (found : Listed). found.pkg)) there.1 ∙ ap (λ (p : Pair). Some p.pkg) there.2,
       there.1 ∙ ap (λ (p : Pair). p.listed) there.2,
     )
@@ -181,21 +182,29 @@ filter_map-map : {X Y Z : Type 0} (h : Y → Option Z) (f : X → Y) (xs : List 
 filter_map-map h f [] = refl
 filter_map-map h f (x ∷ xs) = ap (cons_option (h (f x))) (filter_map-map h f xs)
 
+-- what is asked for may be in any order
+pub chosen_alike : (lines : List GoalLine) (exacts : List Exact) (pairs admitted : List Pair) (candidates : List Candidate)
+    → AreExacts (filter_map (λ asked. exact_of asked.goal) lines) exacts → IsChosen exacts pairs admitted candidates
+    → IsChosen (exacts_of (goals_of lines)) pairs admitted candidates
+chosen_alike lines exacts pairs admitted candidates asked chosen =
+    let own : List Exact = exacts_of (goals_of lines) in
+    let same : filter_map (λ (line : GoalLine). exact_of line.goal) lines ≡ own =
+        sym (filter_map-map exact_of (λ (line : GoalLine). line.goal) lines) in
+    let moved : IsPermutation own exacts = subst (λ (e : List Exact). IsPermutation e exacts) same asked.same in
+    record {
+      admitted_ones = chosen.admitted_ones ∙ filter_agree
+          (λ (pair : Pair). is_highest pairs pair || is_asked exacts pair)
+          (λ (pair : Pair). is_highest pairs pair || is_asked own pair)
+          (λ pair. ap (λ (b : Bool). is_highest pairs pair || b)
+          (sym (list_any-IsPermutation (λ (exact : Exact). is_of exact.name exact.version pair.pkg) own exacts moved))) pairs;
+      candidate_ones = chosen.candidate_ones;
+    }
+
 -- the universe of what is chosen
-pub universe_chosen : (listed : List Listed) (lines : List GoalLine) (exacts : List Exact) (pairs admitted : List Pair)
-    (candidates : List Candidate) → IsOrdered listed pairs → exacts ≡ filter_map (λ asked. exact_of asked.goal) lines
-    → IsChosen exacts pairs admitted candidates
-    → IsUniverseOf listed (goals_of lines) (record {
-      pairs = admitted;
-      goals = goals_of lines;
-      starts = [];
-      candidates = candidates;
-    })
-universe_chosen listed lines exacts pairs admitted candidates ordered asked chosen =
-    let goals : List Goal = goals_of lines in
-    let same : exacts ≡ exacts_of goals = asked ∙ sym (filter_map-map exact_of (λ (line : GoalLine). line.goal) lines) in
-    let kept : admitted ≡ admitted_among (exacts_of goals) pairs =
-        chosen.admitted_ones ∙ ap (λ (e : List Exact). admitted_among e pairs) same in
+pub universe_chosen : (listed : List Listed) (goals : List Goal) (pairs admitted : List Pair)
+    (candidates : List Candidate) → IsOrdered listed pairs → IsChosen (exacts_of goals) pairs admitted candidates
+    → IsUniverseOf listed goals (record { pairs = admitted; goals = goals; starts = []; candidates = candidates })
+universe_chosen listed goals pairs admitted candidates ordered chosen =
     let made : Universe = record { pairs = admitted; goals = goals; starts = []; candidates = candidates } in
     let other : Universe = record {
       pairs = admitted_among (exacts_of goals) pairs;
@@ -203,5 +212,5 @@ universe_chosen listed lines exacts pairs admitted candidates ordered asked chos
       starts = [];
       candidates = candidates_among pairs;
     } in
-    let is : other ≡ made = sym (cc (kept, chosen.candidate_ones)) in
+    let is : other ≡ made = sym (cc (chosen.admitted_ones, chosen.candidate_ones)) in
     subst (IsUniverseOf listed goals) is (universe_of listed goals pairs ordered)

@@ -36,7 +36,7 @@ is_of-from name version pkg of = and_from (bytes_eq pkg.name name) (same_version
     (bytes_eq-same pkg.name name of.0) ((Equal-is (version_cmp pkg.version version)).1 of.1)
 
 -- two orders in a row tie where both tie
-is_eq-then : (o w : Ordering) → is_eq (ordering_then o w) ≡ (is_eq o && is_eq w)
+pub is_eq-then : (o w : Ordering) → is_eq (ordering_then o w) ≡ (is_eq o && is_eq w)
 is_eq-then Less w = refl
 is_eq-then Equal w = refl
 is_eq-then Greater w = refl

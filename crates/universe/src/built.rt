@@ -1,14 +1,18 @@
 // The universe of a request where nothing is installed at the start.
 
-ghost use Rattle.std.specs.Prelude.{◌≡◌, [], IfOk, IfErr};
+ghost use Rattle.std.specs.Prelude.{◌≡◌, IfOk, IfErr};
+ghost use Rattle.std.specs.List.Sorted.{IsStrictlySortedBy};
 ghost use Rattle.std.specs.Option.{option_copied};
-ghost use Rattle.universe.specs.Build.{IsUniverseOf, first_unknown, goals_of, has_name, is_unknown, named_by};
+ghost use Rattle.rules.specs.Universe.{pair_cmp};
+ghost use Rattle.universe.specs.Build.{first_unknown_by, goals_of, is_unknown, named_by};
+ghost use Rattle.universe.specs.Choice.{IsChosen, exacts_of, has_pair};
 ghost use Rattle.universe.specs.Error.{IsBuilt, IsUniverseFault};
 
 use crate::choice::{Chosen, choose};
 use crate::error::UniverseError;
 use crate::exact::exacts_of;
 use crate::order::in_order;
+use crate::pair::Pair;
 use crate::pairs::Pairs;
 use crate::universe::Universe;
 use index::Listed;
@@ -26,27 +30,33 @@ fn named_by(goal: &Goal) -> Option<&[u8]>
     }
 }
 
-fn has_name(listed: &[Listed<'_>], name: &[u8]) -> bool
-    ensures { result ≡ has_name listed.now name.now }
+// Whether a pair has the name, by a binary search.
+fn has_name(pairs: &[Pair<'_>], name: &[u8]) -> bool
+    requires { IsStrictlySortedBy pair_cmp pairs.now }
+    ensures { result ≡ has_pair pairs.now name.now }
 {
-    listed.iter().any(|found| found.pkg().name() == name)
+    pairs
+        .binary_search_by(|pair| pair.pkg().name().cmp(name))
+        .is_ok()
 }
 
-fn is_unknown(listed: &[Listed<'_>], goal: &Goal) -> bool
-    ensures { result ≡ is_unknown listed.now goal.now }
+fn is_unknown(pairs: &[Pair<'_>], goal: &Goal) -> bool
+    requires { IsStrictlySortedBy pair_cmp pairs.now }
+    ensures { result ≡ is_unknown (has_pair pairs.now) goal.now }
 {
     match named_by(goal) {
         None => false,
-        Some(name) => !has_name(listed, name),
+        Some(name) => !has_name(pairs, name),
     }
 }
 
-fn first_unknown(listed: &[Listed<'_>], lines: &[GoalLine]) -> Option<usize>
-    ensures { result ≡ first_unknown listed.now lines.now }
+fn first_unknown(pairs: &[Pair<'_>], lines: &[GoalLine]) -> Option<usize>
+    requires { IsStrictlySortedBy pair_cmp pairs.now }
+    ensures { result ≡ first_unknown_by (has_pair pairs.now) lines.now }
 {
     lines
         .iter()
-        .find(|asked| is_unknown(listed, &asked.goal))
+        .find(|asked| is_unknown(pairs, &asked.goal))
         .map(|asked| asked.line)
 }
 
@@ -56,20 +66,16 @@ fn goals_of(alloc: Global, lines: Vec<GoalLine>) -> Result<Vec<Goal>, AllocError
     lines.into_iter().map(|asked| asked.goal).collect(alloc)
 }
 
-// The pairs and the candidates of the universe.
+// The pairs and the candidates of the universe, of pairs in their order.
 fn choose_among<'a>(
     alloc: Global,
-    listed: Vec<Listed<'a>>,
+    pairs: Vec<Pair<'a>>,
     lines: &[GoalLine],
 ) -> Result<Chosen<'a>, AllocError>
-    ensures { IfOk result (λ chosen. IsUniverseOf listed.entry.items (goals_of lines.now) (record {
-      pairs = chosen.pairs.items;
-      goals = goals_of lines.now;
-      starts = [];
-      candidates = chosen.candidates.items;
-    })) }
+    requires { IsStrictlySortedBy pair_cmp pairs.items }
+    ensures { IfOk result (λ chosen. IsChosen (exacts_of (goals_of lines.now)) pairs.entry.items chosen.pairs.items
+        chosen.candidates.items) }
 {
-    let pairs = in_order(alloc, listed)?;
     let exacts = exacts_of(alloc, lines)?;
     choose(alloc, exacts.as_slice(), pairs)
 }
@@ -78,8 +84,7 @@ fn choose_among<'a>(
 /// record of preferences is given, and every index has the priority 500 (apt_preferences(5)).
 ///
 /// It refuses the first goal that names a package that no stanza has, then more than 1,000,000 admitted pairs, and
-/// growths that are refused. About n log n comparisons of n stanzas; each goal that names a package costs a pass
-/// over the stanzas, and each `install` with `=` a pass over the distinct ones.
+/// growths that are refused. About n log n comparisons of n stanzas, and for m goals about m log n and n log m more.
 pub fn build<'a>(
     alloc: Global,
     listed: Vec<Listed<'a>>,
@@ -88,10 +93,11 @@ pub fn build<'a>(
     ensures ok { IfOk result (λ u. IsBuilt listed.entry.items goals.items u) }
     ensures err { IfErr result (λ e. IsUniverseFault listed.entry.items goals.items e) }
 {
-    if let Some(line) = first_unknown(listed.as_slice(), goals.as_slice()) {
+    let pairs = in_order(alloc, listed)?;
+    if let Some(line) = first_unknown(pairs.as_slice(), goals.as_slice()) {
         return Err(UniverseError::UnknownName(line));
     }
-    let chosen = choose_among(alloc, listed, goals.as_slice())?;
+    let chosen = choose_among(alloc, pairs, goals.as_slice())?;
     if chosen.pairs.len() > PAIRS {
         return Err(UniverseError::TooLarge);
     }

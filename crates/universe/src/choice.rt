@@ -1,10 +1,10 @@
 // Which pairs of the indices are admitted, and which of them are candidates.
 
 ghost use Rattle.std.specs.Prelude.{◌≡◌, ◌++◌, ◌||◌, [], ◌∷◌, IfOk, OnOk, if◌then◌else◌};
-ghost use Rattle.std.specs.List.Sorted.{IsStrictlySortedBy};
+ghost use Rattle.std.specs.List.Sorted.{IsSorted, IsStrictlySortedBy};
 ghost use Rattle.std.specs.Option.{option_copied};
 ghost use Rattle.rules.specs.Universe.{pair_cmp};
-ghost use Rattle.universe.specs.Choice.{IsChosen, candidate_at, differs, is_asked};
+ghost use Rattle.universe.specs.Choice.{IsChosen, candidate_at, differs, exact_cmp, is_asked};
 
 use crate::candidate::Candidate;
 use crate::exact::{Exact, is_asked};
@@ -29,6 +29,7 @@ fn differs(above: Option<&[u8]>, name: &[u8]) -> bool
 
 // Whether a pair is admitted that is the highest of its name, or isn't.
 fn is_kept(is_highest: bool, exacts: &[Exact<'_>], pair: &Pair<'_>) -> bool
+    requires { IsSorted exact_cmp exacts.now }
     ensures { result ≡ (is_highest || is_asked exacts.now pair.now) }
 {
     is_highest || is_asked(exacts, pair)
@@ -59,13 +60,14 @@ fn keep_pair<'a>(kept: &mut Vec<Pair<'a>>, is_kept: bool, pair: Pair<'a>) -> Res
 }
 
 /// Of pairs in their order, those that are the highest of their name or asked for with `=`, and the highest ones as
-/// candidates. Linear in the pairs, and for each of them in what is asked for.
+/// candidates. Linear in the pairs, with a binary search in what is asked for at each.
 pub fn choose<'a>(
     alloc: Global,
     exacts: &[Exact<'_>],
     pairs: Vec<Pair<'a>>,
 ) -> Result<Chosen<'a>, AllocError>
-    requires { IsStrictlySortedBy pair_cmp pairs.items }
+    requires asked { IsSorted exact_cmp exacts.now }
+    requires ascending { IsStrictlySortedBy pair_cmp pairs.items }
     ensures { IfOk result (λ chosen. IsChosen exacts.now pairs.entry.items chosen.pairs.items chosen.candidates.items) }
 {
     let mut left = pairs;

@@ -27,7 +27,7 @@ impl<'a> Model for Pairs<'a> {
 }
 
 // Whether the pair is of this name and version.
-pub(crate) fn is_of(pair: &Pair<'_>, name: &[u8], version: &Version<'_>) -> bool
+fn is_of(pair: &Pair<'_>, name: &[u8], version: &Version<'_>) -> bool
     ensures { result ≡ is_of name.now version.now pair.now.pkg }
 {
     pair.pkg().name() == name && pair.pkg().version() == version

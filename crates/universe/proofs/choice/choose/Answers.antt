@@ -17,7 +17,7 @@ loop-pair-preserved c =
     let popped : left ≡ rest ++ pair ∷ [] = c.in-Some.ensures.items in
     let highest : c.differs-is_highest.result ≡ is_highest pairs pair =
     c.differs-is_highest.ensures
-    ∙ highest_step pairs left rest met.0 pair (option_copied c.loop-pair.above) c.name.result.now c.requires popped met.1 met.2
+    ∙ highest_step pairs left rest met.0 pair (option_copied c.loop-pair.above) c.name.result.now c.requires.ascending popped met.1 met.2
     (c.name.ensures ∙ ap (λ (p : Pkg). p.name) c.pkg.ensures) in
     record {
       met = (
