@@ -1,1 +1,3 @@
-
+pub mod PlacedLemmas
+pub mod SourcesLemmas
+pub mod StatusLemmas

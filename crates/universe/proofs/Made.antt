@@ -189,7 +189,7 @@ pub chosen_alike : (lines : List GoalLine) (exacts : List Exact) (pairs admitted
 chosen_alike lines exacts pairs admitted candidates asked chosen =
     let own : List Exact = exacts_of (goals_of lines) in
     let same : filter_map (λ (line : GoalLine). exact_of line.goal) lines ≡ own =
-        sym (filter_map-map exact_of (λ (line : GoalLine). line.goal) lines) in
+    sym (filter_map-map exact_of (λ (line : GoalLine). line.goal) lines) in
     let moved : IsPermutation own exacts = subst (λ (e : List Exact). IsPermutation e exacts) same asked.same in
     record {
       admitted_ones = chosen.admitted_ones ∙ filter_agree

@@ -83,9 +83,9 @@ pub searched_pair : (pairs : List Pair) (name : List ℕ) (r : Result ℕ ℕ) �
     → is_ok r ≡ has_pair pairs name
 searched_pair pairs name r ascending within found =
     searched_any (λ (pair : Pair). bytes_eq pair.pkg.name name) (λ (pair : Pair). name_cmp pair.pkg.name name) pairs r
-        (λ pair. is_eq-slice_cmp pair.pkg.name name)
-        (searchable_from_sorted nat_list_cmp_total (λ (pair : Pair). pair.pkg.name) pairs name (sorted_names pairs ascending))
-        within found
+    (λ pair. is_eq-slice_cmp pair.pkg.name name)
+    (searchable_from_sorted nat_list_cmp_total (λ (pair : Pair). pair.pkg.name) pairs name (sorted_names pairs ascending))
+    within found
 
 -- tied either way round
 is_eq-reverse : (o : Ordering) → is_eq (ordering_reverse o) ≡ is_eq o
@@ -107,8 +107,8 @@ pub searched_exact : (exacts : List Exact) (pair : Pair) (r : Result ℕ ℕ) �
     → is_ok r ≡ is_asked exacts pair
 searched_exact exacts pair r ascending within found =
     searched_any (λ (exact : Exact). is_of exact.name exact.version pair.pkg) (λ (exact : Exact). exact_cmp exact (exact_at pair))
-        exacts r (λ exact. exact_ties exact pair)
-        (searchable_from_sorted exact_cmp_total (λ (exact : Exact). exact) exacts (exact_at pair) ascending) within found
+    exacts r (λ exact. exact_ties exact pair)
+    (searchable_from_sorted exact_cmp_total (λ (exact : Exact). exact) exacts (exact_at pair) ascending) within found
 
 -- one test passes where the other does
 same_tests : (a b : Bool) → (a ≡ true → b ≡ true) → (b ≡ true → a ≡ true) → a ≡ b
@@ -130,7 +130,7 @@ has_pair-names listed pairs ordered name = same_tests (has_pair pairs name) (has
     (λ some. Any-elim (λ (found : Listed). bytes_eq found.pkg.name name ≡ true) listed (has_pair pairs name ≡ true)
     (λ found within named.
     let first = find-exists (λ (other : Listed). is_of found.pkg.name found.pkg.version other.pkg) listed found within
-            (is_of-from found.pkg.name found.pkg.version found.pkg (refl, SameVersion-refl found.pkg.version)) in
+    (is_of-from found.pkg.name found.pkg.version found.pkg (refl, SameVersion-refl found.pkg.version)) in
     let there = pair_found listed pairs ordered found.pkg.name found.pkg.version first.0 first.1 in
     list_any-from_contains (λ (pair : Pair). bytes_eq pair.pkg.name name) pairs (listed_pair first.0) there.0
     (ap (λ (n : List ℕ). bytes_eq n name) there.1.0 ∙ named))

@@ -22,3 +22,6 @@ pub use pair::Pair;
 pub use pairs::Pairs;
 pub use start::Start;
 pub use universe::Universe;
+
+#[cfg(test)]
+mod tests;

@@ -26,13 +26,12 @@ returns-in-Some-clause-err c =
 pub returns-then-len-gt-PAIRS-clause-err : goal.returns-then-len-gt-PAIRS-clause-err
 returns-then-len-gt-PAIRS-clause-err c =
     let chosen = subst (λ (lines : List GoalLine). IsChosen (exacts_of (goals_of lines)) c.in_ok-pairs.pairs.items
-            c.in_ok-chosen.chosen.pairs.items c.in_ok-chosen.chosen.candidates.items)
-            c.as_slice-3.ensures.value c.in_ok-chosen.ensures in
-    (
+    c.in_ok-chosen.chosen.pairs.items c.in_ok-chosen.chosen.candidates.items)
+    c.as_slice-3.ensures.value c.in_ok-chosen.ensures in (
       sym (same_among c.as_slice.result.now c.in_ok-pairs.pairs.items c.as_slice-2.result.now c.args.goals.items
-      (first_unknown c.args.listed.items c.args.goals.items) c.as_slice.ensures.value c.as_slice-2.ensures.value
-      (first_unknown-ordered c.args.listed.items c.in_ok-pairs.pairs.items c.in_ok-pairs.ensures c.args.goals.items))
-      ∙ sym c.in_default.ensures,
+          (first_unknown c.args.listed.items c.args.goals.items) c.as_slice.ensures.value c.as_slice-2.ensures.value
+          (first_unknown-ordered c.args.listed.items c.in_ok-pairs.pairs.items c.in_ok-pairs.ensures c.args.goals.items))
+          ∙ sym c.in_default.ensures,
       record {
         u = record {
           pairs = c.in_ok-chosen.chosen.pairs.items;
@@ -56,13 +55,13 @@ returns-clause-ok c =
     } in
     let is : made ≡ c.new-2.result = sym (cc (c.new-2.ensures, c.new-pairs.ensures, c.in_ok-goals.ensures, c.new.ensures.items)) in
     let chosen = subst (λ (lines : List GoalLine). IsChosen (exacts_of (goals_of lines)) c.in_ok-pairs.pairs.items
-            c.in_ok-chosen.chosen.pairs.items c.in_ok-chosen.chosen.candidates.items)
-            c.as_slice-3.ensures.value c.in_ok-chosen.ensures in
+    c.in_ok-chosen.chosen.pairs.items c.in_ok-chosen.chosen.candidates.items)
+    c.as_slice-3.ensures.value c.in_ok-chosen.ensures in
     subst (IsBuilt c.args.listed.items c.args.goals.items) is (record {
       known = sym (same_among c.as_slice.result.now c.in_ok-pairs.pairs.items c.as_slice-2.result.now c.args.goals.items
-      (first_unknown c.args.listed.items c.args.goals.items) c.as_slice.ensures.value c.as_slice-2.ensures.value
-      (first_unknown-ordered c.args.listed.items c.in_ok-pairs.pairs.items c.in_ok-pairs.ensures c.args.goals.items))
-      ∙ sym c.in_default.ensures;
+          (first_unknown c.args.listed.items c.args.goals.items) c.as_slice.ensures.value c.as_slice-2.ensures.value
+          (first_unknown-ordered c.args.listed.items c.in_ok-pairs.pairs.items c.in_ok-pairs.ensures c.args.goals.items))
+          ∙ sym c.in_default.ensures;
       universe = universe_chosen c.args.listed.items (goals_of c.args.goals.items) c.in_ok-pairs.pairs.items
           c.in_ok-chosen.chosen.pairs.items c.in_ok-chosen.chosen.candidates.items c.in_ok-pairs.ensures chosen;
       bounded = omega arith;
