@@ -200,11 +200,20 @@ chosen_alike lines exacts pairs admitted candidates asked chosen =
       candidate_ones = chosen.candidate_ones;
     }
 
--- the universe of what is chosen
-pub universe_chosen : (listed : List Listed) (goals : List Goal) (pairs admitted : List Pair)
-    (candidates : List Candidate) → IsOrdered listed pairs → IsChosen (exacts_of goals) pairs admitted candidates
-    → IsUniverseOf listed goals (record { pairs = admitted; goals = goals; starts = []; candidates = candidates })
-universe_chosen listed goals pairs admitted candidates ordered chosen =
+-- the universe of what is chosen by the goals of these lines, given as equal ones
+pub universe_chosen : (listed : List Listed) (lines asked : List GoalLine) (pairs admitted : List Pair)
+    (candidates : List Candidate) → IsOrdered listed pairs → asked ≡ lines
+    → IsChosen (exacts_of (goals_of asked)) pairs admitted candidates
+    → IsUniverseOf listed (goals_of lines) (record {
+      pairs = admitted;
+      goals = goals_of lines;
+      starts = [];
+      candidates = candidates;
+    })
+universe_chosen listed lines asked pairs admitted candidates ordered alike chosen =
+    let goals : List Goal = goals_of lines in
+    let of : IsChosen (exacts_of goals) pairs admitted candidates =
+    subst (λ (l : List GoalLine). IsChosen (exacts_of (goals_of l)) pairs admitted candidates) alike chosen in
     let made : Universe = record { pairs = admitted; goals = goals; starts = []; candidates = candidates } in
     let other : Universe = record {
       pairs = admitted_among (exacts_of goals) pairs;
@@ -212,5 +221,5 @@ universe_chosen listed goals pairs admitted candidates ordered chosen =
       starts = [];
       candidates = candidates_among pairs;
     } in
-    let is : other ≡ made = sym (cc (chosen.admitted_ones, chosen.candidate_ones)) in
+    let is : other ≡ made = sym (cc (of.admitted_ones, of.candidate_ones)) in
     subst (IsUniverseOf listed goals) is (universe_of listed goals pairs ordered)

@@ -137,7 +137,7 @@ has_pair-names listed pairs ordered name = same_tests (has_pair pairs name) (has
     (Any-from_list_any (λ (found : Listed). bytes_eq found.pkg.name name) listed some))
 
 -- two tests that agree find the same
-find-agree : {X : Type 0} (p q : X → Bool) → ((x : X) → p x ≡ q x) → (xs : List X) → find p xs ≡ find q xs
+pub find-agree : {X : Type 0} (p q : X → Bool) → ((x : X) → p x ≡ q x) → (xs : List X) → find p xs ≡ find q xs
 find-agree p q same [] = refl
 find-agree p q same (x ∷ xs) =
     let here : p x ≡ q x = same x in
@@ -159,3 +159,12 @@ pub first_unknown-ordered : (listed : List Listed) (pairs : List Pair) → IsOrd
 first_unknown-ordered listed pairs ordered lines = ap (option_map (λ (asked : GoalLine). asked.line))
     (find-agree (λ (asked : GoalLine). is_unknown (has_pair pairs) asked.goal) (λ (asked : GoalLine). is_unknown (has_name listed) asked.goal)
     (λ asked. is_unknown-agree (has_pair pairs) (has_name listed) (has_pair-names listed pairs ordered) asked.goal) lines)
+
+-- the same of other values that are equal
+pub first_unknown-among : (listed : List Listed) (pairs among : List Pair) (lines asked : List GoalLine)
+    → IsOrdered listed pairs → among ≡ pairs → asked ≡ lines
+    → first_unknown listed lines ≡ first_unknown_by (has_pair among) asked
+first_unknown-among listed pairs among lines asked ordered same alike =
+    sym (ap (λ (p : List Pair). first_unknown_by (has_pair p) asked) same
+    ∙ ap (λ (l : List GoalLine). first_unknown_by (has_pair pairs) l) alike
+    ∙ first_unknown-ordered listed pairs ordered lines)
