@@ -1,6 +1,6 @@
 -- The pairs that are the highest of their name or asked for, and the candidates, make the universe of a request
 -- where nothing is installed.
-use Rattle.std.proofs.Common.{◌≡◌, ◌≢◌, ◌<◌, ℕ, ℤ, pos, Bool, true, ◌||◌, List, [], ◌∷◌, map, length, Option, Some, None, ◌⊎◌, ◌↔◌, refl, sym, ap, subst, ◌∙◌, arith}
+use Rattle.std.proofs.Common.{◌≡◌, ◌≢◌, ℕ, ℤ, pos, Bool, true, ◌||◌, List, [], ◌∷◌, map, Option, Some, ◌↔◌, refl, sym, ap, subst, ◌∙◌, arith}
 use Rattle.std.specs.Cmp.{tied_itself}
 use Rattle.std.specs.Cmp.Lexicographic.{nat_list_cmp_total}
 use Rattle.std.specs.List.{All, AllPairs, Any, Contains, cons_option, filter, filter_map}
@@ -15,17 +15,17 @@ use Rattle.std.proofs.lemmas.List.Kept.{AllPairs-cons, IsStrictlySortedBy-filter
 use Rattle.std.proofs.lemmas.List.Sorted.{list_any-IsPermutation}
 use Rattle.std.proofs.lemmas.Map.Keys.{sorted_tail}
 use Rattle.std.proofs.lemmas.Map.Views.{All-after_first}
-use Rattle.rules.specs.Available.{Index, Inputs, is_of, all_listed, counting_package, index_package}
-use Rattle.rules.specs.ElementLaws.{All-intro, Any-elim, Any-intro, Contains-filter, Contains-filter_intro, Contains-map, Contains-map_intro}
+use Rattle.rules.specs.Available.{Index, is_of, all_listed, counting_package, index_package}
+use Rattle.rules.specs.ElementLaws.{All-intro, Any-elim, Any-intro, Contains-filter, Contains-filter_intro, Contains-map_intro}
 use Rattle.rules.specs.Name.{name_cmp}
 use Rattle.rules.specs.Priority.{IsCandidate}
 use Rattle.rules.specs.Step.{Listed}
-use Rattle.rules.specs.Universe.{Candidate, IsAdmitted, IsOf, IsOffered, IsUniverse, NamesExactly, Pair, Universe, pair_cmp}
+use Rattle.rules.specs.Universe.{Candidate, IsAdmitted, IsOf, IsOffered, IsUniverse, Pair, Universe, pair_cmp}
 use Rattle.rules.specs.Version.{SameVersion, version_cmp}
 use Rattle.rules.specs.declared.goal.Goal.{Goal}
 use Rattle.rules.specs.declared.goal.GoalLine.{GoalLine}
-use Rattle.universe.specs.Build.{HaveStanzas, IsUniverseOf, goals_of, inputs_of}
-use Rattle.universe.specs.Choice.{AreExacts, Exact, IsChosen, IsOrdered, admitted_among, candidate_at, candidates_among, exact_of, exacts_of, is_asked, is_highest, listed_pair}
+use Rattle.universe.specs.Build.{IsUniverseOf, goals_of, inputs_of}
+use Rattle.universe.specs.Choice.{AreExacts, Exact, IsChosen, IsOrdered, admitted_among, candidate_at, candidates_among, exact_of, exacts_of, is_asked, is_highest}
 use Rattle.universe.proofs.Admitted.{available_of_pair, candidate_of_highest, highest_of_candidate, is_highest-none, of_itself, pair_of_available, stanza_found}
 use Rattle.universe.proofs.Asked.{is_asked-from, is_asked-names}
 use Rattle.universe.proofs.Fresh.{AreUsual, IsAdmitted-from, IsAdmitted-is}
