@@ -1,7 +1,7 @@
 -- What is asked for may be in any order.
-use Rattle.std.proofs.Common.{List, sym, subst, ◌∙◌}
+use Rattle.std.proofs.Common.{sym, subst}
 use Rattle.std.proofs.lemmas.Result.{IfOk-weaker}
-use Rattle.universe.specs.Choice.{AreExacts, Exact, exact_of}
+use Rattle.universe.specs.Choice.{AreExacts}
 use Rattle.universe.proofs.Made.{chosen_alike}
 use Rattle.universe.proofs.built.choose_among.Goals as goal
 
