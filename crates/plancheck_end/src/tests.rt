@@ -97,90 +97,116 @@ fn is_reason(reason: &Option<Reason>, kind: &str, name: &str, number: usize) -> 
     }
 }
 
+// Whether the reason against the end is of the kind, and has the name or the number.
+fn has_reason(
+    alloc: Global,
+    universe: &Universe<'_>,
+    db: &[PackageRecord<'_, '_>],
+    wanted: (&str, &str, usize),
+) -> Result<bool, Fail> {
+    let found = first_against(alloc, universe, db)?;
+    Ok(is_reason(&found, wanted.0, wanted.1, wanted.2))
+}
+
+// The universe of `install lib` and `install app`.
+fn install_both<'a>(alloc: Global) -> Result<Universe<'a>, Fail> {
+    let lib = Goal::Install(name_of(alloc, "lib")?, None);
+    let app = Goal::Install(name_of(alloc, "app")?, None);
+    universe_of(alloc, vec![in alloc; lib, app]?, Vec::new(alloc))
+}
+
 // `app 1; Depends: lib` and `lib 1`, with `install lib` and `install app`.
 #[test]
 fn an_end_has_its_first_reason(rt: HostRuntime) -> Result<(), Fail> {
     let alloc = rt.alloc();
+    let universe = install_both(alloc)?;
     let app = package(alloc, b"Package: app\nVersion: 1\nDepends: lib\n")?;
     let lib = package(alloc, b"Package: lib\nVersion: 1\n")?;
-    let goals = vec![in alloc;
-        Goal::Install(name_of(alloc, "lib")?, None),
-        Goal::Install(name_of(alloc, "app")?, None),
-    ]?;
-    let universe = universe_of(alloc, goals, Vec::new(alloc))?;
-    for (lib_state, app_state, kind, name, number) in [
-        (State::Installed, State::Installed, "nothing", "", 0),
+    for (lib_state, app_state, wanted) in [
+        (State::Installed, State::Installed, ("nothing", "", 0)),
         (
             State::Unpacked,
             State::HalfConfigured,
-            "unfinished",
-            "app",
-            0,
+            ("unfinished", "app", 0),
         ),
         (
             State::HalfInstalled,
             State::ConfigFiles,
-            "unfinished",
-            "lib",
-            0,
+            ("unfinished", "lib", 0),
         ),
-        (State::ConfigFiles, State::Installed, "relation", "app", 0),
-        (State::Installed, State::ConfigFiles, "goal", "", 2),
-        (State::NotInstalled, State::ConfigFiles, "goal", "", 1),
+        (State::ConfigFiles, State::Installed, ("relation", "app", 0)),
+        (State::Installed, State::ConfigFiles, ("goal", "", 2)),
+        (State::NotInstalled, State::ConfigFiles, ("goal", "", 1)),
     ] {
         let db = both(&lib, lib_state, &app, app_state);
-        let found = first_against(alloc, &universe, &db)?;
-        assert!(rt;
-            is_reason(&found, kind, name, number),
-            "at {lib_state:?} and {app_state:?}"
-        );
+        let is_found = has_reason(alloc, &universe, &db, wanted)?;
+        assert!(rt; is_found, "at {lib_state:?} and {app_state:?}");
     }
-    let flagged = [there(&lib, State::Installed, Flag::ReinstallRequired)];
-    let found = first_against(alloc, &universe, &flagged)?;
-    assert!(rt; is_reason(&found, "unfinished", "lib", 0));
     Ok(())
 }
 
-// `mail 1; Conflicts, Provides: agent`, `other 1; Provides: agent` and `third 1; Breaks: other (<< 2)` (Policy 7.4).
+// `lib 1`, to be installed again.
+#[test]
+fn a_package_to_be_installed_again_is_unfinished(rt: HostRuntime) -> Result<(), Fail> {
+    let alloc = rt.alloc();
+    let universe = install_both(alloc)?;
+    let lib = package(alloc, b"Package: lib\nVersion: 1\n")?;
+    let db = [there(&lib, State::Installed, Flag::ReinstallRequired)];
+    assert!(rt; has_reason(alloc, &universe, &db, ("unfinished", "lib", 0))?);
+    Ok(())
+}
+
+fn nothing_asked<'a>(alloc: Global) -> Result<Universe<'a>, Fail> {
+    universe_of(alloc, Vec::new(alloc), Vec::new(alloc))
+}
+
+// Whether the reason against the end in which both are installed is this.
+fn both_have_reason(
+    alloc: Global,
+    first: &[u8],
+    second: &[u8],
+    wanted: (&str, &str, usize),
+) -> Result<bool, Fail> {
+    let universe = nothing_asked(alloc)?;
+    let first = package(alloc, first)?;
+    let second = package(alloc, second)?;
+    let db = both(&first, State::Installed, &second, State::Installed);
+    has_reason(alloc, &universe, &db, wanted)
+}
+
+// A package that provides what it conflicts with, another that provides it too, and one that breaks the latter
+// (Policy 7.4).
 #[test]
 fn an_installed_package_is_at_peace_with_all_others(rt: HostRuntime) -> Result<(), Fail> {
     let alloc = rt.alloc();
-    let mail = package(
-        alloc,
-        b"Package: mail\nVersion: 1\nProvides: agent\nConflicts: agent\n",
-    )?;
-    let other = package(alloc, b"Package: other\nVersion: 1\nProvides: agent\n")?;
-    let third = package(alloc, b"Package: third\nVersion: 1\nBreaks: other (<< 2)\n")?;
-    let universe = universe_of(alloc, Vec::new(alloc), Vec::new(alloc))?;
-    let beside_other = both(&other, State::Installed, &mail, State::Installed);
-    let found = first_against(alloc, &universe, &beside_other)?;
-    assert!(rt; is_reason(&found, "relation", "mail", 0));
-    let beside_third = both(&third, State::Installed, &mail, State::Installed);
-    let found = first_against(alloc, &universe, &beside_third)?;
-    assert!(rt; is_reason(&found, "nothing", "", 0));
-    let broken = both(&third, State::Installed, &other, State::Installed);
-    let found = first_against(alloc, &universe, &broken)?;
-    assert!(rt; is_reason(&found, "relation", "third", 0));
+    let mail = b"Package: mail\nVersion: 1\nProvides: agent\nConflicts: agent\n";
+    let other = b"Package: other\nVersion: 1\nProvides: agent\n";
+    let third = b"Package: third\nVersion: 1\nBreaks: other (<< 2)\n";
+    assert!(rt; both_have_reason(alloc, other, mail, ("relation", "mail", 0))?);
+    assert!(rt; both_have_reason(alloc, third, mail, ("nothing", "", 0))?);
+    assert!(rt; both_have_reason(alloc, third, other, ("relation", "third", 0))?);
     Ok(())
 }
 
 // `shell` and `base` are essential and were present at the start, `awk` is essential and wasn't (Policy 3.8).
-#[test]
-fn an_essential_name_stays(rt: HostRuntime) -> Result<(), Fail> {
-    let alloc = rt.alloc();
-    let base = package(alloc, b"Package: base\nVersion: 1\n")?;
-    let goals = vec![in alloc; Goal::Install(name_of(alloc, "x")?, None)]?;
+fn essential_names<'a>(alloc: Global) -> Result<Universe<'a>, Fail> {
     let starts = vec![in alloc;
         Start::new(b"shell", true, None, false, true),
         Start::new(b"awk", false, None, false, true),
         Start::new(b"base", true, None, false, true),
     ]?;
-    let universe = universe_of(alloc, goals, starts)?;
+    let unfulfilled = Goal::Install(name_of(alloc, "x")?, None);
+    universe_of(alloc, vec![in alloc; unfulfilled]?, starts)
+}
+
+#[test]
+fn an_essential_name_stays(rt: HostRuntime) -> Result<(), Fail> {
+    let alloc = rt.alloc();
+    let universe = essential_names(alloc)?;
+    let base = package(alloc, b"Package: base\nVersion: 1\n")?;
     let with_base = [record_of(&base, State::Installed)];
-    let found = first_against(alloc, &universe, &with_base)?;
-    assert!(rt; is_reason(&found, "essential", "shell", 0));
-    let found = first_against(alloc, &universe, &[])?;
-    assert!(rt; is_reason(&found, "essential", "base", 0));
+    assert!(rt; has_reason(alloc, &universe, &with_base, ("essential", "shell", 0))?);
+    assert!(rt; has_reason(alloc, &universe, &[], ("essential", "base", 0))?);
     Ok(())
 }
 
@@ -195,77 +221,81 @@ enum Command {
     NoRemove,
 }
 
+fn version_2(alloc: Global) -> Result<VersionText, Fail> {
+    Ok(VersionText::copied_from(alloc, Version::parse(b"2")?.text())?)
+}
+
 // The goal of the command for the name, of restrictions one with the version 2.
 fn goal_of(alloc: Global, command: Command, name: &str) -> Result<Goal, Fail> {
     let name = name_of(alloc, name)?;
-    Ok(match command {
-        Command::Install => Goal::Install(name, None),
+    match command {
+        Command::Install => Ok(Goal::Install(name, None)),
         Command::InstallWith(op) => {
-            let version = VersionText::copied_from(alloc, Version::parse(b"2")?.text())?;
-            Goal::Install(name, Some(Restriction { op, version }))
+            let version = version_2(alloc)?;
+            Ok(Goal::Install(name, Some(Restriction { op, version })))
         }
-        Command::Remove => Goal::Remove(name),
-        Command::Purge => Goal::Purge(name),
-        Command::Upgrade => Goal::Upgrade(name),
-        Command::UpgradeAll => Goal::UpgradeAll,
-        Command::NoRemove => Goal::NoRemove,
-    })
+        Command::Remove => Ok(Goal::Remove(name)),
+        Command::Purge => Ok(Goal::Purge(name)),
+        Command::Upgrade => Ok(Goal::Upgrade(name)),
+        Command::UpgradeAll => Ok(Goal::UpgradeAll),
+        Command::NoRemove => Ok(Goal::NoRemove),
+    }
 }
 
-// `a` and `h`, which is held, stood in 1, and both have the candidate 2. Wanted is what holds where `a` was
-// upgraded, where nothing was done, and where `a` was upgraded and `h` left its configuration files alone.
+// `a` and `h`, which is held, stood in 1.
+fn both_stood<'a>(alloc: Global) -> Result<Universe<'a>, Fail> {
+    let a = Start::new(b"a", true, Some(Version::parse(b"1")?), false, false);
+    let h = Start::new(b"h", true, Some(Version::parse(b"1")?), true, false);
+    universe_of(alloc, Vec::new(alloc), vec![in alloc; a, h]?)
+}
+
+// Whether the goal is fulfilled where `a` has this version and is installed, and `h` is so far.
+fn is_done(alloc: Global, goal: &Goal, a: &[u8], h_state: State) -> Result<bool, Fail> {
+    let universe = both_stood(alloc)?;
+    let a = package(alloc, a)?;
+    let h = package(alloc, b"Package: h\nVersion: 1\n")?;
+    let db = both(&a, State::Installed, &h, h_state);
+    Ok(is_fulfilled(&universe, &db, goal))
+}
+
+// Whether it is where `a` was upgraded to its candidate, where nothing was done, and where `a` was upgraded and
+// `h` left its configuration files alone.
+fn done_in_each(alloc: Global, goal: &Goal) -> Result<[bool; 3], Fail> {
+    let (before, after) = (b"Package: a\nVersion: 1\n", b"Package: a\nVersion: 2\n");
+    let upgraded = is_done(alloc, goal, after, State::Installed)?;
+    let kept = is_done(alloc, goal, before, State::Installed)?;
+    let lost = is_done(alloc, goal, after, State::ConfigFiles)?;
+    Ok([upgraded, kept, lost])
+}
+
+// Both have the candidate 2, and `b` has none.
 #[test]
 fn goals_are_fulfilled_as_apt_get_does_them(rt: HostRuntime) -> Result<(), Fail> {
     let alloc = rt.alloc();
-    let before = package(alloc, b"Package: a\nVersion: 1\n")?;
-    let after = package(alloc, b"Package: a\nVersion: 2\n")?;
-    let held = package(alloc, b"Package: h\nVersion: 1\n")?;
-    let starts = vec![in alloc;
-        Start::new(b"a", true, Some(Version::parse(b"1")?), false, false),
-        Start::new(b"h", true, Some(Version::parse(b"1")?), true, false),
-    ]?;
-    let universe = universe_of(alloc, Vec::new(alloc), starts)?;
-    let upgraded = both(&after, State::Installed, &held, State::Installed);
-    let kept = both(&before, State::Installed, &held, State::Installed);
-    let lost = both(&after, State::Installed, &held, State::ConfigFiles);
-    for (command, name, in_upgraded, in_kept, in_lost) in [
-        (Command::Install, "h", true, true, false),
+    for (command, name, wanted) in [
+        (Command::Install, "h", [true, true, false]),
         (
             Command::InstallWith(Op::LaterOrEqual),
             "a",
-            true,
-            false,
-            true,
+            [true, false, true],
         ),
         (
             Command::InstallWith(Op::StrictlyEarlier),
             "a",
-            false,
-            true,
-            false,
+            [false, true, false],
         ),
-        (Command::Remove, "h", false, false, true),
-        (Command::Purge, "h", false, false, false),
-        (Command::Purge, "b", true, true, true),
-        (Command::Upgrade, "a", true, false, true),
-        (Command::Upgrade, "b", false, false, false),
-        (Command::UpgradeAll, "a", true, false, true),
-        (Command::NoRemove, "a", true, true, false),
+        (Command::Remove, "h", [false, false, true]),
+        (Command::Purge, "h", [false, false, false]),
+        (Command::Purge, "b", [true, true, true]),
+        (Command::Upgrade, "a", [true, false, true]),
+        (Command::Upgrade, "b", [false, false, false]),
+        (Command::UpgradeAll, "a", [true, false, true]),
+        (Command::NoRemove, "a", [true, true, false]),
     ] {
         let goal = goal_of(alloc, command, name)?;
         assert_eq!(rt;
-            is_fulfilled(&universe, &upgraded, &goal),
-            in_upgraded,
-            "at {command:?} {name}"
-        );
-        assert_eq!(rt;
-            is_fulfilled(&universe, &kept, &goal),
-            in_kept,
-            "at {command:?} {name}"
-        );
-        assert_eq!(rt;
-            is_fulfilled(&universe, &lost, &goal),
-            in_lost,
+            done_in_each(alloc, &goal)?,
+            wanted,
             "at {command:?} {name}"
         );
     }
