@@ -47,10 +47,12 @@ pub(crate) fn read_indices<'a>(
         ⊎ (indices_refusal arch.now 1 (map (λ text. text.now) texts.now) ≡ Some refused)) }
 {
     let mut all = Vec::new(alloc);
-    for (place, text) in texts.iter().enumerate() {
+    let mut number = 0;
+    for text in texts {
+        number += 1;
         match read_early_index(alloc, text, arch) {
             Ok(index) => all.extend(index.into_listed())?,
-            Err(fault) => return Err(refused_at(Place::Index(place + 1), fault)),
+            Err(fault) => return Err(refused_at(Place::Index(number), fault)),
         }
     }
     Ok(all)

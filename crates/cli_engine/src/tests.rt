@@ -8,8 +8,11 @@ use std::alloc::Global;
 use std::str;
 use std::test::Fail;
 
-const INDEX: &str = "Package: bar\nVersion: 1.0\nArchitecture: all\n\nPackage: foo\nVersion: 1.0\nArchitecture: all\nDepends: bar\n";
+const INDEX: &str =
+    "Package: bar\nVersion: 1.0\nArchitecture: all\n\nPackage: foo\nVersion: 1.0\nArchitecture: all\nDepends: bar\n";
+
 const SOURCES: &str = "File: index\n";
+
 const PLAN: &str = "plan 1\nunpack bar 1.0\nunpack foo 1.0\nconfigure bar\nconfigure foo\n";
 
 // The texts of one request, of which the tests change one or two.
@@ -82,7 +85,10 @@ fn answered(alloc: Global, case: Case) -> Result<String, Fail> {
         target: None,
         request: case.request.as_bytes(),
     };
-    shown(alloc, &check_plan_bytes(alloc, &inputs, case.plan.as_bytes()))
+    shown(
+        alloc,
+        &check_plan_bytes(alloc, &inputs, case.plan.as_bytes()),
+    )
 }
 
 // `foo` needs `bar`, which has to be configured before it.
@@ -100,7 +106,10 @@ fn plans_are_judged(rt: HostRuntime) -> Result<(), Fail> {
             "step 3 Depends",
         ),
         ("plan 1\nunpack foo 2.0\n", "step 1 NotAdmitted"),
-        ("plan 1\nunpack bar 1.0\nunpack bar 1.0\n", "step 2 WrongState"),
+        (
+            "plan 1\nunpack bar 1.0\nunpack bar 1.0\n",
+            "step 2 WrongState",
+        ),
         ("plan 1\nconfigure bar\n", "step 1 WrongState"),
     ];
     for (plan, wanted) in rows {
