@@ -1,1 +1,5 @@
 pub mod Listed
+pub mod Error
+pub mod Sources
+pub mod Index
+pub mod Later

@@ -2,13 +2,13 @@
 
 use crate::{deconfigure_failing, purge_failing, remove_failing, unpack_failing};
 use debversion::Version;
+use index::Listed;
 use relation::Pkg;
 use rules::{Flag, Rule, State, Want};
 use stanza::Stanzas;
 use status::PackageRecord;
 use std::alloc::Global;
 use std::test::Fail;
-use index::Listed;
 
 // The first stanza of the text as one of an index.
 fn listed<'a>(alloc: Global, text: &'a [u8]) -> Result<Listed<'a>, Fail> {

@@ -2,6 +2,7 @@ pub mod CandidateRows
 pub mod Decided
 pub mod DecidedPackages
 pub mod DecidedSteps
+pub mod EndLemmas
 pub mod EndRows
 pub mod EntryLemmas
 pub mod GroupLemmas
@@ -12,5 +13,6 @@ pub mod QuietLemmas
 pub mod Rows
 pub mod RunLemmas
 pub mod StepRows
+pub mod VerdictLemmas
 pub mod VersionRows
 pub mod WordRows

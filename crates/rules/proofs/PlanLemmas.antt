@@ -17,7 +17,7 @@ use Rattle.rules.proofs.QuietLemmas.{quiet_after_run}
 use Rattle.rules.proofs.RunLemmas.{Run-parts, one_end}
 
 -- an installed record's package is among the installed ones
-installed_contains : (db : List Record) (found : Record) → Contains db found → IsInstalled found
+pub installed_contains : (db : List Record) (found : Record) → Contains db found → IsInstalled found
     → Contains (installed_of db) (pkg_of found)
 installed_contains db found within is = Contains-map_intro pkg_of (filter (λ r. is_installed_state r.state) db) found
     (Contains-filter_intro (λ r. is_installed_state r.state) db found within is)

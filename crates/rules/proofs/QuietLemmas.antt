@@ -7,8 +7,9 @@ use Rattle.std.proofs.lemmas.List.Quantifiers.{all_pairs_push}
 use Rattle.std.proofs.lemmas.List.Elements.{All-contains, Contains-get_or, Contains-append_cases, All-filter}
 use Rattle.std.proofs.Math.ListN.{length-map}
 use Rattle.rules.specs.Configure.{HasConfigurable, IsConfigurable, AreConfigurable}
-use Rattle.rules.specs.Database.{IsInstalled, Record, HasRecord, HasDistinctNames, IsAtPeaceWith, IsQuiet, IsPresent, pkg_of}
+use Rattle.rules.specs.Database.{IsInstalled, Record, HasRecord, HasDistinctNames, IsAtPeaceWith, IsQuiet, IsPresent, HasSoundFlag, pkg_of}
 use Rattle.rules.specs.Legal.{Allowed}
+use Rattle.rules.specs.LegalLaws.{ActsOnPresent, AllowedActsOnPresent}
 use Rattle.rules.specs.Package.{Pkg, ConflictsWith}
 use Rattle.rules.specs.Run.{Run, after}
 use Rattle.rules.specs.State.{is_present_state, is_unconfigured_state, is_installed_state}
@@ -75,7 +76,7 @@ distinct_changed test change keeps db distinct =
     distinct_map (λ found. cond (test found) (change found) found) (changed_name test change keeps) db distinct
 
 -- where the test names no record, none has the name
-unnamed : (name : List ℕ) (db : List Record) → list_any (is_named name) db ≡ false → (found : Record) → Contains db found
+pub unnamed : (name : List ℕ) (db : List Record) → list_any (is_named name) db ≡ false → (found : Record) → Contains db found
     → found.name ≢ name
 unnamed name db none found within same = absurd (let e : true ≡ false =
     sym (list_any-from_contains (is_named name) db found within (bytes_eq-same found.name name same)) ∙ none in cc)
@@ -108,7 +109,7 @@ distinct_names_kept listed (step.Remove name) db distinct =
 distinct_names_kept listed (step.Purge name) db distinct = distinct_filter (λ found. not (is_named name found)) db distinct
 
 -- of two records with one name there is one
-one_record : (db : List Record) → HasDistinctNames db → (found other : Record) → Contains db found → Contains db other
+pub one_record : (db : List Record) → HasDistinctNames db → (found other : Record) → Contains db found → Contains db other
     → other.name ≡ found.name → other ≡ found
 unfolding HasDistinctNames
 one_record [] distinct found other within there same = absurd (Contains-nil found within)
@@ -128,7 +129,7 @@ one_record (first ∷ rest) distinct found other within there same =
     at (inr behind) (inr further) later = later behind further
 
 -- what the record of a name has, each record of that name has
-the_record : (P : Record → Type 0) (db : List Record) → HasDistinctNames db → (found : Record) → Contains db found
+pub the_record : (P : Record → Type 0) (db : List Record) → HasDistinctNames db → (found : Record) → Contains db found
     → HasRecord P found.name db → P found
 the_record P db distinct found within has = Any-elim (λ (r : Record). (r.name ≡ found.name) × P r) db (P found)
     (λ other there both. subst P (one_record db distinct found other within there both.0) both.1) has
@@ -205,7 +206,7 @@ installed_present HalfConfigured is = refl
 installed_present Installed is = refl
 
 -- the name under which a record is found has a property, and so has the record
-the_named : (P : Record → Type 0) (db : List Record) → HasDistinctNames db → (name : List ℕ) → HasRecord P name db
+pub the_named : (P : Record → Type 0) (db : List Record) → HasDistinctNames db → (name : List ℕ) → HasRecord P name db
     → (found : Record) → Contains db found → is_named name found ≡ true → P found
 the_named P db distinct name has found within is = the_record P db distinct found within
     (let Q : List ℕ → Type 0 = λ n. HasRecord P n db in subst Q (sym (bytes_eq-true found.name name is)) has)
@@ -312,3 +313,22 @@ pub quiet_after_run : (u : Universe) (start reached : List Record) (steps : List
 quiet_after_run u start reached [] distinct quiet run = subst IsQuiet (sym run) quiet
 quiet_after_run u start reached (taken ∷ rest) distinct quiet run = quiet_after_run u (after u start taken) reached rest
     (distinct_names_kept (listed_for u taken) taken start distinct) (quiet_kept u start taken distinct quiet run.0) run.1
+
+-- what an allowed step configures, deconfigures or removes is present
+pub allowed_acts_on_present : AllowedActsOnPresent
+unfolding Allowed ActsOnPresent AreConfigurable HasConfigurable
+allowed_acts_on_present u db (step.Unpack name version) distinct allowed =
+    All-intro (λ found. false ≡ true → IsPresent found) db (λ found within is. absurd (let e : false ≡ true = is in cc))
+allowed_acts_on_present u db (step.Deconfigure name) distinct allowed =
+    All-intro (λ found. is_named name found ≡ true → IsPresent found) db (λ found within is.
+    installed_present found.state (the_named IsInstalled db distinct name (allowed 0 rule.WrongState (lit< tt)) found within is))
+allowed_acts_on_present u db (step.Configure names) distinct allowed =
+    All-intro (λ found. is_among names found ≡ true → IsPresent found) db (λ found within is.
+    unconfigured_present found.state (the_record IsConfigurable db distinct found within
+    (All-contains (λ name. HasRecord IsConfigurable name db) names found.name (allowed 0 rule.WrongState (lit< tt))
+    (contains-is_among names found is))).0)
+allowed_acts_on_present u db (step.Remove name) distinct allowed =
+    All-intro (λ found. is_named name found ≡ true → IsPresent found) db (λ found within is.
+    (the_named (λ found. IsPresent found × HasSoundFlag found) db distinct name (allowed 0 rule.WrongState (lit< tt)) found within is).0)
+allowed_acts_on_present u db (step.Purge name) distinct allowed =
+    All-intro (λ found. false ≡ true → IsPresent found) db (λ found within is. absurd (let e : false ≡ true = is in cc))

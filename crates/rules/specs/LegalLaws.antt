@@ -1,10 +1,13 @@
 -- What follows from the table of actions: a step is allowed or has one first failing rule.
-use Rattle.std.specs.Prelude.{◌≡◌, List, ◌⊎◌, ◌↔◌}
-use Rattle.rules.specs.Database.{Record}
+use Rattle.std.specs.Prelude.{◌≡◌, Bool, true, false, List, ◌⊎◌, ◌↔◌}
+use Rattle.std.specs.List.{All}
+use Rattle.rules.specs.Database.{Record, HasDistinctNames, IsPresent}
+use Rattle.rules.specs.Step.{is_among, is_named}
 use Rattle.rules.specs.Legal.{Allowed, IsFirstFailing}
 use Rattle.rules.specs.Universe.{Universe}
 use Rattle.rules.specs.declared.step.Rule.{Rule}
 use Rattle.rules.specs.declared.step.Step.{Step}
+use Rattle.rules.specs.declared.step.Step.TheVariants as step
 
 -- a step has one first failing rule at most
 abbrev pub OneFirstFailing : Type 0
@@ -20,3 +23,19 @@ AllowedOrFailing = (u : Universe) (db : List Record) (step : Step)
 abbrev pub AllowedWhereNoneFails : Type 0
 AllowedWhereNoneFails = (u : Universe) (db : List Record) (step : Step)
     → Allowed u db step ↔ ((rule : Rule) → ¬ IsFirstFailing u db step rule)
+
+-- the step configures, deconfigures or removes the record's package, as a test
+abbrev pub is_acted_on : Step → Record → Bool
+is_acted_on (step.Unpack name version) found = false
+is_acted_on (step.Deconfigure name) found = is_named name found
+is_acted_on (step.Configure names) found = is_among names found
+is_acted_on (step.Remove name) found = is_named name found
+is_acted_on (step.Purge name) found = false
+
+-- what an allowed step configures, deconfigures or removes is present
+unfoldable pub ActsOnPresent : Step → List Record → Type 0
+ActsOnPresent step db = All (λ found. is_acted_on step found ≡ true → IsPresent found) db
+
+abbrev pub AllowedActsOnPresent : Type 0
+AllowedActsOnPresent = (u : Universe) (db : List Record) (step : Step) → HasDistinctNames db → Allowed u db step
+    → ActsOnPresent step db

@@ -15,6 +15,7 @@ pub mod Priority
 pub mod Remove
 pub mod Run
 pub mod RunLaws
+pub mod RunStepLaws
 pub mod Sound
 pub mod Stanza
 pub mod State
@@ -22,6 +23,7 @@ pub mod Step
 pub mod Universe
 pub mod UnkeptLaws
 pub mod Unpack
+pub mod Verdict
 pub mod Version
 pub mod VersionFault
 pub mod VersionFrontLaws

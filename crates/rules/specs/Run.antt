@@ -107,3 +107,10 @@ reason_cmp = then_cmp (on kind_of nat_cmp) (then_cmp (on reason_name name_cmp) (
 pub record IsFirstAgainst (u : Universe) (db : List Record) (first : Reason) : Type 0 where
   pub against : IsAgainst u db first
   pub least : (other : Reason) → IsAgainst u db other → ¬ (reason_cmp other first ≡ Less)
+
+-- nothing is against the end: no name is unfinished, each installed package is content, and each essential name and each goal is as it should be
+pub record HasNothingAgainst (u : Universe) (db : List Record) : Type 0 where
+  pub finished : All (λ found. ¬ IsUnfinished found) db
+  pub content : All (λ found. IsInstalled found → IsContent (installed_of db) (pkg_of found)) db
+  pub essential : All (KeepsEssential (installed_of db)) u.starts
+  pub goals : All (λ asked. Fulfils u (installed_of db) asked × IsPurged db asked) u.goals

@@ -29,3 +29,12 @@ pub enum Goal {
     /// Each package that stands keeps being installed, in some version.
     NoRemove,
 }
+
+/// A goal with its line of the request, counted from 1.
+#[derive(Debug, Drop)]
+pub struct GoalLine {
+    /// The line.
+    pub line: usize,
+    /// The goal.
+    pub goal: Goal,
+}

@@ -2,8 +2,9 @@
 
 ghost use Rattle.rules.specs.Entry.{WrittenAsLeft};
 ghost use Rattle.rules.specs.GroupLaws.{UnionPasses, HasGreatestPart, IndivisibleByOthers};
-ghost use Rattle.rules.specs.LegalLaws.{OneFirstFailing, AllowedOrFailing, AllowedWhereNoneFails};
+ghost use Rattle.rules.specs.LegalLaws.{AllowedActsOnPresent, OneFirstFailing, AllowedOrFailing, AllowedWhereNoneFails};
 ghost use Rattle.rules.specs.PlanLaws.{GoodPlanKeepsPromise};
+ghost use Rattle.rules.specs.Verdict.{GoodPlanHasYes, GoodWhereNothingIsAgainst, UniverseIsBuilt};
 ghost use Rattle.rules.specs.RunLaws.{RunGoesOn, OneEnd, RunOrStops, DistinctNamesKept, QuietKept, QuietAfterRun};
 
 /// A step has one first failing rule at most.
@@ -77,4 +78,25 @@ pub fn quiet_after_run()
 /// every Pre-Depends, Depends, Conflicts and Breaks of an installed package is satisfied.
 pub fn good_plan_keeps_promise()
     ensures { GoodPlanKeepsPromise }
+{}
+
+/// The universe of the inputs is built on their start.
+pub fn universe_is_built()
+    ensures { UniverseIsBuilt }
+{}
+
+/// The end of a run is good exactly where nothing is against it: that what is installed is admitted and that
+/// holds are kept follows from the steps being allowed.
+pub fn good_where_nothing_is_against()
+    ensures { GoodWhereNothingIsAgainst }
+{}
+
+/// A plan that is good has no other verdict than yes.
+pub fn good_plan_has_yes()
+    ensures { GoodPlanHasYes }
+{}
+
+/// What an allowed step configures, deconfigures or removes is present.
+pub fn allowed_acts_on_present()
+    ensures { AllowedActsOnPresent }
 {}

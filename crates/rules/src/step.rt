@@ -3,6 +3,7 @@
 ghost use Rattle.std.specs.Prelude.{◌≡◌, IfOk};
 
 use crate::name::{Name, Names};
+use crate::text::Text;
 use crate::version_text::VersionText;
 use std::alloc::{AllocError, Global};
 
@@ -71,11 +72,25 @@ pub enum Rule {
 #[derive(Debug, Drop)]
 pub enum Reason {
     /// The package is half-installed, unpacked, half-configured or to be installed again.
-    Unfinished(Name),
+    Unfinished(Text),
     /// The installed package has a clause that isn't met, or conflicts with or breaks another.
-    Relation(Name),
+    Relation(Text),
     /// The essential package was present at the start and isn't installed.
-    Essential(Name),
+    Essential(Text),
     /// The goal of this number, counted from 1, isn't fulfilled.
-    Goal(u32),
+    Goal(usize),
+}
+
+/// What is answered of a plan.
+#[derive(Debug, Drop)]
+pub enum Verdict {
+    /// Every step is legal when its turn comes, and the end is good.
+    Yes,
+    /// Two packages conflict at the start (F0).
+    Start,
+    /// The step of this number, counted from 1, is the first that isn't allowed; the rule is the first that it
+    /// fails.
+    Step(usize, Rule),
+    /// The steps are allowed, and this is the first reason against the end (F11).
+    End(Reason),
 }

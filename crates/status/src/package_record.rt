@@ -47,6 +47,15 @@ impl<'p, 'a> Model for PackageRecord<'p, 'a> {
     ghost invariant = { λ r. HasItsPkg r.state r.name.now r.version (option_copied r.pkg) };
 }
 
+fn version_again<'a>(version: &Option<Version<'a>>) -> Option<Version<'a>>
+    ensures { result ≡ version.now }
+{
+    match version {
+        Some(version) => Some(version.again()),
+        None => None,
+    }
+}
+
 impl<'p, 'a> PackageRecord<'p, 'a> {
     /// The record of a present package.
     pub fn present(
@@ -112,6 +121,22 @@ impl<'p, 'a> PackageRecord<'p, 'a> {
             config_version,
             pkg: None,
             is_essential,
+        }
+    }
+
+    /// The same record once more.
+    pub fn again(&self) -> PackageRecord<'p, 'a>
+        ensures { result ≡ self.now }
+    {
+        PackageRecord {
+            name: self.name,
+            state: self.state,
+            want: self.want,
+            flag: self.flag,
+            version: version_again(&self.version),
+            config_version: version_again(&self.config_version),
+            pkg: self.pkg,
+            is_essential: self.is_essential,
         }
     }
 

@@ -108,8 +108,8 @@ pub fn configure<'p, 'a>(records: &mut [PackageRecord<'p, 'a>], names: &[Name])
     }
 }
 
-// Whether the record is of the name.
-fn is_named(name: &[u8], found: &PackageRecord<'_, '_>) -> bool
+/// Whether the record is of the name.
+pub(crate) fn is_named(name: &[u8], found: &PackageRecord<'_, '_>) -> bool
     ensures { result ≡ is_named name.now found.now }
 {
     found.name() == name

@@ -6,7 +6,7 @@ use Rattle.universe_request.specs.Words.{is_skipped}
 use Rattle.universe_request.specs.declared.error.RequestError.{RequestError}
 use Rattle.universe_request.specs.declared.error.RequestError.TheVariants as error
 use Rattle.universe_request.specs.declared.error.RequestFault.{RequestFault}
-use Rattle.universe_request.specs.declared.goal_line.GoalLine.{GoalLine}
+use Rattle.rules.specs.declared.goal.GoalLine.{GoalLine}
 
 -- a goal that is put before others stands behind those so far
 put_goals_more : (goals : List GoalLine) (goal : GoalLine) (later : Result (List GoalLine) RequestFault)

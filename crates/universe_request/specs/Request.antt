@@ -8,7 +8,7 @@ use Rattle.universe_request.specs.GoalText.{goal_of}
 use Rattle.universe_request.specs.Words.{is_skipped}
 use Rattle.universe_request.specs.declared.error.RequestFault.{RequestFault}
 use Rattle.universe_request.specs.declared.error.RequestFault.TheVariants.{BadRequest, TooLarge}
-use Rattle.universe_request.specs.declared.goal_line.GoalLine.{GoalLine}
+use Rattle.rules.specs.declared.goal.GoalLine.{GoalLine}
 
 -- a goal and its line
 abbrev pub on_line : ℕ → Goal → GoalLine

@@ -3,7 +3,6 @@
 #![tactic(auto)]
 
 mod error;
-mod goal_line;
 mod goal_text;
 mod request;
 #[cfg(test)]
@@ -11,5 +10,5 @@ mod tests;
 mod words;
 
 pub use error::{RequestError, RequestFault};
-pub use goal_line::GoalLine;
 pub use request::Request;
+pub use rules::GoalLine;

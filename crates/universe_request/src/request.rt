@@ -7,10 +7,9 @@ ghost use Rattle.universe_request.specs.Error.{IsRequestFault};
 ghost use Rattle.universe_request.specs.Request.{read_goal, read_lines, read_request};
 
 use crate::error::RequestError;
-use crate::goal_line::GoalLine;
 use crate::goal_text::goal_of;
 use crate::words::{cut_line, is_skipped};
-use rules::{GOALS, TEXT_BYTES};
+use rules::{GOALS, GoalLine, TEXT_BYTES};
 use std::alloc::Global;
 use std::marker::Model;
 
@@ -22,7 +21,7 @@ pub struct Request {
 
 impl Model for Request {
     ghost use Rattle.std.specs.Prelude.{List};
-    ghost use Rattle.universe_request.specs.declared.goal_line.GoalLine.{GoalLine};
+    ghost use Rattle.rules.specs.declared.goal.GoalLine.{GoalLine};
 
     ghost Value = { List GoalLine };
 

@@ -1,0 +1,110 @@
+-- The texts that a request is answered from, and what each is read as: today a status file without a stanza, sources
+-- without release keys, of the relation fields Depends alone, `install` goals, and the unpacking and the configuring
+-- of one package.
+use Rattle.std.specs.Prelude.{ℕ, ◌+◌, ◌==◌, Bool, not, List, [], ◌∷◌, ◌++◌, length, nat_lt, false, Option, Some, None, Result, Ok, Err, if◌then◌else◌}
+use Rattle.std.specs.List.{flat_map}
+use Rattle.std.specs.Option.{option_map, option_or}
+use Rattle.index.specs.Index.{IndexValue, read_index}
+use Rattle.index.specs.Later.{has_later_keys, later_field}
+use Rattle.index.specs.Sources.{SourceText, read_sources}
+use Rattle.plantext.specs.Plan.{read_plan}
+use Rattle.rules.specs.declared.goal.Goal.{Goal}
+use Rattle.rules.specs.declared.goal.Goal.TheVariants as goal
+use Rattle.rules.specs.declared.goal.GoalLine.{GoalLine}
+use Rattle.rules.specs.declared.limits.TheConstants.{TEXT_BYTES}
+use Rattle.rules.specs.declared.step.Step.{Step}
+use Rattle.rules.specs.declared.step.Step.TheVariants as step
+use Rattle.stanza.specs.Stanza.{StanzaText, items_of}
+use Rattle.stanza.specs.declared.error.StanzaError.{StanzaError}
+use Rattle.cli_engine.specs.Reading.{with_fault, unless_later}
+use Rattle.cli_engine.specs.declared.refusal.Fault.{Fault}
+use Rattle.cli_engine.specs.declared.refusal.Fault.TheVariants as fault
+use Rattle.cli_engine.specs.declared.refusal.Later.{Later}
+use Rattle.cli_engine.specs.declared.refusal.Later.TheVariants as later
+
+-- the texts that a request is answered from
+pub record Texts : Type 0 where
+  pub arch : List ℕ
+  pub status : List ℕ
+  pub sources : List ℕ
+  pub indices : List (List ℕ)
+  pub preferences : Option (List ℕ)
+  pub target : Option (List ℕ)
+  pub request : List ℕ
+
+-- The status file
+
+-- the first line of these items that is refused
+abbrev pub line_fault : List (Result StanzaText StanzaError) → Option StanzaError
+line_fault [] = None
+line_fault (Ok stanza ∷ items) = line_fault items
+line_fault (Err refused ∷ items) = Some refused
+
+-- a stanza isn't judged yet
+abbrev pub later_status : List (Result StanzaText StanzaError) → Option Later
+later_status [] = None
+later_status (item ∷ items) = Some later.Status
+
+-- the refusal of a status file: of its length, then of a line, then of a stanza
+unfoldable pub status_fault : List ℕ → Option Fault
+status_fault text =
+    if nat_lt TEXT_BYTES (length text) then Some fault.TooLarge
+    else option_or (option_map fault.Stanza (line_fault (items_of false text)))
+    (option_map fault.NotYet (later_status (items_of false text)))
+
+-- The sources
+
+-- release keys and a second stanza aren't judged yet
+abbrev pub later_sources : List ℕ → Option Later
+later_sources text = if has_later_keys text then Some later.Sources else None
+
+-- what the sources are read as
+unfoldable pub read_early_sources : List ℕ → Result (List SourceText) Fault
+read_early_sources text = unless_later (later_sources text) (with_fault fault.Sources (read_sources text))
+
+-- The indices
+
+-- what an index is read as
+unfoldable pub read_early_index : List ℕ → List ℕ → Result IndexValue Fault
+read_early_index arch text =
+    unless_later (option_map later.Field (later_field text)) (with_fault fault.Index (read_index arch text))
+
+-- The request
+
+-- goals other than to install aren't judged yet
+abbrev pub later_goal : Goal → Option Later
+later_goal (goal.Install name restriction) = None
+later_goal (goal.Remove name) = Some later.Remove
+later_goal (goal.Purge name) = Some later.Purge
+later_goal (goal.Upgrade name) = Some later.Upgrade
+later_goal goal.UpgradeAll = Some later.UpgradeAll
+later_goal goal.NoRemove = Some later.NoRemove
+
+-- the first of the goals that isn't judged yet
+abbrev pub first_later_goal : List GoalLine → Option Later
+first_later_goal [] = None
+first_later_goal (line ∷ lines) = option_or (later_goal line.goal) (first_later_goal lines)
+
+-- The plan
+
+-- the configuring of several packages and the actions other than unpack and configure aren't judged yet
+abbrev pub later_step : Step → Option Later
+later_step (step.Unpack name version) = None
+later_step (step.Deconfigure name) = Some later.Deconfigure
+later_step (step.Configure names) = if length names == 1 then None else Some later.Configure
+later_step (step.Remove name) = Some later.Remove
+later_step (step.Purge name) = Some later.Purge
+
+-- the first of the steps that isn't judged yet
+abbrev pub first_later_step : List Step → Option Later
+first_later_step [] = None
+first_later_step (step ∷ steps) = option_or (later_step step) (first_later_step steps)
+
+-- the steps, unless one of them isn't judged yet
+abbrev pub unless_later_step : Result (List Step) Fault → Result (List Step) Fault
+unless_later_step (Err refused) = Err refused
+unless_later_step (Ok steps) = unless_later (first_later_step steps) (Ok steps)
+
+-- what a plan is read as
+unfoldable pub read_early_plan : List ℕ → Result (List Step) Fault
+read_early_plan text = unless_later_step (with_fault fault.Plan (read_plan text))

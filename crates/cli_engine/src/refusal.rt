@@ -1,0 +1,138 @@
+// Why a text was refused, and what is printed of it.
+
+ghost use Rattle.std.specs.Prelude.{◌≡◌};
+ghost use Rattle.cli_engine.specs.Reading.{IsPlaced, out_of_memory};
+
+use index::{IndexFault, LaterField, SourcesFault};
+use plantext::PlanFault;
+use stanza::StanzaError;
+use std::alloc::AllocError;
+use thiserror::Error;
+use universe_request::RequestFault;
+
+/// The text that is refused.
+#[derive(Clone, Copy, Debug, PartialEq, Eq, Error)]
+pub enum Place {
+    /// The status file.
+    #[error("status")]
+    Status,
+    /// The sources.
+    #[error("sources")]
+    Sources,
+    /// The index of this number, counted from 1.
+    #[error("index {0}")]
+    Index(usize),
+    /// The request.
+    #[error("request")]
+    Request,
+    /// The plan.
+    #[error("plan")]
+    Plan,
+    /// No text: memory was wanting.
+    #[error("memory")]
+    Memory,
+}
+
+/// What a text has that isn't judged yet.
+#[derive(Clone, Copy, Debug, PartialEq, Eq, Error)]
+pub enum Later {
+    /// A stanza of the status file.
+    #[error("status")]
+    Status,
+    /// A second stanza of the sources, or a field other than File and Explanation.
+    #[error("sources")]
+    Sources,
+    /// This relation field of an index.
+    #[error("{0}")]
+    Field(LaterField),
+    /// The goal `remove`.
+    #[error("remove")]
+    Remove,
+    /// The goal or the step `purge`.
+    #[error("purge")]
+    Purge,
+    /// The goal `upgrade`.
+    #[error("upgrade")]
+    Upgrade,
+    /// The goal `upgrade-all`.
+    #[error("upgrade-all")]
+    UpgradeAll,
+    /// The goal `no-remove`.
+    #[error("no-remove")]
+    NoRemove,
+    /// The step `deconfigure`.
+    #[error("deconfigure")]
+    Deconfigure,
+    /// A step that configures more than one package.
+    #[error("configure")]
+    Configure,
+}
+
+/// What is wrong with a text.
+#[derive(Clone, Copy, Debug, PartialEq, Eq, Error)]
+pub enum Fault {
+    /// No control text goes on so.
+    #[error("{0}")]
+    Stanza(StanzaError),
+    /// The sources are refused.
+    #[error("{0}")]
+    Sources(SourcesFault),
+    /// The index is refused.
+    #[error("{0}")]
+    Index(IndexFault),
+    /// The request is refused.
+    #[error("{0}")]
+    Request(RequestFault),
+    /// The goal of this line of the request names a package that nothing has.
+    #[error("E17 UnknownName {0}")]
+    UnknownName(usize),
+    /// The plan is refused.
+    #[error("{0}")]
+    Plan(PlanFault),
+    /// A text of more bytes than are read, or a request that admits more pairs than are kept.
+    #[error("E10 TooLarge")]
+    TooLarge,
+    /// The text is accepted, but has what isn't judged yet.
+    #[error("E27 NotYet {0}")]
+    NotYet(Later),
+    /// A file couldn't be read.
+    #[error("E5 Read")]
+    Read,
+    /// A growth was refused.
+    #[error("E1 OutOfMemory")]
+    OutOfMemory,
+}
+
+/// A refusal: the text, and what is wrong with it.
+#[derive(Clone, Copy, Debug, PartialEq, Eq, Error)]
+#[error("{place}: {fault}")]
+pub struct Refusal {
+    /// The text.
+    pub place: Place,
+    /// What is wrong with it.
+    pub fault: Fault,
+}
+
+/// The refusal of the text at this place; where memory was wanting, no text is refused.
+pub(crate) fn refused_at(place: Place, fault: Fault) -> Refusal
+    ensures { IsPlaced place fault result }
+{
+    match fault {
+        Fault::OutOfMemory => Refusal {
+            place: Place::Memory,
+            fault,
+        },
+        _ => Refusal { place, fault },
+    }
+}
+
+impl From<AllocError> for Refusal {
+    ghost from_gives = { λ _ e. e ≡ out_of_memory };
+
+    fn from(_e: AllocError) -> Refusal {
+        Refusal {
+            place: Place::Memory,
+            fault: Fault::OutOfMemory,
+        }
+    }
+}

@@ -1,0 +1,99 @@
+// A whole plan: its start, its steps one after another, and its end (Policy 7).
+
+ghost use Rattle.std.specs.Prelude.{◌≡◌, IfOk, MatchOption};
+ghost use Rattle.std.specs.List.{All};
+ghost use Rattle.rules.specs.Database.{HasDistinctNames, IsQuiet};
+ghost use Rattle.rules.specs.Run.{Run, StopsAt};
+ghost use Rattle.rules.specs.Verdict.{IsBuiltOn, IsVerdict};
+ghost use Rattle.plancheck.specs.End.{IsEndVerdict};
+ghost use Rattle.plancheck.specs.Single.{IsSingle};
+
+use crate::quiet::is_quiet;
+use crate::step::{apply, legal};
+use plancheck_end::first_against;
+use rules::{Rule, Step, Verdict, good_where_nothing_is_against};
+use status::{PackageRecord, try_copy};
+use std::alloc::{AllocError, Global};
+use universe::Universe;
+
+// The number of the step that isn't allowed when its turn comes, and the first rule that it fails. Where every
+// step is allowed, the records are left as the steps leave them.
+fn run<'p, 'a>(
+    db: &mut Vec<PackageRecord<'p, 'a>>,
+    universe: &'p Universe<'a>,
+    steps: &[Step],
+) -> Result<Option<(usize, Rule)>, AllocError>
+    requires distinct { HasDistinctNames db.old.items }
+    requires single { All IsSingle steps.now }
+    ensures { IfOk result (λ stop. MatchOption stop
+        (Run universe.now db.old.items steps.now db.new.items)
+        (λ found. StopsAt universe.now db.old.items steps.now found.0 found.1)) }
+{
+    let mut number = 0;
+    for step in steps {
+        number += 1;
+        if let Some(rule) = legal(db.as_slice(), universe, step) {
+            return Ok(Some((number, rule)));
+        }
+        apply(db, universe, step)?;
+    }
+    Ok(None)
+}
+
+// What is answered of the end of the run.
+fn end_verdict(
+    alloc: Global,
+    universe: &Universe<'_>,
+    db: &[PackageRecord<'_, '_>],
+) -> Result<Verdict, AllocError>
+    ensures { IfOk result (λ verdict. IsEndVerdict universe.now db.now verdict) }
+{
+    match first_against(alloc, universe, db)? {
+        None => Ok(Verdict::Yes),
+        Some(reason) => Ok(Verdict::End(reason)),
+    }
+}
+
+// What is answered of the run from a quiet start.
+fn run_verdict<'p, 'a>(
+    alloc: Global,
+    start: &[PackageRecord<'p, 'a>],
+    universe: &'p Universe<'a>,
+    steps: &[Step],
+) -> Result<Verdict, AllocError>
+    requires built { IsBuiltOn start.now universe.now }
+    requires single { All IsSingle steps.now }
+    requires quiet { IsQuiet start.now }
+    ensures { IfOk result (λ verdict. IsVerdict universe.now start.now steps.now verdict) }
+{
+    good_where_nothing_is_against();
+    let mut db = try_copy(alloc, start)?;
+    let stop = run(&mut db, universe, steps)?;
+    match stop {
+        Some((number, rule)) => Ok(Verdict::Step(number, rule)),
+        None => {
+            let verdict = end_verdict(alloc, universe, db.as_slice())?;
+            Ok(verdict)
+        }
+    }
+}
+
+/// Judges a plan from this start, on which the universe is built: whether each step is legal when its turn comes
+/// and the end is good, and else what is first against it. Memory alone can fail. For each step the cost is
+/// that of its rules, and the end is linear in the records for each atom of an installed package.
+pub fn check_plan<'p, 'a>(
+    alloc: Global,
+    start: &[PackageRecord<'p, 'a>],
+    universe: &'p Universe<'a>,
+    steps: &[Step],
+) -> Result<Verdict, AllocError>
+    requires built { IsBuiltOn start.now universe.now }
+    requires single { All IsSingle steps.now }
+    ensures { IfOk result (λ verdict. IsVerdict universe.now start.now steps.now verdict) }
+{
+    if is_quiet(start) {
+        run_verdict(alloc, start, universe, steps)
+    } else {
+        Ok(Verdict::Start)
+    }
+}

@@ -1,0 +1,126 @@
+// A step of any action: the first rule that it fails, and what it leaves (Policy 7.2 to 7.4, dpkg(1)).
+
+ghost use Rattle.std.specs.Prelude.{◌≡◌, IfOk, MatchOption, None};
+ghost use Rattle.std.specs.Option.{option_copied, option_map_or};
+ghost use Rattle.rules.specs.Database.{HasDistinctNames};
+ghost use Rattle.rules.specs.Legal.{Allowed, IsFirstFailing};
+ghost use Rattle.rules.specs.LegalLaws.{ActsOnPresent};
+ghost use Rattle.rules.specs.Run.{after};
+ghost use Rattle.rules.specs.Step.{after_unpack};
+ghost use Rattle.rules.specs.Universe.{listed_of};
+ghost use Rattle.rules.specs.VersionFault.{first_fault};
+ghost use Rattle.rules.specs.declared.step.Step.TheVariants.{Remove, Unpack};
+ghost use Rattle.plancheck.specs.Single.{IsSingle};
+
+use crate::table::{
+    configure_failing, deconfigure_failing, purge_failing, remove_failing, unpack_failing,
+};
+use debversion::Version;
+use index::Listed;
+use rules::{Name, Rule, Step, VersionText, allowed_acts_on_present, distinct_names_kept};
+use status::{PackageRecord, configure, deconfigure, purge, remove, unpack};
+use std::alloc::AllocError;
+use universe::Universe;
+
+// The version of the text.
+fn version_of(text: &VersionText) -> Version<'_>
+    ensures { result ≡ text.now }
+{
+    match Version::parse(text.as_bytes()) {
+        Ok(version) => version,
+        Err(_) => unreachable!(),
+    }
+}
+
+// The first rule that an unpacking of the version fails.
+#[tactic(auto, unfolding(rules::specs::Legal::Allowed, rules::specs::Legal::IsFirstFailing))]
+fn unpack_stop(
+    db: &[PackageRecord<'_, '_>],
+    universe: &Universe<'_>,
+    name: &Name,
+    version: &VersionText,
+) -> Option<Rule>
+    ensures { MatchOption result (Allowed universe.now db.now (Unpack name.now version.now))
+        (λ rule. IsFirstFailing universe.now db.now (Unpack name.now version.now) rule) }
+{
+    let version = version_of(version);
+    let listed = universe.listed_of(name.as_bytes(), &version);
+    unpack_failing(db, listed, name.as_bytes(), &version)
+}
+
+// The first rule that a removal of the name fails.
+#[tactic(auto, unfolding(rules::specs::Legal::Allowed, rules::specs::Legal::IsFirstFailing))]
+fn remove_stop(db: &[PackageRecord<'_, '_>], universe: &Universe<'_>, name: &Name) -> Option<Rule>
+    ensures { MatchOption result (Allowed universe.now db.now (Remove name.now))
+        (λ rule. IsFirstFailing universe.now db.now (Remove name.now) rule) }
+{
+    remove_failing(db, name.as_bytes())
+}
+
+/// The first rule that the step fails, if there is one. The cost is that of the action's rules.
+#[tactic(auto, unfolding(rules::specs::Legal::Allowed, rules::specs::Legal::IsFirstFailing, crate::specs::Single::IsSingle))]
+pub fn legal(db: &[PackageRecord<'_, '_>], universe: &Universe<'_>, step: &Step) -> Option<Rule>
+    requires { IsSingle step.now }
+    ensures { MatchOption result (Allowed universe.now db.now step.now)
+        (λ rule. IsFirstFailing universe.now db.now step.now rule) }
+{
+    match step {
+        Step::Unpack(name, version) => unpack_stop(db, universe, name, version),
+        Step::Deconfigure(name) => deconfigure_failing(db, name.as_bytes()),
+        Step::Configure(names) => configure_failing(db, names.as_slice()),
+        Step::Remove(name) => remove_stop(db, universe, name),
+        Step::Purge(name) => purge_failing(db, name.as_bytes()),
+    }
+}
+
+// Unpacks the package, if it is there.
+fn unpack_listed<'p, 'a>(
+    db: &mut Vec<PackageRecord<'p, 'a>>,
+    listed: Option<&'p Listed<'a>>,
+) -> Result<(), AllocError>
+    ensures { IfOk result (λ _. db.new.items ≡ option_map_or (λ found. after_unpack found db.old.items) (option_copied listed.entry) db.old.items) }
+{
+    if let Some(listed) = listed {
+        unpack(db, listed)?;
+    }
+    Ok(())
+}
+
+// What the step leaves, if what it configures, deconfigures or removes is present.
+#[tactic(auto, unfolding(rules::specs::LegalLaws::ActsOnPresent))]
+fn leave<'p, 'a>(
+    db: &mut Vec<PackageRecord<'p, 'a>>,
+    universe: &'p Universe<'a>,
+    step: &Step,
+) -> Result<(), AllocError>
+    requires { ActsOnPresent step.now db.old.items }
+    ensures { IfOk result (λ _. db.new.items ≡ after universe.now db.old.items step.now) }
+{
+    match step {
+        Step::Unpack(name, version) => {
+            let listed = universe.listed_of(name.as_bytes(), &version_of(version));
+            unpack_listed(db, listed)?;
+        }
+        Step::Deconfigure(name) => deconfigure(db.as_mut_slice(), name.as_bytes()),
+        Step::Configure(names) => configure(db.as_mut_slice(), names.as_slice()),
+        Step::Remove(name) => remove(db.as_mut_slice(), name.as_bytes()),
+        Step::Purge(name) => purge(db, name.as_bytes()),
+    }
+    Ok(())
+}
+
+/// Takes an allowed step. Linear in the records. Memory alone can fail.
+pub fn apply<'p, 'a>(
+    db: &mut Vec<PackageRecord<'p, 'a>>,
+    universe: &'p Universe<'a>,
+    step: &Step,
+) -> Result<(), AllocError>
+    requires distinct { HasDistinctNames db.old.items }
+    requires allowed { Allowed universe.now db.old.items step.now }
+    ensures after { IfOk result (λ _. db.new.items ≡ after universe.now db.old.items step.now) }
+    ensures distinct { IfOk result (λ _. HasDistinctNames db.new.items) }
+{
+    allowed_acts_on_present();
+    distinct_names_kept();
+    leave(db, universe, step)
+}

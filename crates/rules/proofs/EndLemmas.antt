@@ -1,0 +1,259 @@
+-- Where nothing is against the end of a run, it is good: what its installed packages are admitted by, and that
+-- holds are kept, follows from the start and from the steps being allowed.
+use Rattle.std.proofs.Common.{lit<, ◌≡◌, ◌≢◌, ℕ, Bool, true, false, not, cond, ◌&&◌, ◌||◌, List, [], ◌∷◌, ◌++◌, map, ◌⊎◌, Option, Some, None, MatchOption, refl, sym, ap, subst, ◌∙◌, arith, bytes_eq}
+use Rattle.std.specs.Prelude.{IsTrue, ◌↔◌, ⊤}
+use Rattle.std.specs.List.{All, Any, Contains, filter, find, list_any}
+use Rattle.std.specs.Option.{option_and_then}
+use Rattle.std.proofs.lemmas.List.Elements.{All-contains, All-filter, Contains-append_cases, Contains-append_left}
+use Rattle.rules.specs.Available.{is_of, same_version}
+use Rattle.rules.specs.Configure.{HasConfigurable, IsConfigurable, AreConfigurable}
+use Rattle.rules.specs.Database.{Record, HasRecord, HasDistinctNames, IsHeld, IsInstalled, IsUnfinished, Stands, stands, is_unfinished, pkg_of, installed_of}
+use Rattle.rules.specs.ElementLaws.{All-intro, Any-intro, Any-elim, Contains-cons, Contains-nil, Contains-map, Contains-map_intro, Contains-filter, Contains-filter_intro, Contains-head, Contains-rest}
+use Rattle.rules.specs.Legal.{Allowed, IsNotHeld}
+use Rattle.rules.specs.NamedLaws.{bytes_eq-true, bytes_eq-same, contains-is_among}
+use Rattle.rules.specs.Package.{Pkg}
+use Rattle.rules.specs.Run.{Run, after, IsGoodEnd, HasNothingAgainst, IsPurged}
+use Rattle.rules.specs.Sound.{IsContent, IsSound, HasOneVersionEach, AgreesWith, IsAdmittedIn, FulfilsAll, Fulfils, KeepsHold, HasVersion}
+use Rattle.rules.specs.State.{is_present_state, is_unconfigured_state, is_installed_state, is_unfinished_state, is_not_installed_state, is_sound_flag}
+use Rattle.rules.specs.Step.{Listed, is_named, is_among, changed, unpacked_over, unpacked_with, after_unpack, deconfigured, configured, removed, result_of}
+use Rattle.rules.specs.Universe.{Universe, Pair, Start, IsOf, listed_of, listed_among, listed_for, start_of, starts_of}
+use Rattle.rules.specs.Verdict.{IsBuiltOn, HasPair}
+use Rattle.rules.specs.Version.{SameVersion, version_cmp}
+use Rattle.rules.specs.VersionOrderLaws.{same_version_equivalence}
+use Rattle.rules.specs.declared.status.Flag.{Flag}
+use Rattle.rules.specs.declared.status.Flag.TheVariants.{Sound}
+use Rattle.rules.specs.declared.status.State.{State}
+use Rattle.rules.specs.declared.status.State.TheVariants.{NotInstalled, ConfigFiles, HalfInstalled, Unpacked, HalfConfigured, Installed}
+use Rattle.rules.specs.declared.step.Rule.TheVariants as rule
+use Rattle.rules.specs.declared.step.Step.{Step}
+use Rattle.rules.specs.declared.step.Step.TheVariants as step
+use Rattle.rules.proofs.PlanLemmas.{installed_contains}
+use Rattle.rules.proofs.QuietLemmas.{distinct_names_kept, distinct_after_run, one_record, the_record, the_named, unnamed}
+use mathlib.Core.Logic.{inl, inr}
+
+-- what a record's version and name need to be admitted, if it stands
+abbrev pub IsAdmissible : Universe → Record → Type 0
+IsAdmissible u found = Stands found → HasPair u found.name found.version
+
+-- where a test passes both parts
+pub both_true : (x y : Bool) → IsTrue (x && y) → IsTrue x × IsTrue y
+both_true true true is = (refl, refl)
+both_true true false is = absurd (let e : false ≡ true = is in cc)
+both_true false y is = absurd (let e : false ≡ true = is in cc)
+
+-- a record that may be configured stands, and so does an installed one with a sound flag
+configurable_stands : (found : Record) → IsConfigurable found → Stands found
+configurable_stands found may = rw (may.0, may.1) refl
+
+installed_stands : (found : Record) → IsInstalled found → IsTrue (is_sound_flag found.flag) → Stands found
+installed_stands found is sound = rw (is, sound) (or_true (is_unconfigured_state found.state))
+  where
+    or_true : (b : Bool) → ((b || true) && true) ≡ true
+    or_true true = refl
+    or_true false = refl
+
+-- what stands has a sound flag
+stands_sound : (found : Record) → Stands found → IsTrue (is_sound_flag found.flag)
+stands_sound found is = (both_true (is_unconfigured_state found.state || is_installed_state found.state) (is_sound_flag found.flag) is).1
+
+-- a change of the records that a test names keeps a property of all records, where it gives it to those
+All-changed : (P : Record → Type 0) (test : Record → Bool) (change : Record → Record) (db : List Record)
+    → ((found : Record) → Contains db found → test found ≡ true → P (change found)) → All P db → All P (changed test change db)
+All-changed P test change db each all = All-intro P (changed test change db) (λ found within.
+    let old = Contains-map (λ r. cond (test r) (change r) r) db found within in
+    subst P old.2 (at old.0 old.1 (test old.0) refl))
+  where
+    at : (old : Record) → Contains db old → (b : Bool) → test old ≡ b → P (cond b (change old) old)
+    at old within true is = each old within is
+    at old within false is = All-contains P db old all within
+
+-- a record that the change leaves alone, or changes to one with the property, is there afterwards
+Any-changed : (P : Record → Type 0) (test : Record → Bool) (change : Record → Record) (db : List Record) (found : Record)
+    → Contains db found → P found → (test found ≡ true → P (change found)) → Any P (changed test change db)
+Any-changed P test change db found within holds changes = Any-intro P (changed test change db)
+    (cond (test found) (change found) found)
+    (Contains-map_intro (λ r. cond (test r) (change r) r) db found within) (at (test found) refl)
+  where
+    at : (b : Bool) → test found ≡ b → P (cond b (change found) found)
+    at true is = changes is
+    at false is = holds
+
+-- the stanza that a built universe lists for a pair is of an admitted pair
+listed_pair : (start : List Record) (u : Universe) → IsBuiltOn start u → (pairs : List Pair)
+    → ((pair : Pair) → Contains pairs pair → Contains u.pairs pair) → (name version : List ℕ) (listed : Listed)
+    → listed_among pairs name version ≡ Some listed → (listed.pkg.name ≡ name) × HasPair u listed.pkg.name listed.pkg.version
+unfolding HasPair
+listed_pair start u built [] within name version listed found = absurd (let e : None ≡ Some listed = found in cc)
+listed_pair start u built (pair ∷ rest) within name version listed found = at (is_of name version pair.pkg) refl found
+    (listed_pair start u built rest (λ other there. within other (Contains-rest pair rest other there)) name version listed)
+  where
+    here : is_of name version pair.pkg ≡ true → pair.listed ≡ Some listed
+        → (listed.pkg.name ≡ name) × Any (λ (other : Pair). IsOf listed.pkg.name listed.pkg.version other.pkg) u.pairs
+    here is same =
+        let Q : Option Listed → Type 0 = λ l. MatchOption l ⊤ (λ (l : Listed). IsOf pair.pkg.name pair.pkg.version l.pkg) in
+        let of : IsOf pair.pkg.name pair.pkg.version listed.pkg = subst Q same
+        (All-contains (λ (p : Pair). MatchOption p.listed ⊤ (λ (l : Listed). IsOf p.pkg.name p.pkg.version l.pkg)) u.pairs pair built.listed (within pair (Contains-head pair rest))) in (
+          of.0 ∙ bytes_eq-true pair.pkg.name name (both_true (bytes_eq pair.pkg.name name) (same_version pair.pkg.version version) is).0,
+          Any-intro (λ (other : Pair). IsOf listed.pkg.name listed.pkg.version other.pkg) u.pairs pair
+              (within pair (Contains-head pair rest))
+              (sym of.0, same_version_equivalence.symmetric listed.pkg.version pair.pkg.version of.1),
+        )
+
+    at : (b : Bool) → is_of name version pair.pkg ≡ b
+        → option_and_then (λ (p : Pair). p.listed) (cond b (Some pair) (find (λ (p : Pair). is_of name version p.pkg) rest)) ≡ Some listed
+        → (listed_among rest name version ≡ Some listed
+        → (listed.pkg.name ≡ name) × Any (λ (other : Pair). IsOf listed.pkg.name listed.pkg.version other.pkg) u.pairs)
+        → (listed.pkg.name ≡ name) × Any (λ (other : Pair). IsOf listed.pkg.name listed.pkg.version other.pkg) u.pairs
+    at true is same later = here is same
+    at false is same later = later same
+
+-- the stanza that an unpacking of a name takes has the name and is of an admitted pair
+taken_pair : (start : List Record) (u : Universe) → IsBuiltOn start u → (name version : List ℕ) (listed : Listed)
+    → listed_of u name version ≡ Some listed → (listed.pkg.name ≡ name) × HasPair u listed.pkg.name listed.pkg.version
+taken_pair start u built = listed_pair start u built u.pairs (λ pair there. there)
+
+-- what is unpacked is admissible, and so all stay
+admissible_unpack : (u : Universe) (listed : Listed) (db : List Record) → HasPair u listed.pkg.name listed.pkg.version
+    → All (IsAdmissible u) db → All (IsAdmissible u) (after_unpack listed db)
+admissible_unpack u listed db has all = at (list_any (is_named listed.pkg.name) db)
+  where
+    at : (b : Bool) → All (IsAdmissible u)
+        (cond b (changed (is_named listed.pkg.name) (unpacked_over listed) db) (db ++ unpacked_with listed None ∷ []))
+    at true = All-changed (IsAdmissible u) (is_named listed.pkg.name) (unpacked_over listed) db (λ found within is stands. has) all
+    at false = All-intro (IsAdmissible u) (db ++ unpacked_with listed None ∷ []) (λ found within.
+        elim (Contains-append_cases db (unpacked_with listed None ∷ []) found within) [
+          | inl there ↦ All-contains (IsAdmissible u) db found all there
+          | inr last ↦ elim (Contains-cons (unpacked_with listed None) [] found last) [
+            | inl same ↦ subst (IsAdmissible u) same (λ stands. has)
+            | inr none ↦ absurd (Contains-nil found none)
+          ]
+        ])
+
+-- an allowed step keeps all records admissible
+admissible_kept : (start : List Record) (u : Universe) → IsBuiltOn start u → (db : List Record) (taken : Step) → HasDistinctNames db
+    → Allowed u db taken → All (IsAdmissible u) db → All (IsAdmissible u) (after u db taken)
+unfolding Allowed AreConfigurable HasConfigurable
+admissible_kept start u built db (step.Unpack name version) distinct allowed all = at (listed_of u name version) refl
+  where
+    at : (listed : Option Listed) → listed_of u name version ≡ listed
+        → All (IsAdmissible u) (result_of listed (step.Unpack name version) db)
+    at None is = all
+    at (Some listed) is = admissible_unpack u listed db (taken_pair start u built name version listed is).1 all
+admissible_kept start u built db (step.Deconfigure name) distinct allowed all = All-changed (IsAdmissible u) (is_named name) deconfigured db
+    (λ found within is stands. All-contains (IsAdmissible u) db found all within
+    (installed_stands found (the_named IsInstalled db distinct name (allowed 0 rule.WrongState (lit< tt)) found within is)
+    (stands_sound (deconfigured found) stands))) all
+admissible_kept start u built db (step.Configure names) distinct allowed all = All-changed (IsAdmissible u) (is_among names) configured db
+    (λ found within is stands. All-contains (IsAdmissible u) db found all within
+    (configurable_stands found (the_record IsConfigurable db distinct found within
+    (All-contains (λ name. HasRecord IsConfigurable name db) names found.name (allowed 0 rule.WrongState (lit< tt))
+    (contains-is_among names found is))))) all
+admissible_kept start u built db (step.Remove name) distinct allowed all = All-changed (IsAdmissible u) (is_named name) removed db
+    (λ found within is stands. absurd (let e : false ≡ true = stands in cc)) all
+admissible_kept start u built db (step.Purge name) distinct allowed all = All-filter (λ found. not (is_named name found)) (IsAdmissible u) db all
+
+-- all records stay admissible along a run
+pub admissible_after_run : (start : List Record) (u : Universe) → IsBuiltOn start u → (db finish : List Record) (steps : List Step)
+    → HasDistinctNames db → All (IsAdmissible u) db → Run u db steps finish → All (IsAdmissible u) finish
+admissible_after_run start u built db finish [] distinct all run = subst (All (IsAdmissible u)) (sym run) all
+admissible_after_run start u built db finish (taken ∷ rest) distinct all run = admissible_after_run start u built (after u db taken) finish rest
+    (distinct_names_kept (listed_for u taken) taken db distinct) (admissible_kept start u built db taken distinct run.0 all) run.1
+
+-- the held package that stood at the start stands in its version
+abbrev pub StaysHeld : Record → Record → Type 0
+StaysHeld old found = (found.name ≡ old.name) × IsHeld found × Stands found × (found.version ≡ old.version)
+
+-- the held name has a record that stays
+held_name : (db : List Record) (old found : Record) → Contains db found → StaysHeld old found → HasRecord IsHeld old.name db
+held_name db old found within stays = Any-intro (λ r. (r.name ≡ old.name) × IsHeld r) db found within (stays.0, stays.1)
+
+-- a record of a held name isn't one of a name that isn't held
+isnt_unheld : (db : List Record) (name : List ℕ) → IsNotHeld db name → (old found : Record) → Contains db found → StaysHeld old found
+    → found.name ≢ name
+unfolding IsNotHeld
+isnt_unheld db name free old found within stays same =
+    free (subst (λ n. HasRecord IsHeld n db) (sym stays.0 ∙ same) (held_name db old found within stays))
+
+-- what stands still does once it is deconfigured or configured
+deconfigured_stays : (old found : Record) → StaysHeld old found → StaysHeld old (deconfigured found)
+deconfigured_stays old found stays = (stays.0, stays.1, rw (stands_sound found stays.2) refl, stays.3)
+
+configured_stays : (old found : Record) → StaysHeld old found → StaysHeld old (configured found)
+configured_stays old found stays = (stays.0, stays.1, rw (stands_sound found stays.2) refl, stays.3)
+
+held_unpack : (listed : Listed) (db : List Record) (old found : Record) → Contains db found → StaysHeld old found
+    → found.name ≢ listed.pkg.name → Any (StaysHeld old) (after_unpack listed db)
+held_unpack listed db old found within stays differ = at (list_any (is_named listed.pkg.name) db)
+  where
+    at : (b : Bool) → Any (StaysHeld old)
+        (cond b (changed (is_named listed.pkg.name) (unpacked_over listed) db) (db ++ unpacked_with listed None ∷ []))
+    at true = Any-changed (StaysHeld old) (is_named listed.pkg.name) (unpacked_over listed) db found within stays
+        (λ is. absurd (differ (bytes_eq-true found.name listed.pkg.name is)))
+    at false = Any-intro (StaysHeld old) (db ++ unpacked_with listed None ∷ []) found
+        (Contains-append_left db (unpacked_with listed None ∷ []) found within) stays
+
+-- an allowed step keeps a held package that stands
+held_kept : (start : List Record) (u : Universe) → IsBuiltOn start u → (db : List Record) (taken : Step) → Allowed u db taken
+    → (old found : Record) → Contains db found → StaysHeld old found → Any (StaysHeld old) (after u db taken)
+unfolding Allowed
+held_kept start u built db (step.Unpack name version) allowed old found within stays = at (listed_of u name version) refl
+  where
+    at : (listed : Option Listed) → listed_of u name version ≡ listed
+        → Any (StaysHeld old) (result_of listed (step.Unpack name version) db)
+    at None is = Any-intro (StaysHeld old) db found within stays
+    at (Some listed) is = held_unpack listed db old found within stays
+        (λ same. isnt_unheld db name (allowed 1 rule.Held (lit< tt)) old found within stays
+        (same ∙ (taken_pair start u built name version listed is).0))
+held_kept start u built db (step.Deconfigure name) allowed old found within stays = Any-changed (StaysHeld old) (is_named name) deconfigured
+    db found within stays (λ is. deconfigured_stays old found stays)
+held_kept start u built db (step.Configure names) allowed old found within stays = Any-changed (StaysHeld old) (is_among names) configured
+    db found within stays (λ is. configured_stays old found stays)
+held_kept start u built db (step.Remove name) allowed old found within stays = Any-changed (StaysHeld old) (is_named name) removed
+    db found within stays (λ is. absurd (isnt_unheld db name (allowed 1 rule.Held (lit< tt)) old found within stays
+    (bytes_eq-true found.name name is)))
+held_kept start u built db (step.Purge name) allowed old found within stays = Any-intro (StaysHeld old)
+    (filter (λ r. not (is_named name r)) db) found
+    (Contains-filter_intro (λ r. not (is_named name r)) db found within (passes (is_named name found) refl)) stays
+  where
+    passes : (b : Bool) → is_named name found ≡ b → not b ≡ true
+    passes true is = absurd (isnt_unheld db name (allowed 1 rule.Held (lit< tt)) old found within stays (bytes_eq-true found.name name is))
+    passes false is = refl
+
+-- a held package that stands does so along a run
+pub held_after_run : (start : List Record) (u : Universe) → IsBuiltOn start u → (db finish : List Record) (steps : List Step) (old : Record)
+    → Any (StaysHeld old) db → Run u db steps finish → Any (StaysHeld old) finish
+held_after_run start u built db finish [] old some run = subst (λ end. Any (StaysHeld old) end) (sym run) some
+held_after_run start u built db finish (taken ∷ rest) old some run = held_after_run start u built (after u db taken) finish rest old
+    (Any-elim (StaysHeld old) db (Any (StaysHeld old) (after u db taken))
+    (λ found within stays. held_kept start u built db taken run.0 old found within stays) some) run.1
+
+-- a record that isn't unfinished and stands is installed; one that is installed stands
+pub finished_installed : (found : Record) → ¬ IsUnfinished found → Stands found → IsInstalled found
+finished_installed found finished is = at found.state found.flag (λ unfinished. finished unfinished) is
+  where
+    at : (state : State) (flag : Flag)
+        → ¬ IsTrue (is_unfinished_state state || (not (is_sound_flag flag) && not (is_not_installed_state state)))
+        → IsTrue ((is_unconfigured_state state || is_installed_state state) && is_sound_flag flag) → IsTrue (is_installed_state state)
+    at NotInstalled flag done stands = absurd (let e : false ≡ true = stands in cc)
+    at ConfigFiles flag done stands = absurd (let e : false ≡ true = stands in cc)
+    at HalfInstalled flag done stands = absurd (done refl)
+    at Unpacked flag done stands = absurd (done refl)
+    at HalfConfigured flag done stands = absurd (done refl)
+    at Installed flag done stands = refl
+
+pub finished_stands : (found : Record) → ¬ IsUnfinished found → IsInstalled found → Stands found
+finished_stands found finished is = at found.state found.flag (λ unfinished. finished unfinished) is
+  where
+    sound : (flag : Flag) → (b : Bool) → is_sound_flag flag ≡ b → ¬ IsTrue (not (is_sound_flag flag) && true) → IsTrue (is_sound_flag flag)
+    sound flag true same done = same
+    sound flag false same done = absurd (done (rw same refl))
+
+    at : (state : State) (flag : Flag)
+        → ¬ IsTrue (is_unfinished_state state || (not (is_sound_flag flag) && not (is_not_installed_state state)))
+        → IsTrue (is_installed_state state) → IsTrue ((is_unconfigured_state state || is_installed_state state) && is_sound_flag flag)
+    at NotInstalled flag done installed = absurd (let e : false ≡ true = installed in cc)
+    at ConfigFiles flag done installed = absurd (let e : false ≡ true = installed in cc)
+    at HalfInstalled flag done installed = absurd (let e : false ≡ true = installed in cc)
+    at Unpacked flag done installed = absurd (let e : false ≡ true = installed in cc)
+    at HalfConfigured flag done installed = absurd (let e : false ≡ true = installed in cc)
+    at Installed flag done installed = sound flag (is_sound_flag flag) refl done

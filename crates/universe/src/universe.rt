@@ -1,0 +1,125 @@
+// What a plan and a refutation are judged by.
+
+ghost use Rattle.std.specs.Prelude.{◌≡◌, bytes_eq};
+ghost use Rattle.std.specs.List.{find};
+ghost use Rattle.std.specs.Option.{option_copied};
+ghost use Rattle.rules.specs.Universe.{candidate_of, listed_of};
+ghost use Rattle.universe.specs.Universe.{numbered};
+
+use crate::candidate::Candidate;
+use crate::pair::Pair;
+use crate::pairs::Pairs;
+use crate::start::Start;
+use debversion::Version;
+use index::Listed;
+use rules::Goal;
+use std::marker::Model;
+
+/// The admitted pairs and the goals of a request, both numbered from 1, with the facts of the start and the
+/// candidates.
+#[derive(Drop)]
+pub struct Universe<'a> {
+    pairs: Pairs<'a>,
+    goals: Vec<Goal>,
+    starts: Vec<Start<'a>>,
+    candidates: Vec<Candidate<'a>>,
+}
+
+impl<'a> Model for Universe<'a> {
+    ghost use Rattle.rules.specs.Universe.{Universe as UniverseValue};
+
+    ghost Value = { UniverseValue };
+
+    ghost view = { λ u. record {
+      pairs = u.pairs;
+      goals = u.goals.items;
+      starts = u.starts.items;
+      candidates = u.candidates.items;
+    } };
+}
+
+fn candidate_among<'p, 'a>(
+    candidates: &'p [Candidate<'a>],
+    name: &[u8],
+) -> Option<&'p Candidate<'a>>
+    ensures { option_copied result ≡ find (λ candidate. bytes_eq candidate.name name.now) candidates.now }
+{
+    candidates.iter().find(|candidate| candidate.name() == name)
+}
+
+impl<'a> Universe<'a> {
+    /// The universe of these pairs, goals, facts of the start and candidates.
+    pub fn new(
+        pairs: Pairs<'a>,
+        goals: Vec<Goal>,
+        starts: Vec<Start<'a>>,
+        candidates: Vec<Candidate<'a>>,
+    ) -> Universe<'a>
+        ensures { result ≡ record {
+          pairs = pairs.entry;
+          goals = goals.items;
+          starts = starts.entry.items;
+          candidates = candidates.entry.items;
+        } }
+    {
+        Universe {
+            pairs,
+            goals,
+            starts,
+            candidates,
+        }
+    }
+
+    /// The admitted pairs in order: the pair at place 0 has the number 1.
+    pub fn pairs(&self) -> &[Pair<'a>]
+        ensures { result.now ≡ self.now.pairs }
+    {
+        self.pairs.as_slice()
+    }
+
+    /// The goals in order: the goal at place 0 has the number 1.
+    pub fn goals(&self) -> &[Goal]
+        ensures { result.now ≡ self.now.goals }
+    {
+        self.goals.as_slice()
+    }
+
+    /// The facts of the start, in the order of the status file.
+    pub fn starts(&self) -> &[Start<'a>]
+        ensures { result.now ≡ self.now.starts }
+    {
+        self.starts.as_slice()
+    }
+
+    /// The candidates, one for each name that has one.
+    pub fn candidates(&self) -> &[Candidate<'a>]
+        ensures { result.now ≡ self.now.candidates }
+    {
+        self.candidates.as_slice()
+    }
+
+    /// The pair of this number, counted from 1.
+    pub fn pair(&self, number: u32) -> Option<&Pair<'a>>
+        ensures { option_copied result ≡ numbered number self.now.pairs }
+    {
+        let place = number.checked_sub(1)?;
+        self.pairs().get(place as usize)
+    }
+
+    /// The stanza of this version of the name, if the pair is admitted and in an index. Linear in the pairs.
+    pub fn listed_of(&self, name: &[u8], version: &Version<'_>) -> Option<&Listed<'a>>
+        ensures { option_copied result ≡ listed_of self.now name.now version.now }
+    {
+        self.pairs.listed_of(name, version)
+    }
+
+    /// The candidate's version, if the name has one. Linear in the candidates.
+    pub fn candidate(&self, name: &[u8]) -> Option<&Version<'a>>
+        ensures { option_copied result ≡ candidate_of self.now name.now }
+    {
+        match candidate_among(self.candidates.as_slice(), name) {
+            None => None,
+            Some(candidate) => Some(candidate.version()),
+        }
+    }
+}
