@@ -1,4 +1,7 @@
+pub mod DenoteLemmas
+pub mod IndicesLemmas
 pub mod MeaningLemmas
 pub mod PlacedLemmas
+pub mod SingleLemmas
 pub mod SourcesLemmas
 pub mod StatusLemmas

@@ -9,7 +9,6 @@ use Rattle.universe.specs.Build.{first_unknown, goals_of}
 use Rattle.universe.specs.Error.{IsBuilt, IsTooLarge, most_pairs}
 use Rattle.universe.specs.UniverseLaws.{OneListOfPairs}
 use Rattle.universe_request.specs.Request.{read_request}
-use Rattle.universe_request.specs.declared.error.RequestFault.{RequestFault}
 use Rattle.cli_engine.specs.Answer.{AdmitsTooMuch, AsksLater, Denotes, IsFault, IsFirstRefusal, IsRequestFault, IsRequested, NamesUnknown, listed_in}
 use Rattle.cli_engine.specs.Meaning.{AreAlike, HasOneMeaning, MeaningIsNotRefused}
 use Rattle.cli_engine.specs.Texts.{Texts, first_later_goal, status_fault, read_early_sources}
@@ -21,10 +20,14 @@ use Rattle.cli_engine.specs.declared.refusal.Place.TheVariants as place
 use Rattle.cli_engine.specs.declared.refusal.Refusal.{Refusal}
 use mathlib.Core.Logic.{inl, inr}
 
+-- a result has one value
+ok-same : {A E : Type 0} (x y : A) (r : Result A E) → r ≡ Ok x → r ≡ Ok y → x ≡ y
+ok-same x y r first second = let e = sym first ∙ second in cc
+
 -- one request is read as one list of goals
 one_lines : (arch text : List ℕ) (lines others : List GoalLine) → read_request arch text ≡ Ok lines → read_request arch text ≡ Ok others
     → lines ≡ others
-one_lines arch text lines others read also = let e : Ok {List GoalLine} {RequestFault} lines ≡ Ok others = sym read ∙ also in cc
+one_lines arch text lines others read also = ok-same lines others (read_request arch text) read also
 
 pub one_meaning : OneListOfPairs → HasOneMeaning
 one_meaning one texts u other start begin is also = (

@@ -23,6 +23,10 @@ use Rattle.std.proofs.lemmas.List.Elements.{All-contains}
 use Rattle.rules.specs.ElementLaws.{All-intro, Contains-cons, Contains-nil, Contains-head, Contains-rest}
 use mathlib.Core.Logic.{inl, inr}
 
+-- a result has one value
+ok-same : {A E : Type 0} (x y : A) (r : Result A E) → r ≡ Ok x → r ≡ Ok y → x ≡ y
+ok-same x y r first second = let e = sym first ∙ second in cc
+
 -- two names that are one but for case are alike to every other name
 same_name_alike : (name other third : List ℕ) → same_name name other ≡ true → same_name name third ≡ same_name other third
 same_name_alike name other third same = ap (λ bytes. bytes_eq bytes (map to_ascii_lowercase third))
@@ -60,11 +64,8 @@ early_source stanza source early read = at (value_named (codes "File") stanza.fi
 
     at : (file : Option (List ℕ)) → source_with stanza file ≡ Ok source → default_priority source.release ≡ pos 500
     at None is = absurd (let e : source_with stanza None ≡ Ok source = is in cc)
-    at (Some path) is = let same : source.release ≡ release_of stanza.fields = source_is (record { file = path; release = release_of stanza.fields }) is in
-        subst (λ release. default_priority release ≡ pos 500) (sym same) (rw usual refl)
-      where
-        source_is : (made : SourceText) → Ok {SourceText} {SourcesFault} made ≡ Ok source → source.release ≡ made.release
-        source_is made same = ap (λ (s : SourceText). s.release) (sym (let e : made ≡ source = cc in e))
+    at (Some path) is = subst (λ (made : SourceText). default_priority made.release ≡ pos 500)
+        (ok-same (record { file = path; release = release_of stanza.fields }) source (source_with stanza (Some path)) refl is) (rw usual refl)
 
 -- what holds of no element and of one
 All-nil : {X : Type 0} (P : X → Type 0) → All P []
@@ -102,12 +103,13 @@ early_sources_usual text sources read = at (has_later_keys text) refl (read_sour
     within true is early same = absurd (let e = same in cc)
     within false is early same = early_sources_in (items_of true text) sources early same
 
-    at : (later : Bool) → has_later_keys text ≡ later → (made : Result (List SourceText) SourcesFault) → read_sources text ≡ made
-        → unless_later (cond later (Some later.Sources) None) (with_fault fault.Sources made) ≡ Ok sources
+    at : (more : Bool) → has_later_keys text ≡ more → (made : Result (List SourceText) SourcesFault) → read_sources text ≡ made
+        → unless_later (cond more (Some later.Sources) None) (with_fault fault.Sources made) ≡ Ok sources
         → All (λ (source : SourceText). default_priority source.release ≡ pos 500) sources
-    at later is (Err refused) same read = absurd (let e = read in cc)
+    at more is (Err refused) same read = absurd (let e = read in cc)
     at true is (Ok made) same read = absurd (let e = read in cc)
-    at false is (Ok made) same read = within (nat_lt TEXT_BYTES (length text)) refl is (same ∙ read)
+    at false is (Ok made) same read = within (nat_lt TEXT_BYTES (length text)) refl is
+        (subst (λ (ss : List SourceText). read_sources text ≡ Ok ss) (ok-same {E = Fault} made sources (Ok made) refl read) same)
 
 -- the indices of such sources have the usual priority
 pub early_indices_usual : (arch : List ℕ) (sources : List SourceText) (texts : List (List ℕ))

@@ -83,29 +83,17 @@ pub record AsksLater (arch text : List ℕ) (listed : List Listed) (found : Late
 
 -- no universe of the goals is built for this fault
 abbrev pub IsBuildFault : List Listed → List GoalLine → Fault → Type 0
-IsBuildFault listed lines (fault.Stanza refused) = ⊥
-IsBuildFault listed lines (fault.Sources refused) = ⊥
-IsBuildFault listed lines (fault.Index refused) = ⊥
-IsBuildFault listed lines (fault.Request refused) = ⊥
 IsBuildFault listed lines (fault.UnknownName line) = first_unknown listed lines ≡ Some line
-IsBuildFault listed lines (fault.Plan refused) = ⊥
 IsBuildFault listed lines fault.TooLarge = (first_unknown listed lines ≡ None) × IsTooLarge listed (goals_of lines)
-IsBuildFault listed lines (fault.NotYet found) = ⊥
-IsBuildFault listed lines fault.Read = ⊥
-IsBuildFault listed lines fault.OutOfMemory = ⊤
+IsBuildFault listed lines other = ⊥
 
 -- the request has this fault
 abbrev pub IsRequestFault : List ℕ → List ℕ → List Listed → Fault → Type 0
-IsRequestFault arch text listed (fault.Stanza refused) = ⊥
-IsRequestFault arch text listed (fault.Sources refused) = ⊥
-IsRequestFault arch text listed (fault.Index refused) = ⊥
 IsRequestFault arch text listed (fault.Request refused) = read_request arch text ≡ Err refused
 IsRequestFault arch text listed (fault.UnknownName line) = NamesUnknown arch text listed line
-IsRequestFault arch text listed (fault.Plan refused) = ⊥
 IsRequestFault arch text listed fault.TooLarge = AdmitsTooMuch arch text listed
 IsRequestFault arch text listed (fault.NotYet found) = AsksLater arch text listed found
-IsRequestFault arch text listed fault.Read = ⊥
-IsRequestFault arch text listed fault.OutOfMemory = ⊤
+IsRequestFault arch text listed other = ⊥
 
 -- All texts
 

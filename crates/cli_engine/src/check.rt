@@ -1,6 +1,6 @@
 // A plan judged by texts, read in the order status, sources, indices, request and plan.
 
-ghost use Rattle.std.specs.Prelude.{◌≡◌, [], IfErr, IfOk, List, None};
+ghost use Rattle.std.specs.Prelude.{◌≡◌, ℕ, [], IfErr, IfOk, List};
 ghost use Rattle.index.specs.Sources.{SourceText};
 ghost use Rattle.cli_engine.specs.Answer.{AreRead, Denotes, IsAnswer, IsFirstRefusal, listed_in};
 ghost use Rattle.cli_engine.specs.Inputs.{AreJudged, texts_of};
@@ -30,7 +30,10 @@ fn read_stanzas<'a>(alloc: Global, inputs: &Inputs<'_, 'a>) -> Result<Vec<Listed
     if let Err(fault) = read_early_sources(alloc, inputs.sources) {
         return Err(refused_at(Place::Sources, fault));
     }
-    read_indices(alloc, inputs.indices, inputs.arch)
+    match read_indices(alloc, inputs.indices, inputs.arch) {
+        Ok(listed) => Ok(listed),
+        Err(refused) => Err(refused),
+    }
 }
 
 // The universe that the texts denote, where nothing is installed.
