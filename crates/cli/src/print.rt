@@ -1,0 +1,33 @@
+// Writing what is printed.
+ghost use Rattle.std.specs.Prelude.{◌≡◌};
+ghost use Rattle.cli.specs.Exit.{code_of};
+
+use crate::exit::Exit;
+use crate::outcome::Outcome;
+use std::io;
+use std::io::Write;
+
+/// Writes what is printed and gives the exit status. A failure to write on standard output is printed as E26 and
+/// has its own status; one to write on standard error changes nothing.
+pub(crate) fn print<W: Write, E: Write>(outcome: &Outcome, out: &mut W, err: &mut E) -> u8 {
+    match outcome {
+        Outcome::Answer(text, exit) => match write_whole(out, text.as_slice()) {
+            Ok(()) => exit.code(),
+            Err(_) => complain(err, b"debplan: output: E26 Write\n", Exit::Device),
+        },
+        Outcome::Complaint(text, exit) => complain(err, text.as_slice(), *exit),
+    }
+}
+
+/// Writes on standard error, as far as that can be, and gives the exit status.
+pub(crate) fn complain<E: Write>(err: &mut E, text: &[u8], exit: Exit) -> u8
+    ensures { result ≡ code_of exit }
+{
+    let _unwritten = write_whole(err, text);
+    exit.code()
+}
+
+fn write_whole<W: Write>(to: &mut W, text: &[u8]) -> io::Result<()> {
+    to.write_all(text)?;
+    to.flush()
+}

@@ -1,0 +1,6 @@
+mod answers;
+mod opening;
+mod refusals;
+mod streams;
+mod support;
+mod words;
