@@ -1,3 +1,4 @@
 pub mod Answer
+pub mod Inputs
 pub mod Reading
 pub mod Texts

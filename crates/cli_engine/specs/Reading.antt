@@ -18,25 +18,32 @@ unless_later found (Err refused) = Err refused
 unless_later None (Ok read) = Ok read
 unless_later (Some found) (Ok read) = Err (fault.NotYet found)
 
--- a reading, refused where there is a fault besides
-abbrev pub unless_fault : {A : Type 0} → Option Fault → Result A Fault → Result A Fault
-unless_fault found (Err refused) = Err refused
-unless_fault None (Ok read) = Ok read
-unless_fault (Some found) (Ok read) = Err found
+-- the fault is one of these, or want of memory
+abbrev pub OrMemory : (Fault → Type 0) → Fault → Type 0
+OrMemory Is found = (found ≡ fault.OutOfMemory) ⊎ Is found
 
 -- the fault is that of this reading, or want of memory
 abbrev pub IsFaultOf : {A : Type 0} → Result A Fault → Fault → Type 0
-IsFaultOf read found = (found ≡ fault.OutOfMemory) ⊎ (read ≡ Err found)
-
--- the refusal of a reading of the text at this place, if it is refused
-abbrev pub refusal_at : {A : Type 0} → Place → Result A Fault → Option Refusal
-refusal_at where_ (Ok read) = None
-refusal_at where_ (Err refused) = Some (record { place = where_; fault = refused })
+IsFaultOf read found = OrMemory (λ refused. read ≡ Err refused) found
 
 -- the refusal for want of memory
 abbrev pub out_of_memory : Refusal
 out_of_memory = record { place = place.Memory; fault = fault.OutOfMemory }
 
--- the refusal is this one, or want of memory
-abbrev pub IsRefusalOf : Option Refusal → Refusal → Type 0
-IsRefusalOf found refused = (refused ≡ out_of_memory) ⊎ (found ≡ Some refused)
+-- a fault of the text at this place as a refusal; of no text, where memory was wanting
+abbrev pub refusal_of : Place → Fault → Refusal
+refusal_of where_ (fault.Stanza refused) = record { place = where_; fault = fault.Stanza refused }
+refusal_of where_ (fault.Sources refused) = record { place = where_; fault = fault.Sources refused }
+refusal_of where_ (fault.Index refused) = record { place = where_; fault = fault.Index refused }
+refusal_of where_ (fault.Request refused) = record { place = where_; fault = fault.Request refused }
+refusal_of where_ (fault.UnknownName line) = record { place = where_; fault = fault.UnknownName line }
+refusal_of where_ (fault.Plan refused) = record { place = where_; fault = fault.Plan refused }
+refusal_of where_ fault.TooLarge = record { place = where_; fault = fault.TooLarge }
+refusal_of where_ (fault.NotYet found) = record { place = where_; fault = fault.NotYet found }
+refusal_of where_ fault.Read = record { place = where_; fault = fault.Read }
+refusal_of where_ fault.OutOfMemory = out_of_memory
+
+-- the refusal of a reading of the text at this place, if it is refused
+abbrev pub refusal_at : {A : Type 0} → Place → Result A Fault → Option Refusal
+refusal_at where_ (Ok read) = None
+refusal_at where_ (Err refused) = Some (refusal_of where_ refused)

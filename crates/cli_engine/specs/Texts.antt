@@ -8,7 +8,6 @@ use Rattle.index.specs.Index.{IndexValue, read_index}
 use Rattle.index.specs.Later.{has_later_keys, later_field}
 use Rattle.index.specs.Sources.{SourceText, read_sources}
 use Rattle.plantext.specs.Plan.{read_plan}
-use Rattle.rules.specs.Step.{Listed}
 use Rattle.rules.specs.declared.goal.Goal.{Goal}
 use Rattle.rules.specs.declared.goal.Goal.TheVariants as goal
 use Rattle.rules.specs.declared.goal.GoalLine.{GoalLine}
@@ -17,9 +16,7 @@ use Rattle.rules.specs.declared.step.Step.{Step}
 use Rattle.rules.specs.declared.step.Step.TheVariants as step
 use Rattle.stanza.specs.Stanza.{StanzaText, items_of}
 use Rattle.stanza.specs.declared.error.StanzaError.{StanzaError}
-use Rattle.universe.specs.Build.{universe_fault}
-use Rattle.universe_request.specs.Request.{read_request}
-use Rattle.cli_engine.specs.Reading.{with_fault, unless_later, unless_fault}
+use Rattle.cli_engine.specs.Reading.{with_fault, unless_later}
 use Rattle.cli_engine.specs.declared.refusal.Fault.{Fault}
 use Rattle.cli_engine.specs.declared.refusal.Fault.TheVariants as fault
 use Rattle.cli_engine.specs.declared.refusal.Later.{Later}
@@ -87,20 +84,6 @@ later_goal goal.NoRemove = Some later.NoRemove
 abbrev pub first_later_goal : List GoalLine → Option Later
 first_later_goal [] = None
 first_later_goal (line ∷ lines) = option_or (later_goal line.goal) (first_later_goal lines)
-
--- the fault of goals that the stanzas of the indices don't answer, or that aren't judged yet
-abbrev pub goals_fault : List Listed → List GoalLine → Option Fault
-goals_fault listed lines =
-    option_or (option_map fault.Universe (universe_fault listed lines)) (option_map fault.NotYet (first_later_goal lines))
-
--- the goals, unless they have a fault
-abbrev pub unless_goals_fault : List Listed → Result (List GoalLine) Fault → Result (List GoalLine) Fault
-unless_goals_fault listed (Err refused) = Err refused
-unless_goals_fault listed (Ok lines) = unless_fault (goals_fault listed lines) (Ok lines)
-
--- what a request is read as, with these stanzas of the indices
-unfoldable pub read_early_request : List ℕ → List Listed → List ℕ → Result (List GoalLine) Fault
-read_early_request arch listed text = unless_goals_fault listed (with_fault fault.Request (read_request arch text))
 
 -- The plan
 

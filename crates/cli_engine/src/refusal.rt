@@ -1,11 +1,13 @@
 // Why a text was refused, and what is printed of it.
 
+ghost use Rattle.std.specs.Prelude.{◌≡◌, Some};
+ghost use Rattle.cli_engine.specs.Reading.{out_of_memory, refusal_of};
+
 use index::{IndexFault, LaterField, SourcesFault};
 use plantext::PlanFault;
 use stanza::StanzaError;
-use std::fmt;
+use std::alloc::AllocError;
 use thiserror::Error;
-use universe::UniverseFault;
 use universe_request::RequestFault;
 
 /// The text that is refused.
@@ -81,13 +83,13 @@ pub enum Fault {
     /// The request is refused.
     #[error("{0}")]
     Request(RequestFault),
-    /// The request names what isn't there, or admits too much.
-    #[error("{0}")]
-    Universe(UniverseFault),
+    /// The goal of this line of the request names a package that nothing has.
+    #[error("E17 UnknownName {0}")]
+    UnknownName(usize),
     /// The plan is refused.
     #[error("{0}")]
     Plan(PlanFault),
-    /// A text of more bytes than are read.
+    /// A text of more bytes than are read, or a request that admits more pairs than are kept.
     #[error("E10 TooLarge")]
     TooLarge,
     /// The text is accepted, but has what isn't judged yet.
@@ -109,4 +111,28 @@ pub struct Refusal {
     pub place: Place,
     /// What is wrong with it.
     pub fault: Fault,
+}
+
+/// The refusal of the text at this place; where memory was wanting, no text is refused.
+pub(crate) fn refused_at(place: Place, fault: Fault) -> Refusal
+    ensures { result ≡ refusal_of place fault }
+{
+    match fault {
+        Fault::OutOfMemory => Refusal {
+            place: Place::Memory,
+            fault,
+        },
+        _ => Refusal { place, fault },
+    }
+}
+
+impl From<AllocError> for Refusal {
+    ghost from_gives = { λ _ e. e ≡ out_of_memory };
+
+    fn from(_e: AllocError) -> Refusal {
+        Refusal {
+            place: Place::Memory,
+            fault: Fault::OutOfMemory,
+        }
+    }
 }

@@ -3,27 +3,18 @@
 ghost use Rattle.std.specs.Prelude.{◌≡◌, IfOk, MatchOption};
 ghost use Rattle.std.specs.List.{All};
 ghost use Rattle.rules.specs.Database.{HasDistinctNames};
-ghost use Rattle.rules.specs.Run.{HasNothingAgainst, IsFirstAgainst, Run, StopsAt};
+ghost use Rattle.rules.specs.Run.{Run, StopsAt};
 ghost use Rattle.rules.specs.Verdict.{IsBuiltOn, IsVerdict};
 ghost use Rattle.plancheck.specs.End.{IsEndVerdict};
 ghost use Rattle.plancheck.specs.Single.{IsSingle};
 
 use crate::quiet::is_quiet;
 use crate::step::{apply, legal};
+use plancheck_end::first_against;
 use rules::{Rule, Step, Verdict, good_where_nothing_is_against};
 use status::{PackageRecord, try_copy};
 use std::alloc::{AllocError, Global};
 use universe::Universe;
-
-fn first_against(
-    alloc: Global,
-    universe: &Universe<'_>,
-    db: &[PackageRecord<'_, '_>],
-) -> Result<Option<rules::Reason>, AllocError>
-    ensures { IfOk result (λ found. MatchOption found (HasNothingAgainst universe.now db.now) (λ first. IsFirstAgainst universe.now db.now first)) }
-{
-    Ok(None)
-}
 
 // The number of the step that isn't allowed when its turn comes, and the first rule that it fails. Where every
 // step is allowed, the records are left as the steps leave them.
@@ -81,6 +72,9 @@ pub fn check_plan<'p, 'a>(
     let mut db = try_copy(alloc, start)?;
     match run(&mut db, universe, steps)? {
         Some((number, rule)) => Ok(Verdict::Step(number, rule)),
-        None => end_verdict(alloc, universe, db.as_slice()),
+        None => {
+            let verdict = end_verdict(alloc, universe, db.as_slice())?;
+            Ok(verdict)
+        }
     }
 }

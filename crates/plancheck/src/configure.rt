@@ -8,7 +8,7 @@ ghost use Rattle.rules.specs.Package.{BreaksOther, MatchesSome, MeetsClause};
 ghost use Rattle.rules.specs.Sound.{MeetsClauses};
 ghost use Rattle.rules.specs.Step.{is_among};
 
-use crate::matching::{breaks_other, is_same, matches_some};
+use plancheck_end::{are_met, breaks_other, is_met, is_same, matches_some};
 use relation::{Clause, Pkg};
 use rules::Name;
 use status::PackageRecord;
@@ -48,37 +48,6 @@ fn is_member(names: &[Name], found: &PackageRecord<'_, '_>) -> bool
     ensures { IsTrue result ↔ Contains names.now found.now.name }
 {
     is_among(names, found)
-}
-
-// Whether the record is installed and matches the clause.
-fn matches_installed(found: &PackageRecord<'_, '_>, clause: &Clause<'_>) -> bool
-    ensures { IsTrue result ↔ (IsInstalled found.now × MatchesSome (pkg_of found.now) clause.now) }
-{
-    match found.present_pkg() {
-        Some(there) if found.state().is_installed() => matches_some(there, clause.as_slice()),
-        _ => false,
-    }
-}
-
-fn some_matches_installed(db: &[PackageRecord<'_, '_>], clause: &Clause<'_>) -> bool
-    ensures { IsTrue result
-        ↔ Any (λ found. IsInstalled found × MatchesSome (pkg_of found) clause.now) db.now }
-{
-    db.iter().any(|found| matches_installed(found, clause))
-}
-
-// Whether an installed package matches the clause.
-fn is_met(db: &[PackageRecord<'_, '_>], clause: &Clause<'_>) -> bool
-    ensures { IsTrue result ↔ MeetsClause (installed_of db.now) clause.now }
-{
-    some_matches_installed(db, clause)
-}
-
-#[tactic(auto, unfolding(rules::specs::Sound::MeetsClauses))]
-fn are_met(db: &[PackageRecord<'_, '_>], clauses: &[Clause<'_>]) -> bool
-    ensures { IsTrue result ↔ MeetsClauses (installed_of db.now) clauses.now }
-{
-    clauses.iter().all(|clause| is_met(db, clause))
 }
 
 // Whether the record isn't of these names, or its Pre-Depends are met by installed packages.

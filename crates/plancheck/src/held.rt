@@ -7,8 +7,8 @@ ghost use Rattle.rules.specs.Legal.{IsNotHeld};
 ghost use Rattle.rules.specs.Universe.{StandsAs};
 ghost use Rattle.rules.specs.Version.{SameVersion};
 
-use crate::matching::is_same;
 use debversion::Version;
+use plancheck_end::is_same;
 use status::PackageRecord;
 
 fn is_held_name(found: &PackageRecord<'_, '_>, name: &[u8]) -> bool

@@ -5,7 +5,7 @@ ghost use Rattle.std.specs.List.{All};
 ghost use Rattle.rules.specs.Database.{IsAtPeaceWith, IsPresent, IsQuiet, pkg_of};
 ghost use Rattle.rules.specs.Package.{ConflictsWith};
 
-use crate::matching::{conflicts_with, is_same};
+use plancheck_end::{conflicts_with, is_same};
 use relation::Pkg;
 use status::PackageRecord;
 

@@ -6,7 +6,7 @@ ghost use Rattle.rules.specs.Database.{ForOthers, HasRecord, HasSoundFlag, IsEss
 ghost use Rattle.rules.specs.Package.{MatchesSome};
 ghost use Rattle.rules.specs.Remove.{IsExpendable, IsNotNeeded, ManagesWithout, NeedsNot};
 
-use crate::matching::{is_same, matches_some};
+use plancheck_end::{is_same, matches_some};
 use relation::{Clause, Pkg};
 use status::PackageRecord;
 

@@ -9,6 +9,7 @@ ghost use Rattle.rules.specs.Run.{after};
 ghost use Rattle.rules.specs.Step.{after_unpack};
 ghost use Rattle.rules.specs.Universe.{listed_of};
 ghost use Rattle.rules.specs.VersionFault.{first_fault};
+ghost use Rattle.rules.specs.declared.step.Step.TheVariants.{Remove, Unpack};
 ghost use Rattle.plancheck.specs.Single.{IsSingle};
 
 use crate::table::{
@@ -31,6 +32,31 @@ fn version_of(text: &VersionText) -> Version<'_>
     }
 }
 
+// The first rule that an unpacking of the version fails.
+#[tactic(auto, unfolding(rules::specs::Legal::Allowed, rules::specs::Legal::IsFirstFailing))]
+fn unpack_stop(
+    db: &[PackageRecord<'_, '_>],
+    universe: &Universe<'_>,
+    name: &Name,
+    version: &VersionText,
+) -> Option<Rule>
+    ensures { MatchOption result (Allowed universe.now db.now (Unpack name.now version.now))
+        (λ rule. IsFirstFailing universe.now db.now (Unpack name.now version.now) rule) }
+{
+    let version = version_of(version);
+    let listed = universe.listed_of(name.as_bytes(), &version);
+    unpack_failing(db, listed, name.as_bytes(), &version)
+}
+
+// The first rule that a removal of the name fails.
+#[tactic(auto, unfolding(rules::specs::Legal::Allowed, rules::specs::Legal::IsFirstFailing))]
+fn remove_stop(db: &[PackageRecord<'_, '_>], universe: &Universe<'_>, name: &Name) -> Option<Rule>
+    ensures { MatchOption result (Allowed universe.now db.now (Remove name.now))
+        (λ rule. IsFirstFailing universe.now db.now (Remove name.now) rule) }
+{
+    remove_failing(db, name.as_bytes())
+}
+
 /// The first rule that the step fails, if there is one. The cost is that of the action's rules.
 #[tactic(auto, unfolding(rules::specs::Legal::Allowed, rules::specs::Legal::IsFirstFailing, crate::specs::Single::IsSingle))]
 pub fn legal(db: &[PackageRecord<'_, '_>], universe: &Universe<'_>, step: &Step) -> Option<Rule>
@@ -39,14 +65,10 @@ pub fn legal(db: &[PackageRecord<'_, '_>], universe: &Universe<'_>, step: &Step)
         (λ rule. IsFirstFailing universe.now db.now step.now rule) }
 {
     match step {
-        Step::Unpack(name, version) => {
-            let version = version_of(version);
-            let listed = universe.listed_of(name.as_bytes(), &version);
-            unpack_failing(db, listed, name.as_bytes(), &version)
-        }
+        Step::Unpack(name, version) => unpack_stop(db, universe, name, version),
         Step::Deconfigure(name) => deconfigure_failing(db, name.as_bytes()),
         Step::Configure(names) => configure_failing(db, names),
-        Step::Remove(name) => remove_failing(db, name.as_bytes()),
+        Step::Remove(name) => remove_stop(db, universe, name),
         Step::Purge(name) => purge_failing(db, name.as_bytes()),
     }
 }

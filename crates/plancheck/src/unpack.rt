@@ -6,8 +6,8 @@ ghost use Rattle.rules.specs.Database.{ForOthers, IsInstalled, IsPresent, SomeOt
 ghost use Rattle.rules.specs.Package.{BreaksOther, Matches};
 ghost use Rattle.rules.specs.Unpack.{BreaksNone, FitsFromBefore, FitsThenAndNow, HasNoConflict, HasPreDepends, IsCompatible, IsSatisfied, SatisfiesAtom};
 
-use crate::matching::{breaks_other, conflicts_with, is_same};
 use debversion::Version;
+use plancheck_end::{breaks_other, conflicts_with, is_same};
 use relation::{Atom, Clause, Pkg};
 use status::PackageRecord;
 

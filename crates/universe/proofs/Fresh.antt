@@ -66,12 +66,12 @@ usual_origin indices goals name usual found within named =
     let there = stanza_index indices found within in
     let index : Index = there.0 in
     let kept = Contains-filter_intro (λ (index : Index). list_any (λ (listed : Listed). is_of name version listed.pkg) index.listed) indices index there.1
-            (list_any-from_contains (λ (listed : Listed). is_of name version listed.pkg) index.listed found there.2
-            (is_of-from name version found.pkg (named, SameVersion-refl version))) in
+    (list_any-from_contains (λ (listed : Listed). is_of name version listed.pkg) index.listed found there.2
+    (is_of-from name version found.pkg (named, SameVersion-refl version))) in
     let origin = Contains-map_intro index_origin (indices_with indices name version) index kept in
     let given = Contains-map_intro (origin_priority inputs version) (index_origins indices name version) (index_origin index) origin in
     subst (Contains (map (origin_priority inputs version) (index_origins indices name version)))
-        (All-contains (λ (index : Index). default_priority index.release ≡ pos 500) indices index usual there.1) given
+    (All-contains (λ (index : Index). default_priority index.release ≡ pos 500) indices index usual there.1) given
 
 -- the usual priority is the greatest for a stanza's version
 usual_greatest : (indices : List Index) (goals : List Goal) (name : List ℕ) → AreUsual indices → (found : Listed)
@@ -151,12 +151,15 @@ pub IsCandidate-is : (indices : List Index) (goals : List Goal) (name version : 
     → (found : Listed) × (index_package indices name version ≡ Some found) × NoneHigher indices name version
 unfolding IsUpTo
 IsCandidate-is indices goals name version usual priority candidate =
-    let at = IsEligible-is indices goals name version usual priority candidate.eligible in
-    (at.0, at.1, λ other found is above.
-    elim (candidate.greatest other (pos 500) (IsEligible-usual indices goals name other usual found is)) [
-      | inl below ↦ absurd (let e : priority ≡ pos 500 = at.2 in omega (arith, ints))
-      | inr alike ↦ alike.1 above
-    ])
+    let at = IsEligible-is indices goals name version usual priority candidate.eligible in (
+      at.0,
+      at.1,
+      λ other found is above.
+          elim (candidate.greatest other (pos 500) (IsEligible-usual indices goals name other usual found is)) [
+            | inl below ↦ absurd (let e : priority ≡ pos 500 = at.2 in omega (arith, ints))
+            | inr alike ↦ alike.1 above
+          ],
+    )
 
 -- where nothing stands, what is offered is admitted, and nothing else
 pub IsAdmitted-is : (indices : List Index) (goals : List Goal) (name version : List ℕ)

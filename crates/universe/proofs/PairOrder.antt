@@ -21,13 +21,9 @@ use Rattle.rules.specs.Step.{Listed, no_relations}
 use Rattle.rules.specs.Universe.{IsOf, Pair, pair_cmp}
 use Rattle.rules.specs.Version.{SameVersion, version_cmp}
 use Rattle.rules.specs.VersionOrderLaws.{version_cmp_total, version_cmp-same_left}
+use Rattle.universe.specs.PairLaws.{pair_cmp_total}
 use Rattle.universe.specs.Choice.{IsOrdered, listed_pair}
 use Rattle.universe.proofs.Finding.{find-dedup, find-filter, find-map, first_of_all}
-
-pub pair_cmp_total : IsTotalOrder pair_cmp
-pair_cmp_total = then_total
-    (on_total (λ (pair : Pair). pair.pkg.name) nat_list_cmp_total)
-    (on_total (λ (pair : Pair). pair.pkg.version) version_cmp_total)
 
 -- the test of a name and a version says just this
 pub is_of-parts : (name version : List ℕ) (pkg : Pkg) → is_of name version pkg ≡ true → IsOf name version pkg
@@ -40,7 +36,7 @@ is_of-from name version pkg of = and_from (bytes_eq pkg.name name) (same_version
     (bytes_eq-same pkg.name name of.0) ((Equal-is (version_cmp pkg.version version)).1 of.1)
 
 -- two orders in a row tie where both tie
-is_eq-then : (o w : Ordering) → is_eq (ordering_then o w) ≡ (is_eq o && is_eq w)
+pub is_eq-then : (o w : Ordering) → is_eq (ordering_then o w) ≡ (is_eq o && is_eq w)
 is_eq-then Less w = refl
 is_eq-then Equal w = refl
 is_eq-then Greater w = refl

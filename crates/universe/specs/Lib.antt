@@ -1,4 +1,6 @@
 pub mod Build
 pub mod Choice
+pub mod Error
 pub mod Pair
+pub mod PairLaws
 pub mod Universe

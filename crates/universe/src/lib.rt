@@ -3,13 +3,20 @@
 // pairs are admitted. The main type is `Universe`.
 #![tactic(auto)]
 
+mod built;
 mod candidate;
+mod choice;
+mod error;
+mod exact;
+mod order;
 mod pair;
 mod pairs;
 mod start;
 mod universe;
 
+pub use built::build;
 pub use candidate::Candidate;
+pub use error::UniverseError;
 pub use index::Listed;
 pub use pair::Pair;
 pub use pairs::Pairs;

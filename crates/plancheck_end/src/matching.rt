@@ -7,7 +7,7 @@ ghost use Rattle.rules.specs.Package.{BreaksOther, ConflictsWith, FitsByProvides
 use relation::{Atom, Pkg};
 
 /// Whether two names or texts are equal.
-pub(crate) fn is_same(text: &[u8], other: &[u8]) -> bool
+pub fn is_same(text: &[u8], other: &[u8]) -> bool
     ensures { IsTrue result ↔ (text.now ≡ other.now) }
 {
     text == other
@@ -15,7 +15,7 @@ pub(crate) fn is_same(text: &[u8], other: &[u8]) -> bool
 
 /// Whether the package matches an atom of the list. Linear in the atoms and in what the package provides.
 #[tactic(auto, unfolding(rules::specs::Package::MatchesSome))]
-pub(crate) fn matches_some(pkg: &Pkg<'_>, atoms: &[Atom<'_>]) -> bool
+pub fn matches_some(pkg: &Pkg<'_>, atoms: &[Atom<'_>]) -> bool
     ensures { IsTrue result ↔ MatchesSome pkg.now atoms.now }
 {
     atoms.iter().any(|atom| atom.matched_by(pkg))
@@ -23,7 +23,7 @@ pub(crate) fn matches_some(pkg: &Pkg<'_>, atoms: &[Atom<'_>]) -> bool
 
 /// Whether the first package conflicts with the second.
 #[tactic(auto, unfolding(rules::specs::Package::ConflictsWith))]
-pub(crate) fn conflicts_with(pkg: &Pkg<'_>, other: &Pkg<'_>) -> bool
+pub fn conflicts_with(pkg: &Pkg<'_>, other: &Pkg<'_>) -> bool
     ensures { IsTrue result ↔ ConflictsWith pkg.now other.now }
 {
     matches_some(other, pkg.conflicts())
@@ -31,7 +31,7 @@ pub(crate) fn conflicts_with(pkg: &Pkg<'_>, other: &Pkg<'_>) -> bool
 
 /// Whether the first package breaks the second.
 #[tactic(auto, unfolding(rules::specs::Package::BreaksOther))]
-pub(crate) fn breaks_other(pkg: &Pkg<'_>, other: &Pkg<'_>) -> bool
+pub fn breaks_other(pkg: &Pkg<'_>, other: &Pkg<'_>) -> bool
     ensures { IsTrue result ↔ BreaksOther pkg.now other.now }
 {
     matches_some(other, pkg.breaks())

@@ -1,0 +1,90 @@
+// The request, of whose goals today those to install are judged, and the universe that it is answered from.
+
+ghost use Rattle.std.specs.Prelude.{◌≡◌, IfErr, IfOk, List, Ok};
+ghost use Rattle.rules.specs.declared.goal.GoalLine.{GoalLine as LineOf};
+ghost use Rattle.universe.specs.Error.{IsBuilt};
+ghost use Rattle.cli_engine.specs.Answer.{IsBuildFault, IsRequestFault, IsRequested};
+ghost use Rattle.cli_engine.specs.Reading.{IsFaultOf, OrMemory, with_fault};
+ghost use Rattle.cli_engine.specs.Texts as Spec;
+ghost use Rattle.cli_engine.specs.declared.refusal.Fault.TheVariants as fault;
+ghost use Rattle.universe_request.specs.Request as Read;
+
+use crate::refusal::{Fault, Later};
+use index::Listed;
+use rules::{Goal, GoalLine};
+use std::alloc::Global;
+use universe::{Universe, UniverseError, build};
+use universe_request::{Request, RequestError, RequestFault};
+
+fn goals_in(alloc: Global, text: &[u8], arch: &[u8]) -> Result<Vec<GoalLine>, Fault>
+    ensures ok { IfOk result (λ goals. with_fault fault.Request (Read.read_request arch.now text.now) ≡ Ok goals.items) }
+    ensures err { IfErr result (λ f. IsFaultOf (with_fault fault.Request (Read.read_request arch.now text.now)) f) }
+{
+    match Request::read(alloc, text, arch) {
+        Ok(request) => Ok(request.into_vec()),
+        Err(RequestError::BadRequest(line)) => Err(Fault::Request(RequestFault::BadRequest(line))),
+        Err(RequestError::TooLarge) => Err(Fault::Request(RequestFault::TooLarge)),
+        Err(RequestError::OutOfMemory) => Err(Fault::OutOfMemory),
+    }
+}
+
+fn later_goal(goal: &Goal) -> Option<Later>
+    ensures { result ≡ Spec.later_goal goal.now }
+{
+    match goal {
+        Goal::Install(_, _) => None,
+        Goal::Remove(_) => Some(Later::Remove),
+        Goal::Purge(_) => Some(Later::Purge),
+        Goal::Upgrade(_) => Some(Later::Upgrade),
+        Goal::UpgradeAll => Some(Later::UpgradeAll),
+        Goal::NoRemove => Some(Later::NoRemove),
+    }
+}
+
+fn first_later_goal(lines: &[GoalLine]) -> Option<Later>
+    ensures { result ≡ Spec.first_later_goal lines.now }
+{
+    for line in lines {
+        if let Some(found) = later_goal(&line.goal) {
+            return Some(found);
+        }
+    }
+    None
+}
+
+// Builds the universe of the goals.
+fn built<'a>(
+    alloc: Global,
+    listed: Vec<Listed<'a>>,
+    lines: Vec<GoalLine>,
+) -> Result<Universe<'a>, Fault>
+    ensures ok { IfOk result (λ u. IsBuilt listed.entry.items lines.items u) }
+    ensures err { IfErr result (λ f. OrMemory (IsBuildFault listed.entry.items lines.items) f) }
+{
+    match build(alloc, listed, lines) {
+        Ok(universe) => Ok(universe),
+        Err(UniverseError::UnknownName(line)) => Err(Fault::UnknownName(line)),
+        Err(UniverseError::TooLarge) => Err(Fault::TooLarge),
+        Err(UniverseError::OutOfMemory) => Err(Fault::OutOfMemory),
+    }
+}
+
+/// The universe that the request is answered from, over these stanzas of the indices; goals other than to install
+/// are refused today, after every other refusal of the text.
+pub(crate) fn read_request<'a>(
+    alloc: Global,
+    listed: Vec<Listed<'a>>,
+    text: &[u8],
+    arch: &[u8],
+) -> Result<Universe<'a>, Fault>
+    ensures ok { IfOk result (λ u. (lines : List LineOf) × IsRequested arch.now text.now listed.entry.items lines u) }
+    ensures err { IfErr result (λ f. OrMemory (IsRequestFault arch.now text.now listed.entry.items) f) }
+{
+    let lines = goals_in(alloc, text, arch)?;
+    let later = first_later_goal(lines.as_slice());
+    let universe = built(alloc, listed, lines)?;
+    match later {
+        None => Ok(universe),
+        Some(later) => Err(Fault::NotYet(later)),
+    }
+}

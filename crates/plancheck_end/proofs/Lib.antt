@@ -1,0 +1,4 @@
+pub mod EndLemmas
+pub mod GoalLemmas
+pub mod InstalledLemmas
+pub mod LeastLemmas

@@ -1,0 +1,11 @@
+-- The installed packages are those of the installed records.
+use Rattle.std.proofs.Common.{◌≡◌}
+use Rattle.rules.specs.Package.{Pkg, Meets}
+use Rattle.plancheck_end.proofs.InstalledLemmas.{some_installed, installed_some}
+use Rattle.plancheck_end.proofs.goal.has_installed.Goals as goal
+
+pub returns : goal.returns
+returns c = let P : Pkg → Type 0 = λ member. (member.name ≡ c.args.name.now) × Meets member.version c.args.restriction.now in (
+  λ there. some_installed P c.args.db.now (c.some_is_asked_for.ensures.0 there),
+  λ has. c.some_is_asked_for.ensures.1 (installed_some P c.args.db.now has),
+)

@@ -1,0 +1,10 @@
+-- The least name so far.
+use Rattle.std.proofs.Common.{take}
+use Rattle.std.specs.Option.{option_copied}
+use Rattle.rules.specs.Database.{Record, IsUnfinished}
+use Rattle.plancheck_end.specs.Least.{IsLeastWithout}
+use Rattle.plancheck_end.proofs.least.least_unfinished.Given as goal
+
+abbrev pub invariant-loop-found : goal.invariant-loop-found
+invariant-loop-found l = IsLeastWithout (λ (found : Record). ¬ IsUnfinished found) (λ (found : Record). found.name)
+    (take l.found-index l.db) (option_copied l.least)

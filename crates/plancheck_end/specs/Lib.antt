@@ -1,0 +1,2 @@
+pub mod FirstGoal
+pub mod Least

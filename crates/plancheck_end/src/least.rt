@@ -1,0 +1,94 @@
+// The least name that is unfinished, discontent or lost, in one pass each.
+
+ghost use Rattle.std.specs.Prelude.{◌≡◌, ◌↔◌, IsTrue};
+ghost use Rattle.std.specs.Option.{option_copied};
+ghost use Rattle.rules.specs.Database.{IsInstalled, IsUnfinished, installed_of, pkg_of};
+ghost use Rattle.rules.specs.Sound.{IsContent, KeepsEssential};
+ghost use Rattle.plancheck_end.specs.Least.{IsLeastWithout, least_with, lesser};
+
+use crate::content::is_content;
+use crate::installed::has_member;
+use status::PackageRecord;
+use std::cmp::Ordering;
+use universe::Start;
+
+fn lesser<'n>(name: &'n [u8], least: &'n [u8]) -> &'n [u8]
+    ensures { result.now ≡ lesser name.now least.now }
+{
+    match name.cmp(least) {
+        Ordering::Less => name,
+        _ => least,
+    }
+}
+
+// The least name with that of one more item, which doesn't count where the item is fine.
+fn least_with<'n>(least: Option<&'n [u8]>, is_fine: bool, name: &'n [u8]) -> Option<&'n [u8]>
+    ensures { option_copied result ≡ least_with (option_copied least.entry) is_fine name.now }
+{
+    match least {
+        _ if is_fine => least,
+        None => Some(name),
+        Some(least) => Some(lesser(name, least)),
+    }
+}
+
+fn is_finished(found: &PackageRecord<'_, '_>) -> bool
+    ensures { IsTrue result ↔ (¬ IsUnfinished found.now) }
+{
+    !found.is_unfinished()
+}
+
+/// The least name that is half-installed, unpacked, half-configured or to be installed again, if there is one.
+/// Linear in the records.
+pub fn least_unfinished<'a>(db: &[PackageRecord<'_, 'a>]) -> Option<&'a [u8]>
+    ensures { IsLeastWithout (λ found. ¬ IsUnfinished found) (λ found. found.name) db.now (option_copied result) }
+{
+    let mut least = None;
+    for found in db {
+        least = least_with(least, is_finished(found), found.name());
+    }
+    least
+}
+
+// Whether the record isn't installed or its package is content.
+fn is_settled(db: &[PackageRecord<'_, '_>], found: &PackageRecord<'_, '_>) -> bool
+    ensures { IsTrue result ↔ (IsInstalled found.now → IsContent (installed_of db.now) (pkg_of found.now)) }
+{
+    match found.present_pkg() {
+        Some(here) if found.state().is_installed() => is_content(db, here),
+        _ => true,
+    }
+}
+
+/// The least name of an installed package that has an unmet clause, or that conflicts with or breaks another, if
+/// there is one. For each installed package linear in the records for each atom.
+pub fn least_discontent<'a>(db: &[PackageRecord<'_, 'a>]) -> Option<&'a [u8]>
+    ensures { IsLeastWithout (λ found. IsInstalled found → IsContent (installed_of db.now) (pkg_of found))
+        (λ found. found.name) db.now (option_copied result) }
+{
+    let mut least = None;
+    for found in db {
+        least = least_with(least, is_settled(db, found), found.name());
+    }
+    least
+}
+
+// Whether the name is installed, if it is essential and was present at the start.
+#[tactic(auto, unfolding(rules::specs::Sound::KeepsEssential))]
+fn keeps_essential(db: &[PackageRecord<'_, '_>], start: &Start<'_>) -> bool
+    ensures { IsTrue result ↔ KeepsEssential (installed_of db.now) start.now }
+{
+    !start.is_essential() || !start.is_present() || has_member(db, start.name())
+}
+
+/// The least essential name that was present at the start and isn't installed, if there is one. For each name of
+/// the start linear in the records.
+pub fn least_lost<'a>(db: &[PackageRecord<'_, '_>], starts: &[Start<'a>]) -> Option<&'a [u8]>
+    ensures { IsLeastWithout (KeepsEssential (installed_of db.now)) (λ start. start.name) starts.now (option_copied result) }
+{
+    let mut least = None;
+    for start in starts {
+        least = least_with(least, keeps_essential(db, start), start.name());
+    }
+    least
+}

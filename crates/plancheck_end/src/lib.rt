@@ -1,0 +1,20 @@
+// The end of a plan: whether it is good, and the first reason against it (Policy 7; the reasons are this
+// project's own). It stands on `rules`, which says what is against an end, and on the values of `relation`,
+// `status` and `universe`; it uses nothing of what finds plans. The main call is `first_against`.
+#![tactic(auto)]
+
+mod content;
+mod end;
+mod goal;
+mod installed;
+mod least;
+mod matching;
+#[cfg(test)]
+mod tests;
+
+pub use content::is_content;
+pub use end::first_against;
+pub use goal::{first_unfulfilled, is_fulfilled};
+pub use installed::{are_met, has_member, has_version, is_met};
+pub use least::{least_discontent, least_lost, least_unfinished};
+pub use matching::{breaks_other, conflicts_with, is_same, matches_some};

@@ -1,0 +1,11 @@
+-- What is asked for, sorted.
+use Rattle.std.proofs.Common.{List, subst}
+use Rattle.std.specs.List.Sorted.{IsPermutation}
+use Rattle.universe.specs.Choice.{Exact}
+use Rattle.universe.proofs.exact.exacts_of.Goals as goal
+
+pub returns : goal.returns
+returns c = record {
+  ascending = c.in_ok-sort.ensures.sorted;
+  same = subst (λ (asked : List Exact). IsPermutation asked c.sort.new.self.items) c.in_ok-exacts.ensures c.sort.ensures.permutation;
+}

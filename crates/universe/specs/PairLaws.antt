@@ -1,0 +1,16 @@
+-- The orders of pairs and of what is asked for are total.
+use Rattle.std.specs.Cmp.{IsTotalOrder, on_total, then_total}
+use Rattle.std.specs.Cmp.Lexicographic.{nat_list_cmp_total}
+use Rattle.rules.specs.Universe.{Pair, pair_cmp}
+use Rattle.rules.specs.VersionOrderLaws.{version_cmp_total}
+use Rattle.universe.specs.Choice.{Exact, exact_cmp}
+
+pub pair_cmp_total : IsTotalOrder pair_cmp
+pair_cmp_total = then_total
+    (on_total (λ (pair : Pair). pair.pkg.name) nat_list_cmp_total)
+    (on_total (λ (pair : Pair). pair.pkg.version) version_cmp_total)
+
+pub exact_cmp_total : IsTotalOrder exact_cmp
+exact_cmp_total = then_total
+    (on_total (λ (exact : Exact). exact.name) nat_list_cmp_total)
+    (on_total (λ (exact : Exact). exact.version) version_cmp_total)
