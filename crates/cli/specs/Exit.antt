@@ -26,4 +26,11 @@ exit_of_verdict (verdict.End reason) = exit.No
 abbrev pub exit_of_fault : Fault → Exit
 exit_of_fault fault.OutOfMemory = exit.Device
 exit_of_fault fault.Read = exit.Device
-exit_of_fault found = exit.Refused
+exit_of_fault (fault.Stanza refused) = exit.Refused
+exit_of_fault (fault.Sources refused) = exit.Refused
+exit_of_fault (fault.Index refused) = exit.Refused
+exit_of_fault (fault.Request refused) = exit.Refused
+exit_of_fault (fault.UnknownName line) = exit.Refused
+exit_of_fault (fault.Plan refused) = exit.Refused
+exit_of_fault fault.TooLarge = exit.Refused
+exit_of_fault (fault.NotYet found) = exit.Refused

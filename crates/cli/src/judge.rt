@@ -26,7 +26,7 @@ pub(crate) fn check_plan<H: Host>(
 }
 
 // What is answered of these texts.
-fn judged(alloc: Global, arch: &[u8], texts: &Texts) -> Result<Verdict, Refusal> {
+fn judged<'a>(alloc: Global, arch: &'a [u8], texts: &'a Texts) -> Result<Verdict, Refusal> {
     let Ok(indices) = slices_of(alloc, texts.indices.as_slice()) else {
         return Err(OUT_OF_MEMORY);
     };
@@ -57,7 +57,7 @@ fn unless_unread(
     }
 }
 
-fn slices_of(alloc: Global, texts: &[Vec<u8>]) -> Result<Vec<&[u8]>, AllocError> {
+fn slices_of<'a>(alloc: Global, texts: &'a [Vec<u8>]) -> Result<Vec<&'a [u8]>, AllocError> {
     let mut slices = Vec::new(alloc);
     for text in texts {
         slices.push(text.as_slice())?;

@@ -1,6 +1,7 @@
 // Reading the files in their order, as far as they can be read.
 ghost use Rattle.std.specs.Prelude.{◌≡◌, IfOk, map, length};
-ghost use Rattle.cli_engine.specs.Stub.{read_early_sources, has_its_indices};
+ghost use Rattle.cli_engine.specs.Answer.{HasItsIndices};
+ghost use Rattle.cli_engine.specs.Texts.{read_early_sources};
 
 use crate::arguments::Arguments;
 use crate::host::{Host, ReadError};
@@ -28,7 +29,7 @@ pub(crate) fn read_texts<H: Host>(
     host: &mut H,
     arguments: &Arguments<'_>,
 ) -> Result<Texts, AllocError>
-    ensures { IfOk result (λ texts. has_its_indices (read_early_sources texts.sources.items) (map (λ text. text.items) texts.indices.items)) }
+    ensures { IfOk result (λ texts. HasItsIndices (read_early_sources texts.sources.items) (map (λ text. text.items) texts.indices.items)) }
 {
     let mut stopped_at = None;
     let status = read_text(
@@ -92,7 +93,7 @@ fn read_indices<H: Host>(
     stopped_at: &mut Option<Place>,
     sources: &[u8],
 ) -> Result<Vec<Vec<u8>>, AllocError>
-    ensures { IfOk result (λ texts. has_its_indices (read_early_sources sources.now) (map (λ text. text.items) texts.items)) }
+    ensures { IfOk result (λ texts. HasItsIndices (read_early_sources sources.now) (map (λ text. text.items) texts.items)) }
 {
     match read_early_sources(alloc, sources) {
         Ok(named) => read_each(alloc, host, stopped_at, named.as_slice()),

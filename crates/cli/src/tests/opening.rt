@@ -88,7 +88,7 @@ fn a_refusal_of_an_earlier_text_wins_over_a_file_that_cannot_be_read(
             "plan",
             "request",
             "x\n",
-            "debplan: request: E16 BadGoal 1\n",
+            "debplan: request: E16 BadRequest 1\n",
         ),
     ] {
         let words = check_plan_words(rt.alloc())?;
