@@ -40,7 +40,8 @@ fn end_line(alloc: Global, reason: &Reason) -> Result<Vec<u8>, AllocError>
 
 // The line of a reason that names a package.
 fn named_line(alloc: Global, reason: &str, name: &Text) -> Result<Vec<u8>, AllocError>
-    ensures { IfOk result (λ line. line.items ≡ codes "no end F11 " ++ (reason.now ++ (codes " " ++ (name.now ++ codes "\n")))) }
+    ensures { IfOk result (λ line.
+        line.items ≡ ((codes "no end F11 " ++ (reason.now ++ codes " ")) ++ name.now) ++ codes "\n") }
 {
     let mut line = format!(in alloc; "no end F11 {reason} ")?.into_bytes();
     line.extend_from_slice(name.as_bytes())?;

@@ -5,14 +5,19 @@ use clap::error::ErrorKind;
 use clap::{ArgMatches, Error};
 use std::alloc::{AllocError, Global};
 
-/// What a plan is to be judged by: the architecture, and the paths of the files.
-#[derive(Clone, Copy)]
-pub(crate) struct Arguments<'a> {
-    pub(crate) arch: &'a str,
-    pub(crate) status: &'a str,
-    pub(crate) sources: &'a str,
-    pub(crate) request: &'a str,
-    pub(crate) plan: &'a str,
+/// What a plan is to be judged by: the architecture that packages are for, and the paths of the files.
+#[derive(Clone, Copy, Debug)]
+pub struct Arguments<'a> {
+    /// The architecture.
+    pub arch: &'a str,
+    /// The path of the status file.
+    pub status: &'a str,
+    /// The path of the sources.
+    pub sources: &'a str,
+    /// The path of the request.
+    pub request: &'a str,
+    /// The path of the plan.
+    pub plan: &'a str,
 }
 
 /// The words as text, unless one of them isn't UTF-8. Memory alone can fail.

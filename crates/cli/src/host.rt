@@ -1,4 +1,6 @@
 // What the program asks of the machine that it runs on.
+ghost use Rattle.std.specs.Prelude.{◌≡◌, IfErr, IfOk, None, Option, Some};
+ghost use Rattle.cli.specs.Files.{Files};
 
 use std::alloc::Global;
 
@@ -13,7 +15,14 @@ pub enum ReadError {
 
 /// Where files are read.
 pub trait Host {
+    // The files, where they are known.
+    ghost files: { Self → Option Files } = { λ _. None };
+
     /// All bytes of the file at the path. A path is bytes: one that the machine can't open, as one that is no
     /// UTF-8 where paths have to be, is unreadable.
-    fn read(&mut self, alloc: Global, path: &[u8]) -> Result<Vec<u8>, ReadError>;
+    fn read(&mut self, alloc: Global, path: &[u8]) -> Result<Vec<u8>, ReadError>
+        ensures found { (at : Files) → files self.old ≡ Some at → IfOk result (λ text. at path.now ≡ Some text.items) }
+        ensures unreadable { (at : Files) → files self.old ≡ Some at
+            → IfErr result (λ e. e ≡ ReadError.Unreadable → at path.now ≡ None) }
+        ensures unchanged { files self.new ≡ files self.old };
 }

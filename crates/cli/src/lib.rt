@@ -16,8 +16,10 @@ mod read;
 mod tests;
 
 pub use answer::verdict_line;
+pub use arguments::Arguments;
 pub use cli_engine::{Fault, Inputs, Later, Place, Refusal, check_plan_bytes};
 pub use exit::{Exit, exit_of_refusal, exit_of_verdict};
 pub use host::{Host, ReadError};
+pub use judge::check_plan;
 pub use outcome::{Outcome, outcome_of_answer};
 pub use program::{refuse_for_memory, run};

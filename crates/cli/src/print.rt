@@ -1,5 +1,7 @@
 // Writing what is printed.
-ghost use Rattle.std.specs.Prelude.{◌≡◌};
+ghost use Rattle.std.specs.Prelude.{◌≡◌, OnOk};
+ghost use Rattle.std.specs.Io.KnownBytes.{Appends};
+ghost use Rattle.cli.specs.Outcome.{IsWritten};
 ghost use Rattle.cli.specs.Exit.{code_of};
 
 use crate::exit::Exit;
@@ -9,7 +11,9 @@ use std::io::Write;
 
 /// Writes what is printed and gives the exit status. A failure to write on standard output is printed as E26 and
 /// has its own status; one to write on standard error changes nothing.
-pub(crate) fn print<W: Write, E: Write>(outcome: &Outcome, out: &mut W, err: &mut E) -> u8 {
+pub(crate) fn print<W: Write, E: Write>(outcome: &Outcome, out: &mut W, err: &mut E) -> u8
+    ensures { IsWritten outcome.now (W.contents out.old) (W.contents out.new) result }
+{
     match outcome {
         Outcome::Answer(text, exit) => match write_whole(out, text.as_slice()) {
             Ok(()) => exit.code(),
@@ -27,7 +31,10 @@ pub(crate) fn complain<E: Write>(err: &mut E, text: &[u8], exit: Exit) -> u8
     exit.code()
 }
 
-fn write_whole<W: Write>(to: &mut W, text: &[u8]) -> io::Result<()> {
+// Writes the text, and hands it on where the writer keeps it back.
+fn write_whole<W: Write>(to: &mut W, text: &[u8]) -> io::Result<()>
+    ensures { OnOk result (Appends (W.contents to.old) (W.contents to.new) text.now) }
+{
     to.write_all(text)?;
     to.flush()
 }

@@ -1,5 +1,7 @@
 // The whole program over a host.
 ghost use Rattle.std.specs.Prelude.{◌≡◌};
+ghost use Rattle.cli.specs.Outcome.{IsWritten};
+ghost use Rattle.cli.specs.declared.outcome.Outcome.{Outcome as Found};
 
 use crate::arguments::{arguments_of, mistake, texts_of};
 use crate::exit::Exit;
@@ -18,7 +20,9 @@ pub fn run<H: Host, W: Write, E: Write>(
     host: &mut H,
     out: &mut W,
     err: &mut E,
-) -> u8 {
+) -> u8
+    ensures { (found : Found) × IsWritten found (W.contents out.old) (W.contents out.new) result }
+{
     match outcome_of_words(alloc, words, host) {
         Ok(outcome) => print(&outcome, out, err),
         Err(AllocError) => refuse_for_memory(err),

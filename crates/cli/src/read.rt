@@ -1,5 +1,6 @@
 // Reading the files in their order, as far as they can be read.
-ghost use Rattle.std.specs.Prelude.{◌≡◌, IfOk, map, length};
+ghost use Rattle.std.specs.Prelude.{◌≡◌, IfOk, None, Some, length, map};
+ghost use Rattle.cli.specs.Files.{AreIndices, AreIndicesUnless, Files, IsFoundUnless};
 ghost use Rattle.cli_engine.specs.Answer.{HasItsIndices};
 ghost use Rattle.cli_engine.specs.Texts.{read_early_sources};
 
@@ -29,7 +30,18 @@ pub(crate) fn read_texts<H: Host>(
     host: &mut H,
     arguments: &Arguments<'_>,
 ) -> Result<Texts, AllocError>
-    ensures { IfOk result (λ texts. HasItsIndices (read_early_sources texts.sources.items) (map (λ text. text.items) texts.indices.items)) }
+    ensures indices { IfOk result (λ texts.
+        HasItsIndices (read_early_sources texts.sources.items) (map (λ text. text.items) texts.indices.items)) }
+    ensures status { (at : Files) → H.files host.old ≡ Some at → IfOk result (λ texts.
+        IsFoundUnless texts.stopped_at (at arguments.now.status.now) texts.status.items) }
+    ensures sources { (at : Files) → H.files host.old ≡ Some at → IfOk result (λ texts.
+        IsFoundUnless texts.stopped_at (at arguments.now.sources.now) texts.sources.items) }
+    ensures found { (at : Files) → H.files host.old ≡ Some at → IfOk result (λ texts.
+        AreIndicesUnless texts.stopped_at at texts.sources.items (map (λ text. text.items) texts.indices.items)) }
+    ensures request { (at : Files) → H.files host.old ≡ Some at → IfOk result (λ texts.
+        IsFoundUnless texts.stopped_at (at arguments.now.request.now) texts.request.items) }
+    ensures plan { (at : Files) → H.files host.old ≡ Some at → IfOk result (λ texts.
+        IsFoundUnless texts.stopped_at (at arguments.now.plan.now) texts.plan.items) }
 {
     let mut stopped_at = None;
     let status = read_text(
@@ -72,7 +84,12 @@ fn read_text<H: Host>(
     stopped_at: &mut Option<Place>,
     place: Place,
     path: &[u8],
-) -> Result<Vec<u8>, AllocError> {
+) -> Result<Vec<u8>, AllocError>
+    ensures text { (at : Files) → H.files host.old ≡ Some at
+        → IfOk result (λ text. IsFoundUnless stopped_at.new (at path.now) text.items) }
+    ensures stays { stopped_at.new ≡ None → stopped_at.old ≡ None }
+    ensures unchanged { H.files host.new ≡ H.files host.old }
+{
     if stopped_at.is_some() {
         return Ok(Vec::new(alloc));
     }
@@ -93,10 +110,17 @@ fn read_indices<H: Host>(
     stopped_at: &mut Option<Place>,
     sources: &[u8],
 ) -> Result<Vec<Vec<u8>>, AllocError>
-    ensures { IfOk result (λ texts. HasItsIndices (read_early_sources sources.now) (map (λ text. text.items) texts.items)) }
+    ensures count { IfOk result (λ texts. HasItsIndices (read_early_sources sources.now) (map (λ text. text.items) texts.items)) }
+    ensures texts { (at : Files) → H.files host.old ≡ Some at → IfOk result (λ texts.
+        AreIndicesUnless stopped_at.new at sources.now (map (λ text. text.items) texts.items)) }
+    ensures stays { stopped_at.new ≡ None → stopped_at.old ≡ None }
+    ensures unchanged { H.files host.new ≡ H.files host.old }
 {
     match read_early_sources(alloc, sources) {
-        Ok(named) => read_each(alloc, host, stopped_at, named.as_slice()),
+        Ok(named) => {
+            let texts = read_each(alloc, host, stopped_at, named.as_slice())?;
+            Ok(texts)
+        }
         Err(Fault::OutOfMemory) => Err(AllocError),
         Err(_) => {
             *stopped_at = Some(Place::Sources);
@@ -112,7 +136,11 @@ fn read_each<H: Host>(
     stopped_at: &mut Option<Place>,
     named: &[Source<'_>],
 ) -> Result<Vec<Vec<u8>>, AllocError>
-    ensures { IfOk result (λ texts. length texts.items ≡ length named.now) }
+    ensures count { IfOk result (λ texts. length texts.items ≡ length named.now) }
+    ensures texts { (at : Files) → H.files host.old ≡ Some at → IfOk result (λ texts. stopped_at.new ≡ None
+        → AreIndices at named.now (map (λ text. text.items) texts.items)) }
+    ensures stays { stopped_at.new ≡ None → stopped_at.old ≡ None }
+    ensures unchanged { H.files host.new ≡ H.files host.old }
 {
     let mut texts = Vec::new(alloc);
     for source in named {
@@ -128,7 +156,12 @@ fn read_plan<H: Host>(
     host: &mut H,
     stopped_at: &mut Option<Place>,
     path: &[u8],
-) -> Result<Vec<u8>, AllocError> {
+) -> Result<Vec<u8>, AllocError>
+    ensures text { (at : Files) → H.files host.old ≡ Some at
+        → IfOk result (λ text. IsFoundUnless stopped_at.new (at path.now) text.items) }
+    ensures stays { stopped_at.new ≡ None → stopped_at.old ≡ None }
+    ensures unchanged { H.files host.new ≡ H.files host.old }
+{
     let plan = read_text(alloc, host, stopped_at, Place::Plan, path)?;
     if stopped_at.is_some() {
         return b"plan 1\n".to_vec(alloc);

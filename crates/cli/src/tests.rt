@@ -1,4 +1,5 @@
 mod answers;
+mod judging;
 mod opening;
 mod refusals;
 mod streams;

@@ -4,11 +4,12 @@
 use cli::{Host, ReadError, refuse_for_memory, run};
 use std::alloc::{AllocError, Global};
 use std::env::{Env, FillError};
+use std::fs;
 use std::io::ErrorKind;
 use std::process::ExitCode;
-use std::{fs, io};
 
 /// The files of the machine.
+#[derive(Drop)]
 struct Disk<'a> {
     rt: &'a HostRuntime,
 }
@@ -27,8 +28,8 @@ impl Host for Disk<'_> {
 }
 
 fn main(rt: HostRuntime) -> ExitCode {
-    let mut out = io::stdout();
-    let mut err = io::stderr();
+    let mut out = rt.stdout();
+    let mut err = rt.stderr();
     let status = match words_of(&rt) {
         Ok(words) => {
             let mut disk = Disk { rt: &rt };
