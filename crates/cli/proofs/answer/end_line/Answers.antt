@@ -1,4 +1,3 @@
-use Rattle.std.proofs.Common.{rules}
 use Rattle.cli.proofs.answer.end_line.Goals as goal
 
 pub returns-in-Unfinished : goal.returns-in-Unfinished
