@@ -1,4 +1,5 @@
 pub mod Answer
 pub mod Inputs
+pub mod Meaning
 pub mod Reading
 pub mod Texts

@@ -1,5 +1,5 @@
 -- Readings of a text, and what is refused for having something that isn't judged yet.
-use Rattle.std.specs.Prelude.{◌≡◌, ◌⊎◌, ℕ, List, Option, Some, None, Result, Ok, Err}
+use Rattle.std.specs.Prelude.{◌≡◌, ◌≢◌, ◌⊎◌, ℕ, List, Option, Some, None, Result, Ok, Err}
 use Rattle.cli_engine.specs.declared.refusal.Fault.{Fault}
 use Rattle.cli_engine.specs.declared.refusal.Fault.TheVariants as fault
 use Rattle.cli_engine.specs.declared.refusal.Later.{Later}
@@ -30,20 +30,12 @@ IsFaultOf read found = OrMemory (λ refused. read ≡ Err refused) found
 abbrev pub out_of_memory : Refusal
 out_of_memory = record { place = place.Memory; fault = fault.OutOfMemory }
 
--- a fault of the text at this place as a refusal; of no text, where memory was wanting
-abbrev pub refusal_of : Place → Fault → Refusal
-refusal_of where_ (fault.Stanza refused) = record { place = where_; fault = fault.Stanza refused }
-refusal_of where_ (fault.Sources refused) = record { place = where_; fault = fault.Sources refused }
-refusal_of where_ (fault.Index refused) = record { place = where_; fault = fault.Index refused }
-refusal_of where_ (fault.Request refused) = record { place = where_; fault = fault.Request refused }
-refusal_of where_ (fault.UnknownName line) = record { place = where_; fault = fault.UnknownName line }
-refusal_of where_ (fault.Plan refused) = record { place = where_; fault = fault.Plan refused }
-refusal_of where_ fault.TooLarge = record { place = where_; fault = fault.TooLarge }
-refusal_of where_ (fault.NotYet found) = record { place = where_; fault = fault.NotYet found }
-refusal_of where_ fault.Read = record { place = where_; fault = fault.Read }
-refusal_of where_ fault.OutOfMemory = out_of_memory
+-- a fault of the text at this place as a refusal: of no text, where memory was wanting
+abbrev pub IsPlaced : Place → Fault → Refusal → Type 0
+IsPlaced where_ found refused = ((found ≡ fault.OutOfMemory) × (refused ≡ out_of_memory))
+    ⊎ ((found ≢ fault.OutOfMemory) × (refused ≡ record { place = where_; fault = found }))
 
 -- the refusal of a reading of the text at this place, if it is refused
 abbrev pub refusal_at : {A : Type 0} → Place → Result A Fault → Option Refusal
 refusal_at where_ (Ok read) = None
-refusal_at where_ (Err refused) = Some (refusal_of where_ refused)
+refusal_at where_ (Err refused) = Some (record { place = where_; fault = refused })

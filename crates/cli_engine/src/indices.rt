@@ -1,6 +1,6 @@
 // The indices, of whose relation fields today Depends alone is judged.
 
-ghost use Rattle.std.specs.Prelude.{◌≡◌, ◌⊎◌, ◌++◌, IfErr, IfOk, None, Ok, Some, map};
+ghost use Rattle.std.specs.Prelude.{◌≡◌, ◌⊎◌, IfErr, IfOk, None, Ok, Some, map};
 ghost use Rattle.index.specs.Index as Read;
 ghost use Rattle.cli_engine.specs.Answer.{indices_refusal, listed_in};
 ghost use Rattle.cli_engine.specs.Reading.{IsFaultOf, out_of_memory, with_fault};
@@ -9,7 +9,7 @@ ghost use Rattle.cli_engine.specs.declared.refusal.Fault.TheVariants as fault;
 
 use crate::refusal::{Fault, Later, Place, Refusal, refused_at};
 use index::{IndexError, IndexText, Listed, later_field, read_index};
-use std::alloc::{AllocError, Global};
+use std::alloc::Global;
 
 fn index_in<'a>(alloc: Global, text: &'a [u8], arch: &[u8]) -> Result<IndexText<'a>, Fault>
     ensures ok { IfOk result (λ index. with_fault fault.Index (Read.read_index arch.now text.now) ≡ Ok index) }
@@ -35,16 +35,6 @@ fn read_early_index<'a>(alloc: Global, text: &'a [u8], arch: &[u8]) -> Result<In
     }
 }
 
-// Puts the stanzas behind the others.
-fn append<'a>(all: &mut Vec<Listed<'a>>, listed: Vec<Listed<'a>>) -> Result<(), AllocError>
-    ensures { IfOk result (λ _. all.new.items ≡ all.old.items ++ listed.items) }
-{
-    for found in listed {
-        all.push(found)?;
-    }
-    Ok(())
-}
-
 /// The stanzas of the indices in their order, or the first refusal. Linear in the texts.
 pub(crate) fn read_indices<'a>(
     alloc: Global,
@@ -57,10 +47,12 @@ pub(crate) fn read_indices<'a>(
         ⊎ (indices_refusal arch.now 1 (map (λ text. text.now) texts.now) ≡ Some refused)) }
 {
     let mut all = Vec::new(alloc);
-    for (place, text) in texts.iter().enumerate() {
+    let mut number = 0;
+    for text in texts {
+        number += 1;
         match read_early_index(alloc, text, arch) {
-            Ok(index) => append(&mut all, index.into_listed())?,
-            Err(fault) => return Err(refused_at(Place::Index(place + 1), fault)),
+            Ok(index) => all.extend(index.into_listed())?,
+            Err(fault) => return Err(refused_at(Place::Index(number), fault)),
         }
     }
     Ok(all)

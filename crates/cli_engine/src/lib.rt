@@ -6,14 +6,18 @@
 mod check;
 mod indices;
 mod inputs;
+mod laws;
 mod plan;
 mod refusal;
 mod request;
 mod sources;
 mod status_text;
+#[cfg(test)]
+mod tests;
 
 pub use check::check_plan_bytes;
 pub use inputs::Inputs;
+pub use laws::{a_meaning_is_not_refused, texts_have_one_meaning};
 pub use refusal::{Fault, Later, Place, Refusal};
 pub use rules::{Reason, Rule, Verdict};
 pub use sources::read_early_sources;

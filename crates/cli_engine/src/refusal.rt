@@ -1,7 +1,7 @@
 // Why a text was refused, and what is printed of it.
 
-ghost use Rattle.std.specs.Prelude.{◌≡◌, Some};
-ghost use Rattle.cli_engine.specs.Reading.{out_of_memory, refusal_of};
+ghost use Rattle.std.specs.Prelude.{◌≡◌};
+ghost use Rattle.cli_engine.specs.Reading.{IsPlaced, out_of_memory};
 
 use index::{IndexFault, LaterField, SourcesFault};
 use plantext::PlanFault;
@@ -115,7 +115,7 @@ pub struct Refusal {
 
 /// The refusal of the text at this place; where memory was wanting, no text is refused.
 pub(crate) fn refused_at(place: Place, fault: Fault) -> Refusal
-    ensures { result ≡ refusal_of place fault }
+    ensures { IsPlaced place fault result }
 {
     match fault {
         Fault::OutOfMemory => Refusal {

@@ -51,7 +51,8 @@ impl<'a> IndexText<'a> {
     pub fn into_listed(self) -> Vec<Listed<'a>>
         ensures { result.items ≡ self.entry.listed }
     {
-        self.listed
+        let listed = self.listed;
+        listed
     }
 
     /// How many stanzas are of another architecture.

@@ -23,6 +23,6 @@ no_proper_part name (first ∷ rest) proper = Any-elim (λ other. ¬ Contains (f
 
 pub single_is_indivisible : (db : List Record) (names : List (List ℕ)) → length names ≡ 1 → IsIndivisible db names
 unfolding IsIndivisible
-single_is_indivisible db [] single = absurd (omega arith)
+single_is_indivisible db [] single part proper passes = absurd (omega arith)
 single_is_indivisible db (name ∷ []) single part proper passes = no_proper_part name part proper
-single_is_indivisible db (name ∷ other ∷ rest) single = absurd (omega arith)
+single_is_indivisible db (name ∷ other ∷ rest) single part proper passes = absurd (omega arith)

@@ -2,7 +2,7 @@
 
 ghost use Rattle.std.specs.Prelude.{◌≡◌, IfOk, MatchOption};
 ghost use Rattle.std.specs.List.{All};
-ghost use Rattle.rules.specs.Database.{HasDistinctNames};
+ghost use Rattle.rules.specs.Database.{HasDistinctNames, IsQuiet};
 ghost use Rattle.rules.specs.Run.{Run, StopsAt};
 ghost use Rattle.rules.specs.Verdict.{IsBuiltOn, IsVerdict};
 ghost use Rattle.plancheck.specs.End.{IsEndVerdict};
@@ -29,9 +29,11 @@ fn run<'p, 'a>(
         (Run universe.now db.old.items steps.now db.new.items)
         (λ found. StopsAt universe.now db.old.items steps.now found.0 found.1)) }
 {
-    for (place, step) in steps.iter().enumerate() {
+    let mut number = 0;
+    for step in steps {
+        number += 1;
         if let Some(rule) = legal(db.as_slice(), universe, step) {
-            return Ok(Some((place + 1, rule)));
+            return Ok(Some((number, rule)));
         }
         apply(db, universe, step)?;
     }
@@ -52,6 +54,30 @@ fn end_verdict(
     }
 }
 
+// What is answered of the run from a quiet start.
+fn run_verdict<'p, 'a>(
+    alloc: Global,
+    start: &[PackageRecord<'p, 'a>],
+    universe: &'p Universe<'a>,
+    steps: &[Step],
+) -> Result<Verdict, AllocError>
+    requires built { IsBuiltOn start.now universe.now }
+    requires single { All IsSingle steps.now }
+    requires quiet { IsQuiet start.now }
+    ensures { IfOk result (λ verdict. IsVerdict universe.now start.now steps.now verdict) }
+{
+    good_where_nothing_is_against();
+    let mut db = try_copy(alloc, start)?;
+    let stop = run(&mut db, universe, steps)?;
+    match stop {
+        Some((number, rule)) => Ok(Verdict::Step(number, rule)),
+        None => {
+            let verdict = end_verdict(alloc, universe, db.as_slice())?;
+            Ok(verdict)
+        }
+    }
+}
+
 /// Judges a plan from this start, on which the universe is built: whether each step is legal when its turn comes
 /// and the end is good, and else what is first against it. Memory alone can fail. For each step the cost is
 /// that of its rules, and the end is linear in the records for each atom of an installed package.
@@ -65,16 +91,9 @@ pub fn check_plan<'p, 'a>(
     requires single { All IsSingle steps.now }
     ensures { IfOk result (λ verdict. IsVerdict universe.now start.now steps.now verdict) }
 {
-    good_where_nothing_is_against();
-    if !is_quiet(start) {
-        return Ok(Verdict::Start);
-    }
-    let mut db = try_copy(alloc, start)?;
-    match run(&mut db, universe, steps)? {
-        Some((number, rule)) => Ok(Verdict::Step(number, rule)),
-        None => {
-            let verdict = end_verdict(alloc, universe, db.as_slice())?;
-            Ok(verdict)
-        }
+    if is_quiet(start) {
+        run_verdict(alloc, start, universe, steps)
+    } else {
+        Ok(Verdict::Start)
     }
 }

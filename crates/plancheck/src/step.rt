@@ -17,7 +17,7 @@ use crate::table::{
 };
 use debversion::Version;
 use index::Listed;
-use rules::{Name, Names, Rule, Step, VersionText, allowed_acts_on_present, distinct_names_kept};
+use rules::{Name, Rule, Step, VersionText, allowed_acts_on_present, distinct_names_kept};
 use status::{PackageRecord, configure, deconfigure, purge, remove, unpack};
 use std::alloc::AllocError;
 use universe::Universe;
@@ -67,7 +67,7 @@ pub fn legal(db: &[PackageRecord<'_, '_>], universe: &Universe<'_>, step: &Step)
     match step {
         Step::Unpack(name, version) => unpack_stop(db, universe, name, version),
         Step::Deconfigure(name) => deconfigure_failing(db, name.as_bytes()),
-        Step::Configure(names) => configure_failing(db, names),
+        Step::Configure(names) => configure_failing(db, names.as_slice()),
         Step::Remove(name) => remove_stop(db, universe, name),
         Step::Purge(name) => purge_failing(db, name.as_bytes()),
     }

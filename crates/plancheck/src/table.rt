@@ -3,6 +3,7 @@
 ghost use Rattle.std.specs.Prelude.{◌≡◌, ◌↔◌, ℕ, ◌<◌, IsTrue, MatchOption, MatchBool, length};
 ghost use Rattle.std.specs.List.{All};
 ghost use Rattle.std.specs.Option.{option_copied};
+ghost use Rattle.rules.specs.Configure.{IsIndivisible};
 ghost use Rattle.rules.specs.Database.{HasRecord, HasSoundFlag, IsEssential, IsInstalled, IsPresent, IsRemoved};
 ghost use Rattle.rules.specs.Legal.{ConfigureAsks, DeconfigureAsks, IsFirstUnkept, PurgeAsks, RemoveAsks, UnpackAsks, configure_rules, deconfigure_rules, purge_rules, remove_rules, unpack_rules};
 
@@ -14,7 +15,7 @@ use crate::remove::{can_be_removed, is_essential, is_installed, is_not_needed, i
 use crate::unpack::{breaks_none, has_no_conflict, has_pre_depends};
 use debversion::Version;
 use index::Listed;
-use rules::{Name, Names, Rule};
+use rules::{Name, Rule};
 use status::PackageRecord;
 
 // Whether the unpacking keeps the rule.
@@ -144,7 +145,15 @@ pub fn deconfigure_failing(db: &[PackageRecord<'_, '_>], name: &[u8]) -> Option<
     None
 }
 
-// Whether the configuring of one name keeps the rule; a group of one has no proper part.
+// Whether no part of the group could be configured by itself: of one name there is no proper part.
+fn is_indivisible(_db: &[PackageRecord<'_, '_>], _names: &[Name]) -> bool
+    requires { length _names.now ≡ 1 }
+    ensures { IsTrue result ↔ IsIndivisible _db.now _names.now }
+{
+    true
+}
+
+// Whether the configuring of one name keeps the rule.
 fn configure_keeps(db: &[PackageRecord<'_, '_>], names: &[Name], rule: Rule) -> bool
     requires { length names.now ≡ 1 }
     ensures { IsTrue result ↔ ConfigureAsks db.now names.now rule }
@@ -154,13 +163,14 @@ fn configure_keeps(db: &[PackageRecord<'_, '_>], names: &[Name], rule: Rule) -> 
         Rule::PreDepends => are_pre_depends_installed(db, names),
         Rule::Depends => are_depends_installed(db, names),
         Rule::Breaks => are_unbroken(db, names),
+        Rule::Group => is_indivisible(db, names),
         _ => true,
     }
 }
 
 /// The first rule that a configuring of one name fails, if there is one. Linear in the records for each clause of
 /// the package.
-pub fn configure_failing(db: &[PackageRecord<'_, '_>], names: &Names) -> Option<Rule>
+pub fn configure_failing(db: &[PackageRecord<'_, '_>], names: &[Name]) -> Option<Rule>
     requires { length names.now ≡ 1 }
     ensures { MatchOption result (All (ConfigureAsks db.now names.now) configure_rules)
         (λ rule. IsFirstUnkept (ConfigureAsks db.now names.now) configure_rules rule) }
@@ -172,7 +182,7 @@ pub fn configure_failing(db: &[PackageRecord<'_, '_>], names: &Names) -> Option<
         Rule::Breaks,
         Rule::Group,
     ] {
-        if !configure_keeps(db, names.as_slice(), rule) {
+        if !configure_keeps(db, names, rule) {
             return Some(rule);
         }
     }

@@ -76,10 +76,13 @@ lacks_discontent : (db : List Record) (name : List ℕ)
 unfolding IsDiscontent
 lacks_discontent db name some = Any-weaker (λ (found : Record). (found.name ≡ name) × ¬ IsSettled db found)
     (λ (found : Record). (found.name ≡ name) × (IsInstalled found × ¬ IsContent (installed_of db) (pkg_of found))) db
-    (λ found within both. (both.0, (
-      not_failed (is_installed_state found.state) (λ not_installed. both.1 (λ is. absurd (not_installed is))),
-      λ content. both.1 (λ is. content),
-    ))) some
+    (λ found within both. (
+      both.0,
+      (
+        not_failed (is_installed_state found.state) (λ not_installed. both.1 (λ is. absurd (not_installed is))),
+        λ content. both.1 (λ is. content),
+      ),
+    )) some
 
 -- the least unfinished name is the first reason
 pub first_unfinished : (u : Universe) (db : List Record) (name : List ℕ)

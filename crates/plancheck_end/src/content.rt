@@ -45,7 +45,7 @@ fn has_needs(db: &[PackageRecord<'_, '_>], pkg: &Pkg<'_>) -> bool
     are_met(db, pkg.pre_depends()) && are_met(db, pkg.depends())
 }
 
-fn harms_none(db: &[PackageRecord<'_, '_>], pkg: &Pkg<'_>) -> bool
+fn is_at_peace(db: &[PackageRecord<'_, '_>], pkg: &Pkg<'_>) -> bool
     ensures { IsTrue result ↔ (MatchedByNoOther (installed_of db.now) pkg.now.name pkg.now.relations.conflicts
         × MatchedByNoOther (installed_of db.now) pkg.now.name pkg.now.relations.breaks) }
 {
@@ -58,5 +58,5 @@ fn harms_none(db: &[PackageRecord<'_, '_>], pkg: &Pkg<'_>) -> bool
 pub fn is_content(db: &[PackageRecord<'_, '_>], pkg: &Pkg<'_>) -> bool
     ensures { IsTrue result ↔ IsContent (installed_of db.now) pkg.now }
 {
-    has_needs(db, pkg) && harms_none(db, pkg)
+    has_needs(db, pkg) && is_at_peace(db, pkg)
 }

@@ -1,16 +1,14 @@
 // Which goals an end fulfils (after apt-get(8)).
 
-ghost use Rattle.std.specs.Prelude.{◌≡◌, ◌≢◌, ◌↔◌, ◌≤◌, ℕ, IsTrue, MatchOption};
+ghost use Rattle.std.specs.Prelude.{◌≡◌, ◌↔◌, IsTrue, MatchOption};
 ghost use Rattle.std.specs.List.{All, Any};
-ghost use Rattle.std.specs.Option.{option_copied};
+ghost use Rattle.std.specs.declared.cmp.Ordering.TheVariants.{Less};
 ghost use Rattle.rules.specs.Database.{IsInstalled, installed_of, pkg_of};
 ghost use Rattle.rules.specs.Package.{Meets};
-ghost use Rattle.rules.specs.Run.{IsPurged, IsUnfulfilled};
-ghost use Rattle.rules.specs.Sound.{Fulfils, HasMember, HasVersion, IsKept, IsUpgraded};
+ghost use Rattle.rules.specs.Sound.{HasMember, HasVersion, IsKept, IsUpgraded};
 ghost use Rattle.rules.specs.State.{is_not_installed_state};
 ghost use Rattle.rules.specs.Universe.{candidate_of};
 ghost use Rattle.rules.specs.Version.{version_cmp};
-ghost use Rattle.std.specs.declared.cmp.Ordering.TheVariants.{Less};
 ghost use Rattle.plancheck_end.specs.FirstGoal.{IsFirstUnfulfilled, IsFulfilled};
 
 use crate::installed::{has_member, has_version};

@@ -2,11 +2,10 @@
 
 ghost use Rattle.std.specs.Prelude.{◌≡◌, ◌↔◌, IsTrue};
 ghost use Rattle.std.specs.List.{Any};
-ghost use Rattle.rules.specs.Database.{HasRecord, IsInstalled, installed_of, pkg_of};
+ghost use Rattle.rules.specs.Database.{IsInstalled, installed_of, pkg_of};
 ghost use Rattle.rules.specs.Package.{MatchesSome, MeetsClause};
 ghost use Rattle.rules.specs.Sound.{HasMember, HasVersion, MeetsClauses};
 ghost use Rattle.rules.specs.Universe.{IsOf};
-ghost use Rattle.rules.specs.Version.{SameVersion};
 
 use crate::matching::{is_same, matches_some};
 use debversion::Version;

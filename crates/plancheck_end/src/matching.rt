@@ -1,8 +1,7 @@
 // What packages match of one another's relations (Policy 7.1 to 7.5).
 
-ghost use Rattle.std.specs.Prelude.{◌≡◌, ◌↔◌, ℕ, List, IsTrue};
-ghost use Rattle.std.specs.List.{Any};
-ghost use Rattle.rules.specs.Package.{BreaksOther, ConflictsWith, FitsByProvides, FitsProvided, Matches, MatchesSome};
+ghost use Rattle.std.specs.Prelude.{◌≡◌, ◌↔◌, IsTrue};
+ghost use Rattle.rules.specs.Package.{BreaksOther, ConflictsWith, MatchesSome};
 
 use relation::{Atom, Pkg};
 

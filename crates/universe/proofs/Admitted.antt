@@ -1,28 +1,26 @@
 -- The pairs of the stanzas in order, and which of them are candidates or available, where nothing is installed.
-use Rattle.std.proofs.Common.{◌≡◌, ◌≢◌, ℕ, ℤ, pos, Bool, true, false, not, ◌&&◌, ◌||◌, List, [], ◌∷◌, map, Option, Some, None, IsSome, ◌⊎◌, refl, sym, ap, subst, ◌∙◌, bytes_eq}
-use Rattle.std.specs.Cmp.{Equal-is}
-use Rattle.std.specs.List.{All, AllPairs, Any, Contains, filter, find, list_any}
+use Rattle.std.proofs.Common.{◌≡◌, ℕ, ℤ, pos, Bool, true, false, List, Option, Some, None, IsSome, refl, sym, ap, subst, ◌∙◌, bytes_eq}
+use Rattle.std.specs.List.{Contains, find, list_any}
 use Rattle.std.specs.List.Sorted.{IsStrictlySortedBy}
 use Rattle.std.specs.Option.{option_map}
-use Rattle.std.specs.Ordering.{is_lt, ordering_reverse, ordering_then}
+use Rattle.std.specs.Ordering.{is_lt, ordering_reverse}
 use Rattle.std.specs.declared.cmp.Ordering.{Ordering}
 use Rattle.std.specs.declared.cmp.Ordering.TheVariants.{Less, Equal, Greater}
 use Rattle.std.proofs.lemmas.Option.{same_Some}
-use Rattle.std.proofs.lemmas.Bool.{and_from, and_parts, cases_Bool, not_from_false, not-true, or_cases, or_left, or_right}
-use Rattle.rules.specs.Available.{Index, Inputs, IsAvailable, all_listed, counting_package, index_package, is_of}
-use Rattle.rules.specs.ElementLaws.{All-intro, Any-elim, Any-from_list_any, Any-intro, Contains-filter, Contains-filter_intro, Contains-map, Contains-map_intro, list_any-from_contains}
+use Rattle.std.proofs.lemmas.Bool.{and_from, and_parts, cases_Bool, not_from_false, not-true}
+use Rattle.rules.specs.Available.{Index, IsAvailable, all_listed, index_package, is_of}
+use Rattle.rules.specs.ElementLaws.{Any-elim, Any-from_list_any, list_any-from_contains}
 use Rattle.rules.specs.NamedLaws.{bytes_eq-true, bytes_eq-same}
 use Rattle.rules.specs.Priority.{IsCandidate}
 use Rattle.rules.specs.Step.{Listed}
-use Rattle.rules.specs.Universe.{Candidate, IsAdmitted, IsOf, IsOffered, NamesExactly, Pair, pair_cmp}
-use Rattle.rules.specs.Version.{SameVersion, version_cmp}
+use Rattle.rules.specs.Universe.{IsOf, Pair, pair_cmp}
+use Rattle.rules.specs.Version.{version_cmp}
 use Rattle.rules.specs.VersionOrderLaws.{SameVersion-refl, SameVersion-symm, SameVersion-trans, version_cmp-antisymm, version_cmp-same_left, version_cmp-same_right}
 use Rattle.rules.specs.declared.goal.Goal.{Goal}
 use Rattle.universe.specs.Build.{inputs_of}
-use Rattle.universe.specs.Choice.{IsOrdered, admitted_among, candidate_at, candidates_among, exacts_of, is_asked, is_higher, is_highest, listed_pair, stanza_of}
-use Rattle.universe.proofs.Asked.{is_asked-from, is_asked-names}
+use Rattle.universe.specs.Choice.{IsOrdered, is_higher, is_highest, listed_pair, stanza_of}
 use Rattle.universe.proofs.Finding.{find-exists, find-some, sorted-one}
-use Rattle.universe.proofs.Fresh.{AreUsual, IsAdmitted-from, IsAdmitted-is, IsCandidate-is, IsCandidate-usual, NoneHigher}
+use Rattle.universe.proofs.Fresh.{AreUsual, IsCandidate-is, IsCandidate-usual, NoneHigher}
 use Rattle.universe.proofs.PairOrder.{is_of-from, is_of-parts, pair_cmp-tied}
 use Rattle.universe.specs.PairLaws.{pair_cmp_total}
 use mathlib.Core.Logic.{inl, inr}

@@ -1,6 +1,6 @@
 -- What install goals ask for with `=`, as a list and as a fact.
-use Rattle.std.proofs.Common.{◌≡◌, ℕ, Bool, true, false, cond, List, [], ◌∷◌, Option, Some, None, ◌⊎◌, refl, sym, ap, subst, ◌∙◌}
-use Rattle.std.specs.List.{Any, Contains, cons_option, filter_map, list_any}
+use Rattle.std.proofs.Common.{◌≡◌, ℕ, Bool, true, false, cond, List, [], ◌∷◌, Option, Some, None, refl, sym, ap, subst, ◌∙◌}
+use Rattle.std.specs.List.{Any, Contains, cons_option, filter_map}
 use Rattle.std.proofs.lemmas.Option.{same_Some}
 use Rattle.rules.specs.Available.{is_of}
 use Rattle.rules.specs.ElementLaws.{Any-elim, Any-from_list_any, Any-intro, Contains-cons, Contains-head, Contains-nil, Contains-rest, list_any-from_contains}
@@ -9,10 +9,9 @@ use Rattle.rules.specs.Version.{SameVersion}
 use Rattle.rules.specs.VersionOrderLaws.{SameVersion-symm, SameVersion-trans}
 use Rattle.rules.specs.declared.goal.Goal.{Goal}
 use Rattle.rules.specs.declared.goal.Goal.TheVariants as goal
-use Rattle.rules.specs.declared.goal.Restriction.{Restriction}
 use Rattle.rules.specs.declared.op.Op.{Op}
 use Rattle.rules.specs.declared.op.Op.TheVariants as operator
-use Rattle.universe.specs.Choice.{Exact, exact_by, exact_of, exacts_of, is_asked, is_exactly}
+use Rattle.universe.specs.Choice.{Exact, exact_of, exacts_of, is_asked, is_exactly}
 use Rattle.universe.proofs.PairOrder.{is_of-from, is_of-parts}
 use mathlib.Core.Logic.{inl, inr}
 

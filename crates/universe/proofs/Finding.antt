@@ -1,7 +1,7 @@
 -- What `find` finds in lists that are mapped, filtered, freed of repetitions and sorted.
-use Rattle.std.proofs.Common.{◌≡◌, ℕ, Bool, true, false, cond, List, [], ◌∷◌, map, Option, Some, None, ◌⊎◌, refl, sym, subst, ◌∙◌}
+use Rattle.std.proofs.Common.{◌≡◌, Bool, true, false, cond, List, [], ◌∷◌, map, Option, Some, None, ◌⊎◌, refl, sym, subst, ◌∙◌}
 use Rattle.std.specs.Cmp.{IsTotalOrder, tied_back}
-use Rattle.std.specs.List.{All, Contains, dedup, dedup_from, filter, find}
+use Rattle.std.specs.List.{Contains, dedup, dedup_from, filter, find}
 use Rattle.std.specs.List.Sorted.{IsStrictlySortedBy}
 use Rattle.std.specs.Option.{option_map}
 use Rattle.std.specs.declared.cmp.Ordering.{Ordering}

@@ -1,15 +1,14 @@
 -- Priorities and candidates where nothing is installed or preferred and every index has the usual priority.
-use Rattle.std.proofs.Common.{◌≡◌, ℕ, ℤ, pos, ◌≤ℤ◌, ◌<ℤ◌, Bool, true, List, [], ◌∷◌, map, Option, Some, None, ◌⊎◌, MatchOption, refl, sym, ap, subst, ◌∙◌, arith}
+use Rattle.std.proofs.Common.{◌≡◌, ℕ, ℤ, pos, ◌≤ℤ◌, List, [], ◌∷◌, map, Option, Some, None, MatchOption, refl, sym, ap, subst, ◌∙◌, arith}
 use Rattle.std.specs.List.{All, Any, Contains, list_any}
 use Rattle.std.specs.Option.{option_map}
 use Rattle.std.specs.declared.cmp.Ordering.TheVariants.{Greater}
 use Rattle.std.proofs.lemmas.Int.{ints}
 use Rattle.std.proofs.lemmas.List.Elements.{All-contains, Contains-append_cases}
 use Rattle.rules.specs.Available.{Index, Inputs, all_listed, index_package, is_of}
-use Rattle.rules.specs.Database.{Record}
 use Rattle.rules.specs.ElementLaws.{All-intro, Any-elim, Contains-filter, Contains-filter_intro, Contains-head, Contains-map, Contains-map_intro, Contains-nil, Contains-rest, list_any-from_contains}
 use Rattle.rules.specs.Package.{Pkg}
-use Rattle.rules.specs.Priority.{HasPriority, HasPriorityAs, IsCandidate, IsDowngrade, IsEligible, IsGreatest, IsUpTo, Origin, default_priority, index_origin, indices_with, origin_priority, origins_of}
+use Rattle.rules.specs.Priority.{HasPriority, HasPriorityAs, IsCandidate, IsDowngrade, IsEligible, IsGreatest, IsUpTo, Origin, default_priority, index_origin, indices_with, origin_priority}
 use Rattle.rules.specs.Step.{Listed}
 use Rattle.rules.specs.Universe.{IsAdmitted, IsOffered, StandsAs}
 use Rattle.rules.specs.Version.{version_cmp}

@@ -5,5 +5,6 @@ pub mod Finding
 pub mod Fresh
 pub mod Made
 pub mod Neighbours
+pub mod OneUniverse
 pub mod PairOrder
 pub mod Searching

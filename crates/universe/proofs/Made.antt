@@ -1,6 +1,6 @@
 -- The pairs that are the highest of their name or asked for, and the candidates, make the universe of a request
 -- where nothing is installed.
-use Rattle.std.proofs.Common.{◌≡◌, ◌≢◌, ◌<◌, ℕ, ℤ, pos, Bool, true, ◌||◌, List, [], ◌∷◌, map, length, Option, Some, None, ◌⊎◌, ◌↔◌, refl, sym, ap, subst, ◌∙◌, arith}
+use Rattle.std.proofs.Common.{◌≡◌, ◌≢◌, ℕ, ℤ, pos, Bool, true, ◌||◌, List, [], ◌∷◌, map, Option, Some, ◌↔◌, refl, sym, ap, subst, ◌∙◌, arith}
 use Rattle.std.specs.Cmp.{tied_itself}
 use Rattle.std.specs.Cmp.Lexicographic.{nat_list_cmp_total}
 use Rattle.std.specs.List.{All, AllPairs, Any, Contains, cons_option, filter, filter_map}
@@ -15,17 +15,17 @@ use Rattle.std.proofs.lemmas.List.Kept.{AllPairs-cons, IsStrictlySortedBy-filter
 use Rattle.std.proofs.lemmas.List.Sorted.{list_any-IsPermutation}
 use Rattle.std.proofs.lemmas.Map.Keys.{sorted_tail}
 use Rattle.std.proofs.lemmas.Map.Views.{All-after_first}
-use Rattle.rules.specs.Available.{Index, Inputs, is_of, all_listed, counting_package, index_package}
-use Rattle.rules.specs.ElementLaws.{All-intro, Any-elim, Any-intro, Contains-filter, Contains-filter_intro, Contains-map, Contains-map_intro}
+use Rattle.rules.specs.Available.{Index, is_of, all_listed, counting_package, index_package}
+use Rattle.rules.specs.ElementLaws.{All-intro, Any-elim, Any-intro, Contains-filter, Contains-filter_intro, Contains-map_intro}
 use Rattle.rules.specs.Name.{name_cmp}
 use Rattle.rules.specs.Priority.{IsCandidate}
 use Rattle.rules.specs.Step.{Listed}
-use Rattle.rules.specs.Universe.{Candidate, IsAdmitted, IsOf, IsOffered, IsUniverse, NamesExactly, Pair, Universe, pair_cmp}
+use Rattle.rules.specs.Universe.{Candidate, IsAdmitted, IsOf, IsOffered, IsUniverse, Pair, Universe, pair_cmp}
 use Rattle.rules.specs.Version.{SameVersion, version_cmp}
 use Rattle.rules.specs.declared.goal.Goal.{Goal}
 use Rattle.rules.specs.declared.goal.GoalLine.{GoalLine}
-use Rattle.universe.specs.Build.{HaveStanzas, IsUniverseOf, goals_of, inputs_of}
-use Rattle.universe.specs.Choice.{AreExacts, Exact, IsChosen, IsOrdered, admitted_among, candidate_at, candidates_among, exact_of, exacts_of, is_asked, is_highest, listed_pair}
+use Rattle.universe.specs.Build.{IsUniverseOf, goals_of, inputs_of}
+use Rattle.universe.specs.Choice.{AreExacts, Exact, IsChosen, IsOrdered, admitted_among, candidate_at, candidates_among, exact_of, exacts_of, is_asked, is_highest}
 use Rattle.universe.proofs.Admitted.{available_of_pair, candidate_of_highest, highest_of_candidate, is_highest-none, of_itself, pair_of_available, stanza_found}
 use Rattle.universe.proofs.Asked.{is_asked-from, is_asked-names}
 use Rattle.universe.proofs.Fresh.{AreUsual, IsAdmitted-from, IsAdmitted-is}
@@ -189,7 +189,7 @@ pub chosen_alike : (lines : List GoalLine) (exacts : List Exact) (pairs admitted
 chosen_alike lines exacts pairs admitted candidates asked chosen =
     let own : List Exact = exacts_of (goals_of lines) in
     let same : filter_map (λ (line : GoalLine). exact_of line.goal) lines ≡ own =
-        sym (filter_map-map exact_of (λ (line : GoalLine). line.goal) lines) in
+    sym (filter_map-map exact_of (λ (line : GoalLine). line.goal) lines) in
     let moved : IsPermutation own exacts = subst (λ (e : List Exact). IsPermutation e exacts) same asked.same in
     record {
       admitted_ones = chosen.admitted_ones ∙ filter_agree
@@ -200,11 +200,20 @@ chosen_alike lines exacts pairs admitted candidates asked chosen =
       candidate_ones = chosen.candidate_ones;
     }
 
--- the universe of what is chosen
-pub universe_chosen : (listed : List Listed) (goals : List Goal) (pairs admitted : List Pair)
-    (candidates : List Candidate) → IsOrdered listed pairs → IsChosen (exacts_of goals) pairs admitted candidates
-    → IsUniverseOf listed goals (record { pairs = admitted; goals = goals; starts = []; candidates = candidates })
-universe_chosen listed goals pairs admitted candidates ordered chosen =
+-- the universe of what is chosen by the goals of these lines, given as equal ones
+pub universe_chosen : (listed : List Listed) (lines asked : List GoalLine) (pairs admitted : List Pair)
+    (candidates : List Candidate) → IsOrdered listed pairs → asked ≡ lines
+    → IsChosen (exacts_of (goals_of asked)) pairs admitted candidates
+    → IsUniverseOf listed (goals_of lines) (record {
+      pairs = admitted;
+      goals = goals_of lines;
+      starts = [];
+      candidates = candidates;
+    })
+universe_chosen listed lines asked pairs admitted candidates ordered alike chosen =
+    let goals : List Goal = goals_of lines in
+    let of : IsChosen (exacts_of goals) pairs admitted candidates =
+    subst (λ (l : List GoalLine). IsChosen (exacts_of (goals_of l)) pairs admitted candidates) alike chosen in
     let made : Universe = record { pairs = admitted; goals = goals; starts = []; candidates = candidates } in
     let other : Universe = record {
       pairs = admitted_among (exacts_of goals) pairs;
@@ -212,5 +221,5 @@ universe_chosen listed goals pairs admitted candidates ordered chosen =
       starts = [];
       candidates = candidates_among pairs;
     } in
-    let is : other ≡ made = sym (cc (chosen.admitted_ones, chosen.candidate_ones)) in
+    let is : other ≡ made = sym (cc (of.admitted_ones, of.candidate_ones)) in
     subst (IsUniverseOf listed goals) is (universe_of listed goals pairs ordered)

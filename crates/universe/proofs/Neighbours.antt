@@ -1,8 +1,8 @@
 -- In a sorted list the pair that follows shows whether a pair is the highest of its name.
-use Rattle.std.proofs.Common.{◌≡◌, ℕ, Bool, true, false, not, List, [], ◌∷◌, ◌++◌, Option, Some, None, ◌⊎◌, refl, sym, ap, subst, ◌∙◌, bytes_eq}
+use Rattle.std.proofs.Common.{◌≡◌, ℕ, true, false, not, List, [], ◌∷◌, ◌++◌, Option, Some, None, ◌⊎◌, refl, sym, ap, subst, ◌∙◌, bytes_eq}
 use Rattle.std.specs.Cmp.{tied_itself}
 use Rattle.std.specs.Cmp.Lexicographic.{nat_list_cmp_total}
-use Rattle.std.specs.List.{All, Contains}
+use Rattle.std.specs.List.{Contains}
 use Rattle.std.specs.List.Sorted.{IsStrictlySortedBy}
 use Rattle.std.specs.Ordering.{is_eq, ordering_reverse, ordering_then}
 use Rattle.std.specs.declared.cmp.Ordering.{Ordering}
@@ -19,7 +19,6 @@ use Rattle.rules.specs.Universe.{Pair, pair_cmp}
 use Rattle.rules.specs.Version.{version_cmp}
 use Rattle.rules.specs.VersionOrderLaws.{version_cmp-antisymm, version_cmp-refl}
 use Rattle.universe.specs.Choice.{differs, is_highest}
-use Rattle.universe.specs.PairLaws.{pair_cmp_total}
 use Rattle.universe.proofs.Admitted.{is_highest-from, is_highest-none}
 use Rattle.universe.proofs.Made.{below_named}
 use mathlib.Core.Logic.{inl, inr}

@@ -1,12 +1,10 @@
 -- The order of pairs: it is total, it ties just the pairs of one name and version, and a list that is sorted by it
 -- and freed of repetitions has the stanzas with the earliest of equal ones.
-use Rattle.std.proofs.Common.{◌≡◌, ℕ, Bool, true, false, not, ◌&&◌, cond, List, [], ◌∷◌, map, Option, Some, None, refl, sym, ap, subst, ◌∙◌, bytes_eq}
-use Rattle.std.specs.Cmp.{Equal-is, IsTotalOrder, nat_cmp_total, on_total, then_total, tied_itself}
-use Rattle.std.specs.Cmp.Lexicographic.{lists_total, nat_list_cmp_total, slice_cmp}
-use Rattle.std.specs.List.{dedup, filter, find}
+use Rattle.std.proofs.Common.{◌≡◌, ℕ, Bool, true, not, ◌&&◌, List, map, None, refl, sym, ap, subst, ◌∙◌, bytes_eq}
+use Rattle.std.specs.Cmp.{Equal-is}
+use Rattle.std.specs.List.{dedup, find}
 use Rattle.std.specs.List.Sorted.{IsSorted, IsStable, ties}
-use Rattle.std.specs.Option.{option_map}
-use Rattle.std.specs.Ordering.{eq_by_cmp, is_eq, is_lt, nat_cmp, ordering_reverse, ordering_then}
+use Rattle.std.specs.Ordering.{eq_by_cmp, is_eq, is_lt, ordering_reverse, ordering_then}
 use Rattle.std.specs.declared.cmp.Ordering.{Ordering}
 use Rattle.std.specs.declared.cmp.Ordering.TheVariants.{Less, Equal, Greater}
 use Rattle.std.proofs.lemmas.Bool.{and_parts, and_from}
@@ -19,8 +17,8 @@ use Rattle.rules.specs.Name.{name_cmp}
 use Rattle.rules.specs.Package.{Pkg}
 use Rattle.rules.specs.Step.{Listed, no_relations}
 use Rattle.rules.specs.Universe.{IsOf, Pair, pair_cmp}
-use Rattle.rules.specs.Version.{SameVersion, version_cmp}
-use Rattle.rules.specs.VersionOrderLaws.{version_cmp_total, version_cmp-same_left}
+use Rattle.rules.specs.Version.{version_cmp}
+use Rattle.rules.specs.VersionOrderLaws.{version_cmp-same_left}
 use Rattle.universe.specs.PairLaws.{pair_cmp_total}
 use Rattle.universe.specs.Choice.{IsOrdered, listed_pair}
 use Rattle.universe.proofs.Finding.{find-dedup, find-filter, find-map, first_of_all}

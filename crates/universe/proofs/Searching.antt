@@ -1,12 +1,11 @@
 -- What a binary search in a sorted list finds, and that the pairs in order have the names of the stanzas.
-use Rattle.std.proofs.Common.{◌≡◌, ℕ, ◌+◌, ◌<◌, ◌≤◌, Bool, true, false, not, ◌&&◌, List, [], ◌∷◌, length, get_or, Result, Ok, Err, Option, Some, None, ◌⊎◌, refl, sym, ap, subst, ◌∙◌, arith, bytes_eq}
+use Rattle.std.proofs.Common.{◌≡◌, ℕ, ◌+◌, ◌<◌, ◌≤◌, Bool, true, false, not, ◌&&◌, List, [], ◌∷◌, length, get_or, Result, Ok, Err, Option, Some, None, refl, sym, ap, ◌∙◌, arith, bytes_eq}
 use Rattle.std.specs.Prelude.{is_ok}
-use Rattle.std.specs.Cmp.{IsTotalOrder}
 use Rattle.std.specs.Cmp.Lexicographic.{nat_list_cmp_total}
-use Rattle.std.specs.List.{AllPairs, Any, Contains, find, list_any}
+use Rattle.std.specs.List.{Any, find, list_any}
 use Rattle.std.specs.List.Sorted.{IsBinarySearchResult, IsNonDecreasingBy, IsSearchInRange, IsSorted, IsSortedBy, IsStrictlySortedBy}
 use Rattle.std.specs.Option.{option_map, option_map_or}
-use Rattle.std.specs.Ordering.{is_eq, is_lt, nat_cmp, ordering_index, ordering_reverse, ordering_then}
+use Rattle.std.specs.Ordering.{is_eq, is_lt, ordering_index, ordering_reverse, ordering_then}
 use Rattle.std.specs.declared.cmp.Ordering.{Ordering}
 use Rattle.std.specs.declared.cmp.Ordering.TheVariants.{Less, Equal, Greater}
 use Rattle.std.proofs.lemmas.Bool.{cases_lt, false_from_ne_true}
@@ -15,16 +14,15 @@ use Rattle.std.proofs.lemmas.List.Sorted.{searchable_from_sorted}
 use Rattle.std.proofs.lemmas.Map.Text.{is_eq-slice_cmp}
 use Rattle.rules.specs.Available.{is_of, same_version}
 use Rattle.rules.specs.ElementLaws.{Any-elim, Any-from_list_any, list_any-from_contains}
-use Rattle.rules.specs.NamedLaws.{bytes_eq-true, bytes_eq-same}
 use Rattle.rules.specs.Name.{name_cmp}
 use Rattle.rules.specs.Step.{Listed}
-use Rattle.rules.specs.Universe.{IsOf, Pair, pair_cmp}
+use Rattle.rules.specs.Universe.{Pair, pair_cmp}
 use Rattle.rules.specs.Version.{version_cmp}
 use Rattle.rules.specs.VersionOrderLaws.{SameVersion-refl}
 use Rattle.rules.specs.declared.goal.Goal.{Goal}
 use Rattle.rules.specs.declared.goal.GoalLine.{GoalLine}
 use Rattle.universe.specs.Build.{first_unknown, first_unknown_by, has_name, is_unknown, named_by}
-use Rattle.universe.specs.Choice.{Exact, IsOrdered, exact_at, exact_cmp, has_pair, is_asked, listed_pair, stanza_of}
+use Rattle.universe.specs.Choice.{Exact, IsOrdered, exact_at, exact_cmp, has_pair, is_asked, listed_pair}
 use Rattle.universe.specs.PairLaws.{exact_cmp_total}
 use Rattle.universe.proofs.Admitted.{pair_found, stanza_found, of_itself}
 use Rattle.universe.proofs.Finding.{find-exists, find-some}
@@ -83,9 +81,9 @@ pub searched_pair : (pairs : List Pair) (name : List ℕ) (r : Result ℕ ℕ) �
     → is_ok r ≡ has_pair pairs name
 searched_pair pairs name r ascending within found =
     searched_any (λ (pair : Pair). bytes_eq pair.pkg.name name) (λ (pair : Pair). name_cmp pair.pkg.name name) pairs r
-        (λ pair. is_eq-slice_cmp pair.pkg.name name)
-        (searchable_from_sorted nat_list_cmp_total (λ (pair : Pair). pair.pkg.name) pairs name (sorted_names pairs ascending))
-        within found
+    (λ pair. is_eq-slice_cmp pair.pkg.name name)
+    (searchable_from_sorted nat_list_cmp_total (λ (pair : Pair). pair.pkg.name) pairs name (sorted_names pairs ascending))
+    within found
 
 -- tied either way round
 is_eq-reverse : (o : Ordering) → is_eq (ordering_reverse o) ≡ is_eq o
@@ -107,8 +105,8 @@ pub searched_exact : (exacts : List Exact) (pair : Pair) (r : Result ℕ ℕ) �
     → is_ok r ≡ is_asked exacts pair
 searched_exact exacts pair r ascending within found =
     searched_any (λ (exact : Exact). is_of exact.name exact.version pair.pkg) (λ (exact : Exact). exact_cmp exact (exact_at pair))
-        exacts r (λ exact. exact_ties exact pair)
-        (searchable_from_sorted exact_cmp_total (λ (exact : Exact). exact) exacts (exact_at pair) ascending) within found
+    exacts r (λ exact. exact_ties exact pair)
+    (searchable_from_sorted exact_cmp_total (λ (exact : Exact). exact) exacts (exact_at pair) ascending) within found
 
 -- one test passes where the other does
 same_tests : (a b : Bool) → (a ≡ true → b ≡ true) → (b ≡ true → a ≡ true) → a ≡ b
@@ -130,14 +128,14 @@ has_pair-names listed pairs ordered name = same_tests (has_pair pairs name) (has
     (λ some. Any-elim (λ (found : Listed). bytes_eq found.pkg.name name ≡ true) listed (has_pair pairs name ≡ true)
     (λ found within named.
     let first = find-exists (λ (other : Listed). is_of found.pkg.name found.pkg.version other.pkg) listed found within
-            (is_of-from found.pkg.name found.pkg.version found.pkg (refl, SameVersion-refl found.pkg.version)) in
+    (is_of-from found.pkg.name found.pkg.version found.pkg (refl, SameVersion-refl found.pkg.version)) in
     let there = pair_found listed pairs ordered found.pkg.name found.pkg.version first.0 first.1 in
     list_any-from_contains (λ (pair : Pair). bytes_eq pair.pkg.name name) pairs (listed_pair first.0) there.0
     (ap (λ (n : List ℕ). bytes_eq n name) there.1.0 ∙ named))
     (Any-from_list_any (λ (found : Listed). bytes_eq found.pkg.name name) listed some))
 
 -- two tests that agree find the same
-find-agree : {X : Type 0} (p q : X → Bool) → ((x : X) → p x ≡ q x) → (xs : List X) → find p xs ≡ find q xs
+pub find-agree : {X : Type 0} (p q : X → Bool) → ((x : X) → p x ≡ q x) → (xs : List X) → find p xs ≡ find q xs
 find-agree p q same [] = refl
 find-agree p q same (x ∷ xs) =
     let here : p x ≡ q x = same x in
@@ -159,3 +157,12 @@ pub first_unknown-ordered : (listed : List Listed) (pairs : List Pair) → IsOrd
 first_unknown-ordered listed pairs ordered lines = ap (option_map (λ (asked : GoalLine). asked.line))
     (find-agree (λ (asked : GoalLine). is_unknown (has_pair pairs) asked.goal) (λ (asked : GoalLine). is_unknown (has_name listed) asked.goal)
     (λ asked. is_unknown-agree (has_pair pairs) (has_name listed) (has_pair-names listed pairs ordered) asked.goal) lines)
+
+-- the same of other values that are equal
+pub first_unknown-among : (listed : List Listed) (pairs among : List Pair) (lines asked : List GoalLine)
+    → IsOrdered listed pairs → among ≡ pairs → asked ≡ lines
+    → first_unknown listed lines ≡ first_unknown_by (has_pair among) asked
+first_unknown-among listed pairs among lines asked ordered same alike =
+    sym (ap (λ (p : List Pair). first_unknown_by (has_pair p) asked) same
+    ∙ ap (λ (l : List GoalLine). first_unknown_by (has_pair pairs) l) alike
+    ∙ first_unknown-ordered listed pairs ordered lines)

@@ -1,21 +1,15 @@
 -- The universe of a request where nothing is installed at the start and every index has the usual priority
 -- (apt_preferences(5)). Which request is refused is this project's own.
-use Rattle.std.specs.Prelude.{◌≡◌, ℕ, ◌<◌, pos, Bool, false, not, List, [], map, ◌||◌, ◌&&◌, ⊤, Option, Some, None, length, bytes_eq}
-use Rattle.std.specs.List.{All, list_any, filter, find}
-use Rattle.std.specs.List.Sorted.{IsStrictlySortedBy}
+use Rattle.std.specs.Prelude.{◌≡◌, ℕ, pos, Bool, false, not, List, [], map, Option, Some, None, bytes_eq}
+use Rattle.std.specs.List.{All, list_any, find}
 use Rattle.std.specs.Option.{option_map, option_map_or}
-use Rattle.std.specs.Ordering.{is_eq, is_lt}
-use Rattle.rules.specs.Available.{Index, Inputs, all_listed, is_of, same_version}
+use Rattle.rules.specs.Available.{Index, Inputs, all_listed}
 use Rattle.rules.specs.Priority.{default_priority}
 use Rattle.rules.specs.Step.{Listed}
-use Rattle.rules.specs.Universe.{Candidate, IsUniverse, Pair, Universe, pair_cmp}
-use Rattle.rules.specs.Version.{version_cmp}
+use Rattle.rules.specs.Universe.{IsUniverse, Universe}
 use Rattle.rules.specs.declared.goal.Goal.{Goal}
 use Rattle.rules.specs.declared.goal.Goal.TheVariants as goal
 use Rattle.rules.specs.declared.goal.GoalLine.{GoalLine}
-use Rattle.rules.specs.declared.goal.Restriction.{Restriction}
-use Rattle.rules.specs.declared.op.Op.{Op}
-use Rattle.rules.specs.declared.op.Op.TheVariants as op
 
 -- the inputs of a request where nothing is installed or preferred
 abbrev pub inputs_of : List Index → List Goal → Inputs

@@ -4,3 +4,4 @@ pub mod Error
 pub mod Pair
 pub mod PairLaws
 pub mod Universe
+pub mod UniverseLaws

@@ -8,6 +8,7 @@ mod candidate;
 mod choice;
 mod error;
 mod exact;
+mod laws;
 mod order;
 mod pair;
 mod pairs;
@@ -18,7 +19,11 @@ pub use built::build;
 pub use candidate::Candidate;
 pub use error::UniverseError;
 pub use index::Listed;
+pub use laws::one_list_of_pairs;
 pub use pair::Pair;
 pub use pairs::Pairs;
 pub use start::Start;
 pub use universe::Universe;
+
+#[cfg(test)]
+mod tests;

@@ -103,7 +103,7 @@ impl<'a> Universe<'a> {
         ensures { option_copied result ≡ numbered number self.now.pairs }
     {
         let place = number.checked_sub(1)?;
-        self.pairs.as_slice().get(place as usize)
+        self.pairs().get(place as usize)
     }
 
     /// The stanza of this version of the name, if the pair is admitted and in an index. Linear in the pairs.

@@ -97,6 +97,7 @@ impl Request {
     pub fn into_vec(self) -> Vec<GoalLine>
         ensures { result.items ≡ self }
     {
-        self.goals
+        let Request { goals } = self;
+        goals
     }
 }

@@ -79,7 +79,7 @@ fn stanzas_of_the_architecture_are_listed(rt: HostRuntime) -> Result<(), Fail> {
     Ok(())
 }
 
-// Policy 5.9 has `Essential: yes`; that Protected says the same is this project's own.
+// Policy 5.6.9 has `Essential: yes`; that Protected says the same is this project's own.
 #[test]
 fn yes_alone_marks_a_package_essential(rt: HostRuntime) -> Result<(), Fail> {
     let rows = [

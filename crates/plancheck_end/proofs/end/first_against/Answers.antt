@@ -21,7 +21,7 @@ returns-in-Some-least_lost c =
     let P : List ℕ → Type 0 = λ name. IsFirstAgainst c.args.universe.now c.args.db.now (reason.Essential name) in
     let name = c.in-Some-least_lost.name.now in
     let Least : List Start → Type 0 = λ starts. IsLeastWithout (KeepsEssential (installed_of c.args.db.now))
-        (λ (start : Start). start.name) starts (Some name) in
+    (λ (start : Start). start.name) starts (Some name) in
     subst P (sym c.in_ok-copied_from-3.ensures) (first_essential c.args.universe.now c.args.db.now name
     c.in_default.ensures c.in_default-least_discontent.ensures
     (subst Least c.starts.ensures c.in-Some-least_lost.ensures))

@@ -12,7 +12,7 @@ returns-then-not-is_fulfilled c =
     let Within : List Goal → Type 0 = λ goals. place < length goals in
     let Read : List Goal → Type 0 = λ goals. asked ≡ get_or goals place asked in
     let Before : List Goal → Type 0 = λ goals. (k : ℕ) (d : Goal) → k < place
-        → IsFulfilled c.args.universe.now c.args.db.now (get_or goals k d) in
+    → IsFulfilled c.args.universe.now c.args.db.now (get_or goals k d) in
     first_at c.args.universe.now c.args.db.now place asked (subst Within c.goals-goals.ensures c.loop-place-test.true)
     (subst Read c.goals-goals.ensures c.index-goals-place.is)
     (λ fulfilled. absurd (let e : true ≡ false = sym (c.is_fulfilled.ensures.1 fulfilled) ∙ c.if-not-is_fulfilled.true in cc))

@@ -1,10 +1,9 @@
 -- A stable sort that is freed of repetitions.
-use Rattle.std.proofs.Common.{map, List, subst}
+use Rattle.std.proofs.Common.{List, subst}
 use Rattle.std.specs.List.Sorted.{IsStable}
 use Rattle.std.specs.Ordering.{eq_by_cmp}
 use Rattle.std.proofs.lemmas.List.Filters.{dedup_is}
 use Rattle.rules.specs.Universe.{Pair, pair_cmp}
-use Rattle.universe.specs.Choice.{listed_pair}
 use Rattle.universe.proofs.PairOrder.{IsOrdered-from_sort}
 use Rattle.universe.proofs.order.in_order.Goals as goal
 

@@ -40,11 +40,11 @@ returns-in_err-read_goal-clause-err c =
     let asks : is_skipped here ≡ false = cc in
     let count : c.len.result ≡ length goals = omega arith in
     let bad : IsRequestFault e (read_goal arch (line + 1) (length goals + 1) here) =
-        subst (λ (n : ℕ). IsRequestFault e (read_goal arch (line + 1) (n + 1) here)) count c.in_err-read_goal.ensures.err in
+    subst (λ (n : ℕ). IsRequestFault e (read_goal arch (line + 1) (n + 1) here)) count c.in_err-read_goal.ensures.err in
     let refused : IsRequestFault e (read_lines arch 1 1 (lines_of c.args.text.now)) =
-        subst (IsRequestFault e)
-        (ap (λ lines. put_goals goals (read_lines arch (line + 1) (length goals + 1) lines)) (sym first) ∙ c.loop-left.invariant.same)
-        (goals_refused e goals arch (line + 1) (length goals + 1) here behind asks bad) in
+    subst (IsRequestFault e)
+    (ap (λ lines. put_goals goals (read_lines arch (line + 1) (length goals + 1) lines)) (sym first) ∙ c.loop-left.invariant.same)
+    (goals_refused e goals arch (line + 1) (length goals + 1) here behind asks bad) in
     grind (arith, common_steps, refused)
 
 pub loop-left-preserved : goal.loop-left-preserved
@@ -60,9 +60,9 @@ loop-left-preserved c =
     let asks : is_skipped here ≡ false = cc in
     let count : c.len.result ≡ length goals = omega arith in
     let read : read_goal arch (line + 1) number here ≡ Ok goal =
-        subst (λ (n : ℕ). read_goal arch (line + 1) (n + 1) here ≡ Ok goal) count c.in_ok-read_goal.ensures.ok in
+    subst (λ (n : ℕ). read_goal arch (line + 1) (n + 1) here ≡ Ok goal) count c.in_ok-read_goal.ensures.ok in
     let longer : length c.push.new.self.items ≡ length goals + 1 =
-        ap length c.in_ok-push.ensures.items ∙ length_push goals goal in
+    ap length c.in_ok-push.ensures.items ∙ length_push goals goal in
     let left : len_left c.loop-left.left ≡ length c.in-Some.rest.now + 1 = ap len_left c.in-Some.is in
     record {
       same = rw (longer, c.in_ok-push.ensures.items)

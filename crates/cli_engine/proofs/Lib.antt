@@ -1,0 +1,4 @@
+pub mod MeaningLemmas
+pub mod PlacedLemmas
+pub mod SourcesLemmas
+pub mod StatusLemmas

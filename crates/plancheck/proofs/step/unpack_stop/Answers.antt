@@ -1,0 +1,20 @@
+-- The bytes of the name are the name, and the version read from a text is the text.
+use Rattle.std.proofs.Common.{List, ℕ, Option, subst, MatchOption}
+use Rattle.std.specs.List.{All}
+use Rattle.rules.specs.Legal.{Allowed, IsFirstFailing, IsFirstUnkept, UnpackAsks, unpack_rules}
+use Rattle.rules.specs.Step.{Listed}
+use Rattle.rules.specs.Universe.{listed_of}
+use Rattle.plancheck.proofs.step.unpack_stop.Goals as goal
+
+pub returns : goal.returns
+unfolding Allowed IsFirstFailing
+returns c =
+    let Stops : Option Listed → List ℕ → List ℕ → Type 0 = λ listed name version.
+    MatchOption c.unpack_failing.result (All (UnpackAsks listed c.args.db.now name version) unpack_rules)
+    (λ rule. IsFirstUnkept (UnpackAsks listed c.args.db.now name version) unpack_rules rule) in
+    let u = c.args.universe.now in
+    let read = c.version_of-version.result in
+    let found = subst (λ listed. Stops listed c.as_bytes-2.result.now read) c.listed_of-listed.ensures c.unpack_failing.ensures in
+    let asked = subst (λ name. Stops (listed_of u name read) c.as_bytes-2.result.now read) c.as_bytes.ensures.bytes found in
+    let named = subst (λ name. Stops (listed_of u c.args.name.now read) name read) c.as_bytes-2.ensures.bytes asked in
+    subst (λ version. Stops (listed_of u c.args.name.now version) c.args.name.now version) c.version_of-version.ensures named

@@ -1,0 +1,153 @@
+-- What is read as a plan is the text of its steps: each word, then each line, then all lines.
+use Rattle.std.proofs.Common.{◌≡◌, ℕ, ◌+◌, true, ltb, List, [], ◌∷◌, ◌++◌, length, Option, Some, None, Result, Ok, Err, refl, sym, ap, ◌∙◌, append_assoc, inl, inr}
+use Rattle.std.proofs.lemmas.Bool.{cases_Bool}
+use Rattle.std.proofs.lemmas.List.Splits.{join_with_byte-slice_split}
+use Rattle.std.specs.List.{flat_map, join_with_byte}
+use Rattle.std.specs.Option.{is_none, option_and_then, option_map}
+use Rattle.std.specs.Prelude.{codes}
+use Rattle.std.specs.Str.{bytes_eq}
+use Rattle.rules.specs.Name.{is_name}
+use Rattle.rules.specs.NamedLaws.{bytes_eq-true}
+use Rattle.rules.specs.VersionFault.{first_fault}
+use Rattle.rules.specs.declared.limits.TheConstants.{STEPS, TEXT_BYTES}
+use Rattle.rules.specs.declared.step.Step.{Step}
+use Rattle.rules.specs.declared.step.Step.TheVariants.{Unpack, Deconfigure, Configure, Remove, Purge}
+use Rattle.plantext.specs.Cut.{parts_at}
+use Rattle.plantext.specs.Group.{is_group}
+use Rattle.plantext.specs.Plan.{header, numbered_step, plan_text, put_step, read_end, read_lines, read_plan, read_step, read_steps}
+use Rattle.plantext.specs.StepLine.{configure_of, name_in, only_name, only_version, step_by, step_line, step_of, step_of_words, unpack_of, version_in, words_of}
+use Rattle.plantext.specs.declared.error.PlanFault.{PlanFault}
+
+-- Words
+
+name_is : (word name : List ℕ) → name_in word ≡ Some name → word ≡ name
+name_is word name h = elim (cases_Bool (is_name word)) [ inl e ↦ cc (rw e at h) | inr e ↦ cc (rw e at h) ]
+
+version_is : (word version : List ℕ) → version_in word ≡ Some version → word ≡ version
+version_is word version h = elim (cases_Bool (is_none (first_fault word))) [ inl e ↦ cc (rw e at h) | inr e ↦ cc (rw e at h) ]
+
+only_name_is : (words : List (List ℕ)) (name : List ℕ) → only_name words ≡ Some name → words ≡ name ∷ []
+only_name_is [] name h = cc
+only_name_is (word ∷ []) name h = ap (λ (w : List ℕ). w ∷ []) (name_is word name h)
+only_name_is (word ∷ next ∷ later) name h = cc
+
+only_version_is : (words : List (List ℕ)) (version : List ℕ) → only_version words ≡ Some version → words ≡ version ∷ []
+only_version_is [] version h = cc
+only_version_is (word ∷ []) version h = ap (λ (w : List ℕ). w ∷ []) (version_is word version h)
+only_version_is (word ∷ next ∷ later) version h = cc
+
+-- Actions
+
+named_is : (to_step : List ℕ → Step) (action : List ℕ) (words : List (List ℕ)) (step : Step)
+    → ((name : List ℕ) → words_of (to_step name) ≡ action ∷ name ∷ [])
+    → option_map to_step (only_name words) ≡ Some step → action ∷ words ≡ words_of step
+named_is to_step action words step spelled h = go (only_name words) refl h where
+  go : (found : Option (List ℕ)) → only_name words ≡ found → option_map to_step found ≡ Some step → action ∷ words ≡ words_of step
+  go None e g = cc
+  go (Some name) e g =
+      let same : to_step name ≡ step = cc in
+      ap (λ (ws : List (List ℕ)). action ∷ ws) (only_name_is words name e) ∙ sym (spelled name) ∙ ap words_of same
+
+unpack_is : (words : List (List ℕ)) (step : Step) → unpack_of words ≡ Some step → codes "unpack" ∷ words ≡ words_of step
+unpack_is [] step h = cc
+unpack_is (word ∷ later) step h = go (name_in word) refl (only_version later) refl h where
+  go : (found : Option (List ℕ)) → name_in word ≡ found → (kept : Option (List ℕ)) → only_version later ≡ kept
+      → option_and_then (λ name. option_map (λ version. Unpack name version) kept) found ≡ Some step → codes "unpack" ∷ word ∷ later ≡ words_of step
+  go None e kept k g = cc
+  go (Some name) e None k g = cc
+  go (Some name) e (Some version) k g =
+      let same : Unpack name version ≡ step = cc in
+      ap (λ (w : List ℕ). codes "unpack" ∷ w ∷ later) (name_is word name e)
+      ∙ ap (λ (ws : List (List ℕ)). codes "unpack" ∷ name ∷ ws) (only_version_is later version k) ∙ ap words_of same
+
+configure_is : (words : List (List ℕ)) (step : Step) → configure_of words ≡ Some step → codes "configure" ∷ words ≡ words_of step
+configure_is words step h = elim (cases_Bool (is_group words)) [
+  | inl e ↦ let same : Configure words ≡ step = cc (rw e at h) in ap words_of same
+  | inr e ↦ cc (rw e at h)
+]
+
+-- an action that is this word, before words that are the step's
+acted : (action word : List ℕ) (words : List (List ℕ)) (step : Step) → bytes_eq action word ≡ true → word ∷ words ≡ words_of step → action ∷ words ≡ words_of step
+acted action word words step e h = ap (λ (a : List ℕ). a ∷ words) (bytes_eq-true action word e) ∙ h
+
+step_by_is : (action : List ℕ) (words : List (List ℕ)) (step : Step) → step_by action words ≡ Some step → action ∷ words ≡ words_of step
+step_by_is action words step h = elim (cases_Bool (bytes_eq action (codes "unpack"))) [
+  | inl e ↦ acted action (codes "unpack") words step e (unpack_is words step (rw e at h))
+  | inr e ↦ let h1 = rw e at h in elim (cases_Bool (bytes_eq action (codes "deconfigure"))) [
+    | inl e ↦ acted action (codes "deconfigure") words step e (named_is (λ name. Deconfigure name) (codes "deconfigure") words step (λ name. refl) (rw e at h1))
+    | inr e ↦ let h2 = rw e at h1 in elim (cases_Bool (bytes_eq action (codes "configure"))) [
+      | inl e ↦ acted action (codes "configure") words step e (configure_is words step (rw e at h2))
+      | inr e ↦ let h3 = rw e at h2 in elim (cases_Bool (bytes_eq action (codes "remove"))) [
+        | inl e ↦ acted action (codes "remove") words step e (named_is (λ name. Remove name) (codes "remove") words step (λ name. refl) (rw e at h3))
+        | inr e ↦ let h4 = rw e at h3 in elim (cases_Bool (bytes_eq action (codes "purge"))) [
+          | inl e ↦ acted action (codes "purge") words step e (named_is (λ name. Purge name) (codes "purge") words step (λ name. refl) (rw e at h4))
+          | inr e ↦ cc (rw e at h4)
+        ]
+      ]
+    ]
+  ]
+]
+
+-- Lines
+
+words_are : (words : List (List ℕ)) (step : Step) → step_of_words words ≡ Some step → words ≡ words_of step
+words_are [] step h = cc
+words_are (action ∷ words) step h = step_by_is action words step h
+
+-- a line that is read as a step is the step's
+line_is : (line : List ℕ) (step : Step) → step_of line ≡ Some step → line ++ 10 ∷ [] ≡ step_line step
+unfolding step_of step_line
+line_is line step h = ap (λ (text : List ℕ). text ++ 10 ∷ [])
+    (sym (join_with_byte-slice_split 32 line) ∙ ap (join_with_byte 32) (words_are (parts_at 32 line) step h))
+
+numbered_is : (number : ℕ) (found : Option Step) (step : Step) → numbered_step number found ≡ Ok step → found ≡ Some step
+numbered_is number None step h = cc
+numbered_is number (Some other) step h = elim (cases_Bool (ltb STEPS number)) [ inl e ↦ cc (rw e at h) | inr e ↦ cc (rw e at h) ]
+
+-- the step that was read, and the steps behind it
+record Puts (read : Result Step PlanFault) (later : Result (List Step) PlanFault) (steps : List Step) : Type 0 where
+  step : Step
+  more : List Step
+  here : read ≡ Ok step
+  behind : later ≡ Ok more
+  all : steps ≡ step ∷ more
+
+puts : (read : Result Step PlanFault) (later : Result (List Step) PlanFault) (steps : List Step) → put_step read later ≡ Ok steps → Puts read later steps
+puts (Ok step) (Ok more) steps h = record { step = step; more = more; here = refl; behind = refl; all = cc }
+puts (Ok step) (Err fault) steps h = cc
+puts (Err fault) later steps h = cc
+
+end_is : (number : ℕ) (last : List ℕ) (steps : List Step) → read_end number last ≡ Ok steps → last ≡ flat_map step_line steps
+end_is number [] steps h = let none : steps ≡ [] = cc in rw none refl
+end_is number (b ∷ bytes) steps h = cc
+
+-- the lines that are read as steps are the steps'
+steps_are : (number : ℕ) (parts : List (List ℕ)) (steps : List Step) → read_steps number parts ≡ Ok steps → join_with_byte 10 parts ≡ flat_map step_line steps
+steps_are number [] steps h = cc
+steps_are number (last ∷ []) steps h = end_is number last steps h
+steps_are number (line ∷ next ∷ later) steps h =
+    let put = puts (read_step number line) (read_steps (number + 1) (next ∷ later)) steps h in
+    let behind = steps_are (number + 1) (next ∷ later) put.more put.behind in
+    let here = line_is line put.step (numbered_is number (step_of line) put.step put.here) in
+    sym (append_assoc line (10 ∷ []) (join_with_byte 10 (next ∷ later)))
+    ∙ ap (λ (text : List ℕ). text ++ join_with_byte 10 (next ∷ later)) here
+    ∙ ap (λ (text : List ℕ). step_line put.step ++ text) behind
+    ∙ sym (ap (flat_map step_line) put.all)
+
+lines_are : (parts : List (List ℕ)) (steps : List Step) → read_lines parts ≡ Ok steps → join_with_byte 10 parts ≡ plan_text steps
+unfolding plan_text
+lines_are [] steps h = cc
+lines_are (first ∷ []) steps h = elim (cases_Bool (bytes_eq first header)) [ inl e ↦ cc (rw e at h) | inr e ↦ cc (rw e at h) ]
+lines_are (first ∷ next ∷ later) steps h = elim (cases_Bool (bytes_eq first header)) [
+  | inl e ↦
+      ap (λ (text : List ℕ). text ++ 10 ∷ join_with_byte 10 (next ∷ later)) (bytes_eq-true first header e)
+      ∙ ap (λ (text : List ℕ). header ++ 10 ∷ text) (steps_are 1 (next ∷ later) steps (rw e at h))
+  | inr e ↦ cc (rw e at h)
+]
+
+pub read_is_written : (text : List ℕ) (steps : List Step) → read_plan text ≡ Ok steps → text ≡ plan_text steps
+unfolding read_plan
+read_is_written text steps h = elim (cases_Bool (ltb TEXT_BYTES (length text))) [
+  | inl e ↦ cc (rw e at h)
+  | inr e ↦ sym (join_with_byte-slice_split 10 text) ∙ lines_are (parts_at 10 text) steps (rw e at h)
+]

@@ -1,0 +1,11 @@
+// The law of what is read as a plan.
+
+ghost use Rattle.std.specs.Prelude.{◌≡◌, ℕ, List, Ok};
+ghost use Rattle.rules.specs.declared.step.Step.{Step};
+ghost use Rattle.plantext.specs.Plan.{plan_text, read_plan};
+
+/// A text that is read as a plan is the text of the steps that it is read as: no two texts are read as the same
+/// plan.
+pub fn a_plan_is_the_text_of_its_steps()
+    ensures { (text : List ℕ) (steps : List Step) → read_plan text ≡ Ok steps → text ≡ plan_text steps }
+{}

@@ -1,0 +1,28 @@
+-- The last goal that is read, and what a line is for.
+use Rattle.std.proofs.Common.{◌≡◌, ℕ, true, false, Ok, Err, refl}
+use Rattle.std.specs.Prelude.{codes}
+use Rattle.rules.specs.declared.goal.Goal.{Goal}
+use Rattle.universe_request.specs.Request.{counted_goal, on_line}
+use Rattle.universe_request.specs.Words.{after_word, is_skipped, word_of}
+use Rattle.universe_request.specs.declared.error.RequestFault.TheVariants.{TooLarge}
+
+-- the hundred thousandth goal is read, and the next is one too many
+last_goal : (line : ℕ) (goal : Goal) → counted_goal line 100000 goal ≡ Ok (on_line line goal)
+last_goal line goal = refl
+
+goal_too_many : (line : ℕ) (goal : Goal) → counted_goal line 100001 goal ≡ Err TooLarge
+goal_too_many line goal = refl
+
+-- the words of `upgrade  foo`
+action : word_of (codes "upgrade  foo") ≡ codes "upgrade"
+action = refl
+
+name : after_word (codes "upgrade  foo") ≡ codes "foo"
+name = refl
+
+-- a comment asks for nothing, and one behind a space is none
+comment : is_skipped (codes "# x") ≡ true
+comment = refl
+
+no_comment : is_skipped (codes " # x") ≡ false
+no_comment = refl
