@@ -13,6 +13,34 @@ const ALL: [(&str, &str); 5] = [
     ("plan", "plan 1\nunpack a 1\nconfigure a\n"),
 ];
 
+// The files, but that one is missing, and one has this text.
+fn files_but<'a>(missing: &str, refused: &str, text: &'a str) -> [(&'a str, &'a str); 5] {
+    let [status, sources, index, request, plan] = ALL;
+    [
+        changed(status, missing, refused, text),
+        changed(sources, missing, refused, text),
+        changed(index, missing, refused, text),
+        changed(request, missing, refused, text),
+        changed(plan, missing, refused, text),
+    ]
+}
+
+fn changed<'a>(
+    file: (&'a str, &'a str),
+    missing: &str,
+    refused: &str,
+    text: &'a str,
+) -> (&'a str, &'a str) {
+    let (path, kept) = file;
+    if path == missing {
+        ("elsewhere", kept)
+    } else if path == refused {
+        (path, text)
+    } else {
+        file
+    }
+}
+
 #[test]
 fn each_file_is_opened_once_and_at_its_turn(rt: HostRuntime) -> Result<(), Fail> {
     let words = check_plan_words(rt.alloc())?;
@@ -40,12 +68,7 @@ fn the_first_file_that_cannot_be_read_is_refused_and_none_is_opened_behind_it(
         ("plan", "plan", "status sources index1 request plan "),
     ] {
         let words = check_plan_words(rt.alloc())?;
-        let mut files = ALL;
-        for file in &mut files {
-            if file.0 == missing {
-                file.0 = "elsewhere";
-            }
-        }
+        let files = files_but(missing, "none", "");
         let mut host = Memory::new(rt.alloc(), &files);
         let printed = run_on(rt.alloc(), words.as_slice(), &mut host)?;
         let err = format!(in rt.alloc(); "debplan: {place}: E5 Read\n")?;
@@ -92,15 +115,7 @@ fn a_refusal_of_an_earlier_text_wins_over_a_file_that_cannot_be_read(
         ),
     ] {
         let words = check_plan_words(rt.alloc())?;
-        let mut files = ALL;
-        for file in &mut files {
-            if file.0 == missing {
-                file.0 = "elsewhere";
-            }
-            if file.0 == refused {
-                file.1 = text;
-            }
-        }
+        let files = files_but(missing, refused, text);
         let mut host = Memory::new(rt.alloc(), &files);
         let printed = run_on(rt.alloc(), words.as_slice(), &mut host)?;
         assert!(rt; printed.is("", err, 3), "{missing} {refused}");
