@@ -1,6 +1,7 @@
 // What a plan is judged by, as texts.
 
 /// The texts that a request is answered from. They are read in the order of the fields.
+#[derive(Clone, Copy)]
 pub struct Inputs<'p, 'a> {
     /// The architecture that packages are for.
     pub arch: &'a [u8],

@@ -1,0 +1,41 @@
+-- What is printed of a verdict (this project's own form).
+use Rattle.std.specs.Prelude.{ℕ, List, ◌++◌, codes, decimal}
+use Rattle.rules.specs.declared.step.Reason.{Reason}
+use Rattle.rules.specs.declared.step.Reason.TheVariants as reason
+use Rattle.rules.specs.declared.step.Rule.{Rule}
+use Rattle.rules.specs.declared.step.Rule.TheVariants as rule
+use Rattle.rules.specs.declared.step.Verdict.{Verdict}
+use Rattle.rules.specs.declared.step.Verdict.TheVariants as verdict
+
+-- a rule: its code and its name
+abbrev pub rule_words : Rule → List ℕ
+rule_words rule.StartConflict = codes "F0 StartConflict"
+rule_words rule.PreDepends = codes "F1 PreDepends"
+rule_words rule.Conflict = codes "F2 Conflict"
+rule_words rule.Breaks = codes "F3 Breaks"
+rule_words rule.Depends = codes "F4 Depends"
+rule_words rule.Group = codes "F5 Group"
+rule_words rule.NeededBy = codes "F6 NeededBy"
+rule_words rule.Essential = codes "F7 Essential"
+rule_words rule.Held = codes "F8 Held"
+rule_words rule.WrongState = codes "F9 WrongState"
+rule_words rule.NotAdmitted = codes "F10 NotAdmitted"
+rule_words rule.End = codes "F11 End"
+
+-- a reason against the end: its word, and the name or the number of the goal
+abbrev pub reason_words : Reason → List ℕ
+reason_words (reason.Unfinished name) = codes "Unfinished " ++ name
+reason_words (reason.Relation name) = codes "Relation " ++ name
+reason_words (reason.Essential name) = codes "Essential " ++ name
+reason_words (reason.Goal number) = codes "Goal " ++ decimal number
+
+-- a verdict: yes, or no with the place and the rule that is broken there
+abbrev pub verdict_words : Verdict → List ℕ
+verdict_words verdict.Yes = codes "yes"
+verdict_words verdict.Start = codes "no start " ++ rule_words rule.StartConflict
+verdict_words (verdict.Step number broken) = codes "no step " ++ (decimal number ++ (codes " " ++ rule_words broken))
+verdict_words (verdict.End found) = codes "no end F11 " ++ reason_words found
+
+-- the line that is printed of a verdict
+abbrev pub verdict_line : Verdict → List ℕ
+verdict_line answer = verdict_words answer ++ codes "\n"

@@ -1,0 +1,36 @@
+-- With which status the program ends: 0 yes, 1 no, 3 refused, 4 wrong words, 5 device or memory (this project's own).
+use Rattle.std.specs.Prelude.{ℕ}
+use Rattle.cli.specs.declared.exit.Exit.{Exit}
+use Rattle.cli.specs.declared.exit.Exit.TheVariants as exit
+use Rattle.cli_engine.specs.declared.refusal.Fault.{Fault}
+use Rattle.cli_engine.specs.declared.refusal.Fault.TheVariants as fault
+use Rattle.rules.specs.declared.step.Verdict.{Verdict}
+use Rattle.rules.specs.declared.step.Verdict.TheVariants as verdict
+
+-- the exit status
+abbrev pub code_of : Exit → ℕ
+code_of exit.Success = 0
+code_of exit.No = 1
+code_of exit.Refused = 3
+code_of exit.Usage = 4
+code_of exit.Device = 5
+
+-- success for yes, and no for each no
+abbrev pub exit_of_verdict : Verdict → Exit
+exit_of_verdict verdict.Yes = exit.Success
+exit_of_verdict verdict.Start = exit.No
+exit_of_verdict (verdict.Step number rule) = exit.No
+exit_of_verdict (verdict.End reason) = exit.No
+
+-- the device's for want of memory (E1) and a file that can't be read (E5), and refused for every other fault
+abbrev pub exit_of_fault : Fault → Exit
+exit_of_fault fault.OutOfMemory = exit.Device
+exit_of_fault fault.Read = exit.Device
+exit_of_fault (fault.Stanza refused) = exit.Refused
+exit_of_fault (fault.Sources refused) = exit.Refused
+exit_of_fault (fault.Index refused) = exit.Refused
+exit_of_fault (fault.Request refused) = exit.Refused
+exit_of_fault (fault.UnknownName line) = exit.Refused
+exit_of_fault (fault.Plan refused) = exit.Refused
+exit_of_fault fault.TooLarge = exit.Refused
+exit_of_fault (fault.NotYet found) = exit.Refused

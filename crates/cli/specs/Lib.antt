@@ -1,0 +1,4 @@
+pub mod Answer
+pub mod Exit
+pub mod Files
+pub mod Outcome

@@ -1,0 +1,70 @@
+// A verdict as the line that is printed of it (this project's own form).
+ghost use Rattle.std.specs.Prelude.{◌≡◌, ◌++◌, IfOk, codes, decimal};
+ghost use Rattle.cli.specs.Answer as Spec;
+
+use rules::{Reason, Rule, Text, Verdict};
+use std::alloc::{AllocError, Global};
+
+/// The line that is printed of a verdict: `yes`, `no start F0 StartConflict`, `no step NUMBER CODE RULE` or
+/// `no end F11 REASON`. Memory alone can fail.
+pub fn verdict_line(alloc: Global, verdict: &Verdict) -> Result<Vec<u8>, AllocError>
+    ensures { IfOk result (λ line. line.items ≡ Spec.verdict_line verdict.now) }
+{
+    match verdict {
+        Verdict::Yes => b"yes\n".to_vec(alloc),
+        Verdict::Start => b"no start F0 StartConflict\n".to_vec(alloc),
+        Verdict::Step(number, rule) => step_line(alloc, *number, *rule),
+        Verdict::End(reason) => end_line(alloc, reason),
+    }
+}
+
+// The line of a step that breaks a rule.
+fn step_line(alloc: Global, number: usize, rule: Rule) -> Result<Vec<u8>, AllocError>
+    ensures { IfOk result (λ line. line.items ≡ codes "no step " ++ (decimal number ++ (codes " " ++ (Spec.rule_words rule ++ codes "\n")))) }
+{
+    let rule = rule_words(rule);
+    Ok(format!(in alloc; "no step {number} {rule}\n")?.into_bytes())
+}
+
+// The line of a reason against the end.
+fn end_line(alloc: Global, reason: &Reason) -> Result<Vec<u8>, AllocError>
+    ensures { IfOk result (λ line. line.items ≡ codes "no end F11 " ++ (Spec.reason_words reason.now ++ codes "\n")) }
+{
+    match reason {
+        Reason::Unfinished(name) => named_line(alloc, "Unfinished", name),
+        Reason::Relation(name) => named_line(alloc, "Relation", name),
+        Reason::Essential(name) => named_line(alloc, "Essential", name),
+        Reason::Goal(number) => Ok(format!(in alloc; "no end F11 Goal {number}\n")?.into_bytes()),
+    }
+}
+
+// The line of a reason that names a package.
+fn named_line(alloc: Global, reason: &str, name: &Text) -> Result<Vec<u8>, AllocError>
+    ensures { IfOk result (λ line.
+        line.items ≡ ((codes "no end F11 " ++ (reason.now ++ codes " ")) ++ name.now) ++ codes "\n") }
+{
+    let mut line = format!(in alloc; "no end F11 {reason} ")?.into_bytes();
+    line.extend_from_slice(name.as_bytes())?;
+    line.extend_from_slice(b"\n")?;
+    Ok(line)
+}
+
+// The code and the name of a rule.
+fn rule_words(rule: Rule) -> &'static str
+    ensures { result.now ≡ Spec.rule_words rule }
+{
+    match rule {
+        Rule::StartConflict => "F0 StartConflict",
+        Rule::PreDepends => "F1 PreDepends",
+        Rule::Conflict => "F2 Conflict",
+        Rule::Breaks => "F3 Breaks",
+        Rule::Depends => "F4 Depends",
+        Rule::Group => "F5 Group",
+        Rule::NeededBy => "F6 NeededBy",
+        Rule::Essential => "F7 Essential",
+        Rule::Held => "F8 Held",
+        Rule::WrongState => "F9 WrongState",
+        Rule::NotAdmitted => "F10 NotAdmitted",
+        Rule::End => "F11 End",
+    }
+}

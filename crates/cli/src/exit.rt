@@ -1,0 +1,56 @@
+// With which status the program ends (this project's own).
+ghost use Rattle.std.specs.Prelude.{◌≡◌};
+ghost use Rattle.cli.specs.Exit as Spec;
+
+use cli_engine::{Fault, Refusal};
+use rules::Verdict;
+
+/// How the program ends.
+#[derive(Clone, Copy, Debug, PartialEq, Eq)]
+pub enum Exit {
+    /// The answer is yes, or help was asked for.
+    Success,
+    /// The answer is no.
+    No,
+    /// A text is refused.
+    Refused,
+    /// The words of the command line are wrong.
+    Usage,
+    /// A file couldn't be read or written, or memory was wanting.
+    Device,
+}
+
+impl Exit {
+    /// The exit status.
+    pub fn code(self) -> u8
+        ensures { result ≡ Spec.code_of self }
+    {
+        match self {
+            Exit::Success => 0,
+            Exit::No => 1,
+            Exit::Refused => 3,
+            Exit::Usage => 4,
+            Exit::Device => 5,
+        }
+    }
+}
+
+/// How the program ends with this verdict.
+pub fn exit_of_verdict(verdict: &Verdict) -> Exit
+    ensures { result ≡ Spec.exit_of_verdict verdict.now }
+{
+    match verdict {
+        Verdict::Yes => Exit::Success,
+        Verdict::Start | Verdict::Step(_, _) | Verdict::End(_) => Exit::No,
+    }
+}
+
+/// How the program ends with this refusal: files and memory (E1, E5) have a status of their own.
+pub fn exit_of_refusal(refusal: &Refusal) -> Exit
+    ensures { result ≡ Spec.exit_of_fault refusal.now.fault }
+{
+    match refusal.fault {
+        Fault::OutOfMemory | Fault::Read => Exit::Device,
+        _ => Exit::Refused,
+    }
+}

@@ -1,0 +1,25 @@
+//! The program `debplan` over a host: from the words of its command line to what it prints and its exit status.
+//! It stands on `cli_engine`, which judges texts. The main call is `run`.
+#![tactic(auto)]
+
+mod answer;
+mod arguments;
+mod declare;
+mod exit;
+mod host;
+mod judge;
+mod outcome;
+mod print;
+mod program;
+mod read;
+#[cfg(test)]
+mod tests;
+
+pub use answer::verdict_line;
+pub use arguments::Arguments;
+pub use cli_engine::{Fault, Inputs, Later, Place, Refusal, check_plan_bytes};
+pub use exit::{Exit, exit_of_refusal, exit_of_verdict};
+pub use host::{Host, ReadError};
+pub use judge::check_plan;
+pub use outcome::{Outcome, outcome_of_answer};
+pub use program::{refuse_for_memory, run};

@@ -1,0 +1,61 @@
+// What the program prints, and on which stream.
+ghost use Rattle.std.specs.Prelude.{◌≡◌, IfOk};
+ghost use Rattle.cli.specs.Outcome.{IsComplaint, IsOutcomeOf};
+
+use crate::answer::verdict_line;
+use crate::exit::{Exit, exit_of_refusal, exit_of_verdict};
+use clap::Error;
+use clap::error::ErrorKind;
+use cli_engine::Refusal;
+use rules::{Items, Verdict};
+use std::alloc::{AllocError, Global};
+
+/// What the program prints, and how it ends.
+#[derive(Drop)]
+pub enum Outcome {
+    /// This text on standard output.
+    Answer(Items<u8>, Exit),
+    /// This text on standard error.
+    Complaint(Items<u8>, Exit),
+}
+
+/// What is printed of an answer: a verdict's line on standard output, or a refusal's on standard error. Memory
+/// alone can fail.
+pub fn outcome_of_answer(
+    alloc: Global,
+    answer: &Result<Verdict, Refusal>,
+) -> Result<Outcome, AllocError>
+    ensures { IfOk result (λ outcome. IsOutcomeOf answer.now outcome) }
+{
+    match answer {
+        Ok(verdict) => {
+            let line = Items::new(verdict_line(alloc, verdict)?);
+            Ok(Outcome::Answer(line, exit_of_verdict(verdict)))
+        }
+        Err(refusal) => {
+            let line = Items::new(refusal_line(alloc, refusal)?);
+            Ok(Outcome::Complaint(line, exit_of_refusal(refusal)))
+        }
+    }
+}
+
+// The line that is printed of a refusal.
+fn refusal_line(alloc: Global, refusal: &Refusal) -> Result<Vec<u8>, AllocError>
+    ensures { IfOk result (λ line. IsComplaint line.items) }
+{
+    let refusal = refusal.to_string(alloc)?;
+    Ok(format!(in alloc; "debplan: {refusal}\n")?.into_bytes())
+}
+
+/// What is printed of words that ask for help or are wrong. Memory alone can fail.
+pub(crate) fn outcome_of_usage(alloc: Global, error: &Error) -> Result<Outcome, AllocError> {
+    if error.kind() == ErrorKind::OutOfMemory {
+        return Err(AllocError);
+    }
+    let text = Items::new(error.to_string(alloc)?.into_bytes());
+    if error.use_stderr() {
+        Ok(Outcome::Complaint(text, Exit::Usage))
+    } else {
+        Ok(Outcome::Answer(text, Exit::Success))
+    }
+}

@@ -1,0 +1,52 @@
+// The whole program over a host.
+ghost use Rattle.std.specs.Prelude.{◌≡◌};
+ghost use Rattle.cli.specs.Outcome.{IsWritten};
+ghost use Rattle.cli.specs.declared.outcome.Outcome.{Outcome as Found};
+
+use crate::arguments::{arguments_of, mistake, texts_of};
+use crate::exit::Exit;
+use crate::host::Host;
+use crate::judge::check_plan;
+use crate::outcome::{Outcome, outcome_of_answer, outcome_of_usage};
+use crate::print::{complain, print};
+use std::alloc::{AllocError, Global};
+use std::io::Write;
+
+/// Runs the program on the words of its command line, of which the first is its own name, and gives its exit status.
+/// It reads each file once, from its beginning to its end, and writes nothing but its answer or one refusal.
+pub fn run<H: Host, W: Write, E: Write>(
+    alloc: Global,
+    words: &[Vec<u8>],
+    host: &mut H,
+    out: &mut W,
+    err: &mut E,
+) -> u8
+    ensures { (found : Found) × IsWritten found (W.contents out.old) (W.contents out.new) result }
+{
+    match outcome_of_words(alloc, words, host) {
+        Ok(outcome) => print(&outcome, out, err),
+        Err(AllocError) => refuse_for_memory(err),
+    }
+}
+
+/// Prints, without taking memory, that memory was wanting, and gives the exit status.
+pub fn refuse_for_memory<E: Write>(err: &mut E) -> u8
+    ensures { result ≡ 5 }
+{
+    complain(err, b"debplan: memory: E1 OutOfMemory\n", Exit::Device)
+}
+
+// What is printed of these words.
+fn outcome_of_words<H: Host>(
+    alloc: Global,
+    words: &[Vec<u8>],
+    host: &mut H,
+) -> Result<Outcome, AllocError> {
+    let Some(texts) = texts_of(alloc, words)? else {
+        return outcome_of_usage(alloc, &mistake(alloc, "an argument isn't UTF-8"));
+    };
+    match arguments_of(alloc, texts.as_slice()) {
+        Ok(arguments) => outcome_of_answer(alloc, &check_plan(alloc, host, &arguments)),
+        Err(error) => outcome_of_usage(alloc, &error),
+    }
+}

@@ -1,0 +1,7 @@
+mod answers;
+mod judging;
+mod opening;
+mod refusals;
+mod streams;
+mod support;
+mod words;
