@@ -1,9 +1,9 @@
 -- The first reason against an end, from the least name of each kind and the first goal: where nothing of the
 -- earlier kinds is against the end, the least of a kind is the first.
-use Rattle.std.proofs.Common.{◌≡◌, ◌≤◌, ◌<◌, ℕ, Bool, true, false, List, Some, None, refl, sym, subst, arith}
+use Rattle.std.proofs.Common.{◌≡◌, ◌≤◌, ◌<◌, ℕ, Bool, true, false, List, Some, refl, sym, subst, arith}
 use Rattle.std.specs.Prelude.{IsTrue}
-use Rattle.std.specs.List.{All, Any, Contains}
-use Rattle.std.specs.Ordering.{nat_cmp, ordering_then}
+use Rattle.std.specs.List.{All, Any}
+use Rattle.std.specs.Ordering.{ordering_then}
 use Rattle.std.specs.declared.cmp.Ordering.{Ordering}
 use Rattle.std.specs.declared.cmp.Ordering.TheVariants.{Less, Equal, Greater}
 use Rattle.std.proofs.lemmas.Cmp.{ranked}
@@ -11,7 +11,7 @@ use Rattle.std.proofs.lemmas.List.Elements.{All-contains}
 use Rattle.rules.specs.Database.{Record, HasRecord, IsInstalled, IsUnfinished, installed_of, is_unfinished, pkg_of}
 use Rattle.rules.specs.ElementLaws.{Any-elim, Any-weaker}
 use Rattle.rules.specs.Name.{name_cmp}
-use Rattle.rules.specs.Run.{IsAgainst, IsFirstAgainst, IsDiscontent, IsUnfulfilled, HasNothingAgainst, reason_cmp}
+use Rattle.rules.specs.Run.{IsAgainst, IsFirstAgainst, IsDiscontent, HasNothingAgainst, reason_cmp}
 use Rattle.rules.specs.Sound.{IsContent, KeepsEssential}
 use Rattle.rules.specs.State.{is_installed_state}
 use Rattle.rules.specs.Universe.{Universe, Start}

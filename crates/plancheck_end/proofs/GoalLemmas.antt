@@ -1,6 +1,5 @@
 -- The first goal that isn't fulfilled, by its place.
-use Rattle.std.proofs.Common.{◌≡◌, ℕ, ◌+◌, ◌<◌, ◌≤◌, List, length, get_or, Some, refl, sym, subst, arith}
-use Rattle.std.specs.Prelude.{slice_get}
+use Rattle.std.proofs.Common.{◌≡◌, ℕ, ◌+◌, ◌<◌, List, length, get_or, refl, subst, arith}
 use Rattle.std.specs.Ordering.{nat_cmp}
 use Rattle.std.proofs.lemmas.Cmp.{by_ranked, ranked}
 use Rattle.std.proofs.lemmas.Option.{slice_get_read, get_or_from_slice_get}

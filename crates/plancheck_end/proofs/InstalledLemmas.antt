@@ -1,7 +1,6 @@
 -- What holds of the installed packages is what holds of the packages of the installed records.
-use Rattle.std.proofs.Common.{◌≡◌, true, List, subst, map}
-use Rattle.std.specs.List.{All, Any, Contains, filter}
-use Rattle.std.specs.Prelude.{Bool}
+use Rattle.std.proofs.Common.{List, subst}
+use Rattle.std.specs.List.{All, Any, filter}
 use Rattle.std.proofs.lemmas.List.Elements.{All-contains}
 use Rattle.rules.specs.Database.{Record, IsInstalled, installed_of, pkg_of}
 use Rattle.rules.specs.ElementLaws.{All-intro, Any-map_filter, Any-filter_map, Contains-map, Contains-map_intro, Contains-filter, Contains-filter_intro}

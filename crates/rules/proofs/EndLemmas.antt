@@ -1,34 +1,29 @@
 -- Where nothing is against the end of a run, it is good: what its installed packages are admitted by, and that
 -- holds are kept, follows from the start and from the steps being allowed.
-use Rattle.std.proofs.Common.{lit<, ◌≡◌, ◌≢◌, ℕ, Bool, true, false, not, cond, ◌&&◌, ◌||◌, List, [], ◌∷◌, ◌++◌, map, ◌⊎◌, Option, Some, None, MatchOption, refl, sym, ap, subst, ◌∙◌, arith, bytes_eq}
-use Rattle.std.specs.Prelude.{IsTrue, ◌↔◌, ⊤}
+use Rattle.std.proofs.Common.{lit<, ◌≡◌, ◌≢◌, ℕ, Bool, true, false, not, cond, ◌&&◌, ◌||◌, List, [], ◌∷◌, ◌++◌, Option, Some, None, MatchOption, refl, sym, subst, ◌∙◌, bytes_eq}
+use Rattle.std.specs.Prelude.{IsTrue, ⊤}
 use Rattle.std.specs.List.{All, Any, Contains, filter, find, list_any}
 use Rattle.std.specs.Option.{option_and_then}
 use Rattle.std.proofs.lemmas.List.Elements.{All-contains, All-filter, Contains-append_cases, Contains-append_left}
 use Rattle.rules.specs.Available.{is_of, same_version}
 use Rattle.rules.specs.Configure.{HasConfigurable, IsConfigurable, AreConfigurable}
-use Rattle.rules.specs.Database.{Record, HasRecord, HasDistinctNames, IsHeld, IsInstalled, IsUnfinished, Stands, stands, is_unfinished, pkg_of, installed_of}
-use Rattle.rules.specs.ElementLaws.{All-intro, Any-intro, Any-elim, Contains-cons, Contains-nil, Contains-map, Contains-map_intro, Contains-filter, Contains-filter_intro, Contains-head, Contains-rest}
+use Rattle.rules.specs.Database.{Record, HasRecord, HasDistinctNames, IsHeld, IsInstalled, IsUnfinished, Stands, stands}
+use Rattle.rules.specs.ElementLaws.{All-intro, Any-intro, Any-elim, Contains-cons, Contains-nil, Contains-map, Contains-map_intro, Contains-filter_intro, Contains-head, Contains-rest}
 use Rattle.rules.specs.Legal.{Allowed, IsNotHeld}
-use Rattle.rules.specs.NamedLaws.{bytes_eq-true, bytes_eq-same, contains-is_among}
-use Rattle.rules.specs.Package.{Pkg}
-use Rattle.rules.specs.Run.{Run, after, IsGoodEnd, HasNothingAgainst, IsPurged}
-use Rattle.rules.specs.Sound.{IsContent, IsSound, HasOneVersionEach, AgreesWith, IsAdmittedIn, FulfilsAll, Fulfils, KeepsHold, HasVersion}
-use Rattle.rules.specs.State.{is_present_state, is_unconfigured_state, is_installed_state, is_unfinished_state, is_not_installed_state, is_sound_flag}
+use Rattle.rules.specs.NamedLaws.{bytes_eq-true, contains-is_among}
+use Rattle.rules.specs.Run.{Run, after}
+use Rattle.rules.specs.State.{is_unconfigured_state, is_installed_state, is_unfinished_state, is_not_installed_state, is_sound_flag}
 use Rattle.rules.specs.Step.{Listed, is_named, is_among, changed, unpacked_over, unpacked_with, after_unpack, deconfigured, configured, removed, result_of}
-use Rattle.rules.specs.Universe.{Universe, Pair, Start, IsOf, listed_of, listed_among, listed_for, start_of, starts_of}
+use Rattle.rules.specs.Universe.{Universe, Pair, IsOf, listed_of, listed_among, listed_for}
 use Rattle.rules.specs.Verdict.{IsBuiltOn, HasPair}
-use Rattle.rules.specs.Version.{SameVersion, version_cmp}
 use Rattle.rules.specs.VersionOrderLaws.{same_version_equivalence}
 use Rattle.rules.specs.declared.status.Flag.{Flag}
-use Rattle.rules.specs.declared.status.Flag.TheVariants.{Sound}
 use Rattle.rules.specs.declared.status.State.{State}
 use Rattle.rules.specs.declared.status.State.TheVariants.{NotInstalled, ConfigFiles, HalfInstalled, Unpacked, HalfConfigured, Installed}
 use Rattle.rules.specs.declared.step.Rule.TheVariants as rule
 use Rattle.rules.specs.declared.step.Step.{Step}
 use Rattle.rules.specs.declared.step.Step.TheVariants as step
-use Rattle.rules.proofs.PlanLemmas.{installed_contains}
-use Rattle.rules.proofs.QuietLemmas.{distinct_names_kept, distinct_after_run, one_record, the_record, the_named, unnamed}
+use Rattle.rules.proofs.QuietLemmas.{distinct_names_kept, the_record, the_named}
 use mathlib.Core.Logic.{inl, inr}
 
 -- what a record's version and name need to be admitted, if it stands

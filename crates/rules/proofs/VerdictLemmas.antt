@@ -1,29 +1,27 @@
 -- Verdicts of plans: when an end is good, that a universe is built on its start, and that one verdict is true.
-use Rattle.std.proofs.Common.{◌≡◌, ◌≢◌, ℕ, suc, ◌+◌, ◌<◌, Bool, true, false, cond, ◌&&◌, List, [], ◌∷◌, ◌++◌, map, length, ◌⊎◌, Option, Some, None, MatchOption, refl, sym, ap, subst, ◌∙◌, arith, bytes_eq, slice_get, get_or}
-use Rattle.std.specs.Prelude.{IsTrue, ◌↔◌, ⊤}
+use Rattle.std.proofs.Common.{◌≡◌, ℕ, Bool, true, false, cond, List, [], ◌∷◌, Option, Some, None, MatchOption, refl, sym, ap, subst, ◌∙◌, bytes_eq}
+use Rattle.std.specs.Prelude.{IsTrue, ⊤}
 use Rattle.std.specs.List.{All, Any, Contains, filter, find}
 use Rattle.std.proofs.lemmas.List.Elements.{All-contains}
 use Rattle.std.proofs.lemmas.Option.{slice_get_within, get_or_from_slice_get}
 use Rattle.std.specs.Cmp.{Equal-is}
-use Rattle.rules.specs.Available.{Index, Inputs, is_of, same_version, index_package, all_listed}
-use Rattle.rules.specs.Database.{Record, HasRecord, HasDistinctNames, IsHeld, IsInstalled, IsUnfinished, Stands, stands, IsQuiet, pkg_of, installed_of}
-use Rattle.rules.specs.ElementLaws.{All-intro, Any-intro, Any-elim, Contains-map, Contains-map_intro, Contains-filter}
+use Rattle.rules.specs.Available.{Index, is_of, same_version, index_package, all_listed}
+use Rattle.rules.specs.Database.{Record, HasDistinctNames, IsInstalled, IsUnfinished, Stands, stands, pkg_of, installed_of}
+use Rattle.rules.specs.ElementLaws.{All-intro, Any-intro, Any-elim, Contains-map, Contains-filter}
 use Rattle.rules.specs.NamedLaws.{bytes_eq-true}
 use Rattle.rules.specs.Package.{Pkg}
-use Rattle.rules.specs.Run.{Run, StopsAt, IsGoodEnd, IsGoodPlan, IsAgainst, IsFirstAgainst, IsDiscontent, IsUnfulfilled, HasNothingAgainst, IsPurged, reason_cmp}
-use Rattle.rules.specs.Sound.{IsContent, IsSound, HasOneVersionEach, AgreesWith, IsAdmittedIn, IsFitting, FulfilsAll, Fulfils, KeepsHold, KeepsEssential, HasVersion}
-use Rattle.rules.specs.State.{is_installed_state, is_hold}
+use Rattle.rules.specs.Run.{Run, StopsAt, IsGoodEnd, IsAgainst, IsDiscontent, IsUnfulfilled, HasNothingAgainst, IsPurged}
+use Rattle.rules.specs.Sound.{IsContent, IsSound, HasOneVersionEach, AgreesWith, IsAdmittedIn, FulfilsAll, Fulfils, KeepsHold, KeepsEssential, HasVersion}
+use Rattle.rules.specs.State.{is_installed_state}
 use Rattle.rules.specs.Step.{Listed}
-use Rattle.rules.specs.Universe.{Universe, IsUniverse, Pair, Start, IsOf, StandsAs, IsAdmitted, start_of, starts_of}
-use Rattle.rules.specs.Verdict.{IsBuiltOn, HasPair, IsVerdict, UniverseIsBuilt, GoodWhereNothingIsAgainst, GoodPlanHasYes}
+use Rattle.rules.specs.Universe.{Universe, Pair, Start, IsOf, StandsAs, IsAdmitted, start_of, starts_of}
+use Rattle.rules.specs.Verdict.{IsBuiltOn, HasPair, UniverseIsBuilt, GoodWhereNothingIsAgainst, GoodPlanHasYes}
 use Rattle.rules.specs.Version.{SameVersion, version_cmp}
 use Rattle.rules.specs.VersionOrderLaws.{same_version_equivalence}
-use Rattle.rules.specs.declared.goal.Goal.{Goal}
 use Rattle.rules.specs.declared.step.Step.{Step}
 use Rattle.rules.specs.declared.step.Reason.{Reason}
 use Rattle.rules.specs.declared.step.Reason.TheVariants as reason
 use Rattle.rules.specs.declared.step.Rule.{Rule}
-use Rattle.rules.specs.declared.step.Verdict.{Verdict}
 use Rattle.rules.specs.declared.step.Verdict.TheVariants as verdict
 use Rattle.rules.specs.Legal.{Allowed}
 use Rattle.rules.proofs.LegalLemmas.{allowed_fails_none}
@@ -31,7 +29,7 @@ use Rattle.rules.proofs.RunLemmas.{Run-parts, one_end}
 use Rattle.rules.proofs.EndLemmas.{IsAdmissible, StaysHeld, admissible_after_run, held_after_run, finished_installed, finished_stands, both_true}
 use Rattle.rules.proofs.PlanLemmas.{installed_contains}
 use Rattle.rules.proofs.QuietLemmas.{distinct_after_run, one_record}
-use mathlib.Core.Logic.{inl, inr}
+use mathlib.Core.Logic.{inl}
 
 -- the record that an installed package is of
 record Stems (db : List Record) (member : Pkg) : Type 0 where

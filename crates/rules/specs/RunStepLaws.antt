@@ -1,5 +1,5 @@
 -- A run with one step more, and a run that stops at a step, as a loop over the steps meets them.
-use Rattle.std.proofs.Common.{◌≡◌, ℕ, zero, suc, ◌+◌, ◌<◌, List, [], ◌∷◌, ◌++◌, length, take, drop, get_or, refl, sym, ap, subst, ◌∙◌, arith}
+use Rattle.std.proofs.Common.{◌≡◌, ℕ, zero, suc, ◌+◌, ◌<◌, List, [], ◌∷◌, ◌++◌, length, take, drop, get_or, refl, sym, ap, subst, arith}
 use Rattle.rules.specs.Database.{Record}
 use Rattle.rules.specs.Legal.{Allowed, IsFirstFailing}
 use Rattle.rules.specs.Run.{Run, StopsAt, after}

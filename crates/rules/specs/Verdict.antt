@@ -1,11 +1,10 @@
 -- What is answered of a plan, and when it is true.
-use Rattle.std.specs.Prelude.{◌≡◌, ◌↔◌, ◌⊎◌, ℕ, List, ⊤, MatchOption}
+use Rattle.std.specs.Prelude.{◌≡◌, ◌↔◌, ℕ, List, ⊤, MatchOption}
 use Rattle.std.specs.List.{All, Any}
 use Rattle.rules.specs.Available.{Inputs}
 use Rattle.rules.specs.Database.{Record, HasDistinctNames, IsQuiet, Stands}
-use Rattle.rules.specs.Run.{Run, StopsAt, IsGoodPlan, IsGoodEnd, IsAgainst, IsFirstAgainst, HasNothingAgainst}
+use Rattle.rules.specs.Run.{Run, StopsAt, IsGoodPlan, IsGoodEnd, IsFirstAgainst, HasNothingAgainst}
 use Rattle.rules.specs.Universe.{Universe, IsUniverse, IsOf, starts_of}
-use Rattle.rules.specs.declared.step.Reason.{Reason}
 use Rattle.rules.specs.declared.step.Step.{Step}
 use Rattle.rules.specs.declared.step.Verdict.{Verdict}
 use Rattle.rules.specs.declared.step.Verdict.TheVariants as verdict

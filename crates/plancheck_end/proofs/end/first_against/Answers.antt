@@ -1,13 +1,13 @@
 -- Each reason is the first, since nothing of the kinds before it is against the end.
-use Rattle.std.proofs.Common.{◌≡◌, ℕ, List, Some, sym, subst}
+use Rattle.std.proofs.Common.{ℕ, List, Some, sym, subst}
 use Rattle.std.specs.List.{All}
-use Rattle.rules.specs.Database.{Record, IsInstalled, installed_of, pkg_of}
+use Rattle.rules.specs.Database.{installed_of}
 use Rattle.rules.specs.Run.{IsFirstAgainst}
-use Rattle.rules.specs.Sound.{IsContent, KeepsEssential}
+use Rattle.rules.specs.Sound.{KeepsEssential}
 use Rattle.rules.specs.Universe.{Start}
 use Rattle.rules.specs.declared.step.Reason.TheVariants as reason
 use Rattle.plancheck_end.specs.Least.{IsLeastWithout}
-use Rattle.plancheck_end.proofs.EndLemmas.{first_unfinished, first_relation, first_essential, first_goal, nothing_against}
+use Rattle.plancheck_end.proofs.EndLemmas.{first_relation, first_essential, first_goal}
 use Rattle.plancheck_end.proofs.end.first_against.Goals as goal
 
 pub returns-in-Some-least_discontent : goal.returns-in-Some-least_discontent
