@@ -12,8 +12,6 @@ mod refusal;
 mod request;
 mod sources;
 mod status_text;
-#[cfg(test)]
-mod tests;
 
 pub use check::check_plan_bytes;
 pub use inputs::Inputs;
