@@ -12,9 +12,6 @@ mod matching;
 #[cfg(test)]
 mod tests;
 
-pub use content::is_content;
 pub use end::first_against;
-pub use goal::{first_unfulfilled, is_fulfilled};
-pub use installed::{are_met, has_member, has_version, is_met};
-pub use least::{least_discontent, least_lost, least_unfinished};
+pub use installed::{are_met, is_met};
 pub use matching::{breaks_other, conflicts_with, is_same, matches_some};

@@ -4,7 +4,8 @@
 ghost use Rattle.std.specs.Prelude.{◌≡◌, true, false};
 ghost use Rattle.rules.specs.State.{is_present_state};
 
-use crate::{first_against, is_fulfilled};
+use crate::first_against;
+use crate::goal::is_fulfilled;
 use debversion::Version;
 use relation::Pkg;
 use rules::{Flag, Goal, Name, Op, Reason, Restriction, State, VersionText, Want, is_name};
@@ -145,100 +146,26 @@ fn an_end_has_its_first_reason(rt: HostRuntime) -> Result<(), Fail> {
     Ok(())
 }
 
-// `lib 1`, to be installed again.
-#[test]
-fn a_package_to_be_installed_again_is_unfinished(rt: HostRuntime) -> Result<(), Fail> {
-    let alloc = rt.alloc();
-    let universe = install_both(alloc)?;
-    let lib = package(alloc, b"Package: lib\nVersion: 1\n")?;
-    let db = [there(&lib, State::Installed, Flag::ReinstallRequired)];
-    assert!(rt; has_reason(alloc, &universe, &db, ("unfinished", "lib", 0))?);
-    Ok(())
-}
-
-fn nothing_asked<'a>(alloc: Global) -> Result<Universe<'a>, Fail> {
-    universe_of(alloc, Vec::new(alloc), Vec::new(alloc))
-}
-
-// Whether the reason against the end in which both are installed is this.
-fn both_have_reason(
-    alloc: Global,
-    first: &[u8],
-    second: &[u8],
-    wanted: (&str, &str, usize),
-) -> Result<bool, Fail> {
-    let universe = nothing_asked(alloc)?;
-    let first = package(alloc, first)?;
-    let second = package(alloc, second)?;
-    let db = both(&first, State::Installed, &second, State::Installed);
-    has_reason(alloc, &universe, &db, wanted)
-}
-
-// A package that provides what it conflicts with, another that provides it too, and one that breaks the latter
-// (Policy 7.4).
-#[test]
-fn an_installed_package_is_at_peace_with_all_others(rt: HostRuntime) -> Result<(), Fail> {
-    let alloc = rt.alloc();
-    let mail = b"Package: mail\nVersion: 1\nProvides: agent\nConflicts: agent\n";
-    let other = b"Package: other\nVersion: 1\nProvides: agent\n";
-    let third = b"Package: third\nVersion: 1\nBreaks: other (<< 2)\n";
-    assert!(rt; both_have_reason(alloc, other, mail, ("relation", "mail", 0))?);
-    assert!(rt; both_have_reason(alloc, third, mail, ("nothing", "", 0))?);
-    assert!(rt; both_have_reason(alloc, third, other, ("relation", "third", 0))?);
-    Ok(())
-}
-
-// `shell` and `base` are essential and were present at the start, `awk` is essential and wasn't (Policy 3.8).
-fn essential_names<'a>(alloc: Global) -> Result<Universe<'a>, Fail> {
-    let starts = vec![in alloc;
-        Start::new(b"shell", true, None, false, true),
-        Start::new(b"awk", false, None, false, true),
-        Start::new(b"base", true, None, false, true),
-    ]?;
-    let unfulfilled = Goal::Install(name_of(alloc, "x")?, None);
-    universe_of(alloc, vec![in alloc; unfulfilled]?, starts)
-}
-
-#[test]
-fn an_essential_name_stays(rt: HostRuntime) -> Result<(), Fail> {
-    let alloc = rt.alloc();
-    let universe = essential_names(alloc)?;
-    let base = package(alloc, b"Package: base\nVersion: 1\n")?;
-    let with_base = [record_of(&base, State::Installed)];
-    assert!(rt; has_reason(alloc, &universe, &with_base, ("essential", "shell", 0))?);
-    assert!(rt; has_reason(alloc, &universe, &[], ("essential", "base", 0))?);
-    Ok(())
-}
-
-#[derive(Clone, Copy, Debug)]
-enum Command {
-    Install,
-    InstallWith(Op),
-    Remove,
-    Purge,
-    Upgrade,
-    UpgradeAll,
-    NoRemove,
-}
-
 fn version_2(alloc: Global) -> Result<VersionText, Fail> {
     Ok(VersionText::copied_from(alloc, Version::parse(b"2")?.text())?)
 }
 
+fn install_with(alloc: Global, op: Op, name: Name) -> Result<Goal, Fail> {
+    let version = version_2(alloc)?;
+    Ok(Goal::Install(name, Some(Restriction { op, version })))
+}
+
 // The goal of the command for the name, of restrictions one with the version 2.
-fn goal_of(alloc: Global, command: Command, name: &str) -> Result<Goal, Fail> {
-    let name = name_of(alloc, name)?;
+fn goal_of(alloc: Global, command: &str, name: Name) -> Result<Goal, Fail> {
     match command {
-        Command::Install => Ok(Goal::Install(name, None)),
-        Command::InstallWith(op) => {
-            let version = version_2(alloc)?;
-            Ok(Goal::Install(name, Some(Restriction { op, version })))
-        }
-        Command::Remove => Ok(Goal::Remove(name)),
-        Command::Purge => Ok(Goal::Purge(name)),
-        Command::Upgrade => Ok(Goal::Upgrade(name)),
-        Command::UpgradeAll => Ok(Goal::UpgradeAll),
-        Command::NoRemove => Ok(Goal::NoRemove),
+        "install" => Ok(Goal::Install(name, None)),
+        "install-from" => install_with(alloc, Op::LaterOrEqual, name),
+        "install-below" => install_with(alloc, Op::StrictlyEarlier, name),
+        "remove" => Ok(Goal::Remove(name)),
+        "purge" => Ok(Goal::Purge(name)),
+        "upgrade" => Ok(Goal::Upgrade(name)),
+        "upgrade-all" => Ok(Goal::UpgradeAll),
+        _ => Ok(Goal::NoRemove),
     }
 }
 
@@ -250,53 +177,69 @@ fn both_stood<'a>(alloc: Global) -> Result<Universe<'a>, Fail> {
 }
 
 // Whether the goal is fulfilled where `a` has this version and is installed, and `h` is so far.
-fn is_done(alloc: Global, goal: &Goal, a: &[u8], h_state: State) -> Result<bool, Fail> {
-    let universe = both_stood(alloc)?;
-    let a = package(alloc, a)?;
-    let h = package(alloc, b"Package: h\nVersion: 1\n")?;
-    let db = both(&a, State::Installed, &h, h_state);
-    Ok(is_fulfilled(&universe, &db, goal))
+fn is_done(universe: &Universe<'_>, goal: &Goal, a: &Pkg<'_>, h: &Pkg<'_>, h_state: State) -> bool {
+    is_fulfilled(universe, &both(a, State::Installed, h, h_state), goal)
 }
 
-// Whether it is where `a` was upgraded to its candidate, where nothing was done, and where `a` was upgraded and
-// `h` left its configuration files alone.
-fn done_in_each(alloc: Global, goal: &Goal) -> Result<[bool; 3], Fail> {
-    let (before, after) = (b"Package: a\nVersion: 1\n", b"Package: a\nVersion: 2\n");
-    let upgraded = is_done(alloc, goal, after, State::Installed)?;
-    let kept = is_done(alloc, goal, before, State::Installed)?;
-    let lost = is_done(alloc, goal, after, State::ConfigFiles)?;
-    Ok([upgraded, kept, lost])
+fn said(word: Option<&str>) -> bool {
+    word == Some("yes")
 }
 
-// Both have the candidate 2, and `b` has none.
+// A command and a name, and whether the goal is fulfilled where `a` was upgraded to its candidate, where nothing was
+// done, and where `a` was upgraded and `h` left its configuration files alone. Both have the candidate 2, `b` has none.
+const GOALS: &str = "\
+install h yes yes no
+install-from a yes no yes
+install-below a no yes no
+remove h no no yes
+purge h no no no
+purge b yes yes yes
+upgrade a yes no yes
+upgrade b no no no
+upgrade-all a yes no yes
+no-remove a yes yes no
+";
+
+// Whether the goal is fulfilled in each of the three as the words say.
+fn is_as_said(
+    universe: &Universe<'_>,
+    goal: &Goal,
+    packages: [&Pkg<'_>; 3],
+    wanted: [bool; 3],
+) -> bool {
+    let [before, after, h] = packages;
+    let upgraded = is_done(universe, goal, after, h, State::Installed);
+    let kept = is_done(universe, goal, before, h, State::Installed);
+    let lost = is_done(universe, goal, after, h, State::ConfigFiles);
+    [upgraded, kept, lost] == wanted
+}
+
+fn row_holds(
+    alloc: Global,
+    universe: &Universe<'_>,
+    packages: [&Pkg<'_>; 3],
+    row: &str,
+) -> Result<bool, Fail> {
+    let mut words = row.split_whitespace();
+    let (Some(command), Some(name)) = (words.next(), words.next()) else {
+        return Ok(false);
+    };
+    let goal = goal_of(alloc, command, name_of(alloc, name)?)?;
+    let wanted = [said(words.next()), said(words.next()), said(words.next())];
+    Ok(is_as_said(universe, &goal, packages, wanted))
+}
+
 #[test]
 fn goals_are_fulfilled_as_apt_get_does_them(rt: HostRuntime) -> Result<(), Fail> {
     let alloc = rt.alloc();
-    for (command, name, wanted) in [
-        (Command::Install, "h", [true, true, false]),
-        (
-            Command::InstallWith(Op::LaterOrEqual),
-            "a",
-            [true, false, true],
-        ),
-        (
-            Command::InstallWith(Op::StrictlyEarlier),
-            "a",
-            [false, true, false],
-        ),
-        (Command::Remove, "h", [false, false, true]),
-        (Command::Purge, "h", [false, false, false]),
-        (Command::Purge, "b", [true, true, true]),
-        (Command::Upgrade, "a", [true, false, true]),
-        (Command::Upgrade, "b", [false, false, false]),
-        (Command::UpgradeAll, "a", [true, false, true]),
-        (Command::NoRemove, "a", [true, true, false]),
-    ] {
-        let goal = goal_of(alloc, command, name)?;
-        assert_eq!(rt;
-            done_in_each(alloc, &goal)?,
-            wanted,
-            "at {command:?} {name}"
+    let universe = both_stood(alloc)?;
+    let before = package(alloc, b"Package: a\nVersion: 1\n")?;
+    let after = package(alloc, b"Package: a\nVersion: 2\n")?;
+    let h = package(alloc, b"Package: h\nVersion: 1\n")?;
+    for row in GOALS.lines() {
+        assert!(rt;
+            row_holds(alloc, &universe, [&before, &after, &h], row)?,
+            "{row}"
         );
     }
     Ok(())

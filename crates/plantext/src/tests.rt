@@ -46,10 +46,26 @@ fn shown(alloc: Global, text: &[u8]) -> Result<String, Fail> {
     }
 }
 
-fn assert_rows<R: Abort + AllocGlobal>(rt: &R, rows: &[(&str, &str)]) -> Result<(), Fail> {
-    for (text, wanted) in rows {
-        let shown = shown(rt.alloc(), text.as_bytes())?;
-        assert_eq!(rt; shown.as_str(), *wanted, "of {text:?}");
+// The bytes of a row's text, in which `$` stands for a newline.
+fn unescaped(alloc: Global, text: &str) -> Result<Vec<u8>, Fail> {
+    let mut bytes = Vec::new(alloc);
+    for byte in text.as_bytes() {
+        bytes.push(if *byte == b'$' { b'\n' } else { *byte })?;
+    }
+    Ok(bytes)
+}
+
+// The text before the arrow is read or refused as is said behind it.
+fn is_read(alloc: Global, row: &str) -> Result<bool, Fail> {
+    let Some((text, wanted)) = row.split_once('→') else {
+        return Ok(false);
+    };
+    Ok(shown(alloc, unescaped(alloc, text)?.as_slice())?.as_str() == wanted)
+}
+
+fn assert_rows<R: Abort + AllocGlobal>(rt: &R, rows: &str) -> Result<(), Fail> {
+    for row in rows.lines() {
+        assert!(rt; is_read(rt.alloc(), row)?, "{row}");
     }
     Ok(())
 }
@@ -63,127 +79,110 @@ fn the_readme_example(rt: HostRuntime) -> Result<(), Fail> {
     Ok(())
 }
 
+// Names that are words of the format are names, and a step may come again. `$` stands for a newline.
+const STEPS: &str = "\
+plan 1$→
+plan 1$unpack bar 1.0$unpack foo 1.0$configure bar$configure foo$→U:bar=1.0;U:foo=1.0;C:bar;C:foo;
+plan 1$deconfigure q$remove q$purge q$→D:q;R:q;P:q;
+plan 1$unpack a 1:2.0~rc1+b-3~$→U:a=1:2.0~rc1+b-3~;
+plan 1$unpack Ab+c.d-e 0$→U:Ab+c.d-e=0;
+plan 1$remove remove$configure configure plan unpack$→R:remove;C:configure:plan:unpack;
+plan 1$purge a$purge a$→P:a;P:a;
+";
+
 #[test]
 fn each_kind_of_step_is_read(rt: HostRuntime) -> Result<(), Fail> {
-    assert_rows(
-        &rt,
-        &[
-            ("plan 1\n", ""),
-            (
-                "plan 1\nunpack bar 1.0\nunpack foo 1.0\nconfigure bar\nconfigure foo\n",
-                "U:bar=1.0;U:foo=1.0;C:bar;C:foo;",
-            ),
-            ("plan 1\ndeconfigure q\nremove q\npurge q\n", "D:q;R:q;P:q;"),
-            ("plan 1\nunpack a 1:2.0~rc1+b-3~\n", "U:a=1:2.0~rc1+b-3~;"),
-            ("plan 1\nunpack Ab+c.d-e 0\n", "U:Ab+c.d-e=0;"),
-            // Names that are words of the format are names.
-            (
-                "plan 1\nremove remove\nconfigure configure plan unpack\n",
-                "R:remove;C:configure:plan:unpack;",
-            ),
-            // A step may come again.
-            ("plan 1\npurge a\npurge a\n", "P:a;P:a;"),
-        ],
-    )
+    assert_rows(&rt, STEPS)
 }
+
+// A capital is before a letter, `+` before `-` before `.` before digits, and a beginning before the whole.
+const GROUPS: &str = "\
+plan 1$configure B a$→C:B:a;
+plan 1$configure a a+ a- a. a0 aa b$→C:a:a+:a-:a.:a0:aa:b;
+plan 1$configure b a$→E18 BadPlan 2
+plan 1$configure a B$→E18 BadPlan 2
+plan 1$configure ab a$→E18 BadPlan 2
+plan 1$configure a c b$→E18 BadPlan 2
+plan 1$configure a a$→E18 BadPlan 2
+plan 1$configure a b a$→E18 BadPlan 2
+";
 
 #[test]
 fn a_group_ascends_by_bytes(rt: HostRuntime) -> Result<(), Fail> {
-    assert_rows(
-        &rt,
-        &[
-            // A capital is before a letter, `+` before `-` before `.` before digits, and a beginning before the whole.
-            ("plan 1\nconfigure B a\n", "C:B:a;"),
-            (
-                "plan 1\nconfigure a a+ a- a. a0 aa b\n",
-                "C:a:a+:a-:a.:a0:aa:b;",
-            ),
-            ("plan 1\nconfigure b a\n", "E18 BadPlan 2"),
-            ("plan 1\nconfigure a B\n", "E18 BadPlan 2"),
-            ("plan 1\nconfigure ab a\n", "E18 BadPlan 2"),
-            ("plan 1\nconfigure a c b\n", "E18 BadPlan 2"),
-            ("plan 1\nconfigure a a\n", "E18 BadPlan 2"),
-            ("plan 1\nconfigure a b a\n", "E18 BadPlan 2"),
-        ],
-    )
+    assert_rows(&rt, GROUPS)
 }
+
+const HEADERS: &str = "\
+→E18 BadPlan 1
+$→E18 BadPlan 1
+plan 2$→E18 BadPlan 1
+plan 1→E18 BadPlan 1
+plan 1 $→E18 BadPlan 1
+ plan 1$→E18 BadPlan 1
+plan  1$→E18 BadPlan 1
+plan 1\r$→E18 BadPlan 1
+plan 01$→E18 BadPlan 1
+plan 12$→E18 BadPlan 1
+Plan 1$→E18 BadPlan 1
+plan$1$→E18 BadPlan 1
+$plan 1$→E18 BadPlan 1
+purge a$→E18 BadPlan 1
+";
 
 #[test]
 fn a_text_without_its_header_is_refused_on_its_first_line(rt: HostRuntime) -> Result<(), Fail> {
-    assert_rows(
-        &rt,
-        &[
-            ("", "E18 BadPlan 1"),
-            ("\n", "E18 BadPlan 1"),
-            ("plan 2\n", "E18 BadPlan 1"),
-            ("plan 1", "E18 BadPlan 1"),
-            ("plan 1 \n", "E18 BadPlan 1"),
-            (" plan 1\n", "E18 BadPlan 1"),
-            ("plan  1\n", "E18 BadPlan 1"),
-            ("plan 1\r\n", "E18 BadPlan 1"),
-            ("plan 01\n", "E18 BadPlan 1"),
-            ("plan 12\n", "E18 BadPlan 1"),
-            ("Plan 1\n", "E18 BadPlan 1"),
-            ("plan\n1\n", "E18 BadPlan 1"),
-            ("\nplan 1\n", "E18 BadPlan 1"),
-            ("purge a\n", "E18 BadPlan 1"),
-        ],
-    )
+    assert_rows(&rt, HEADERS)
 }
+
+// Lines that lack their newline; white space; too few words or too many; words that are no action, no name or no
+// version; and the first of two.
+const LINES: &str = "\
+plan 1$unpack foo 1.0→E18 BadPlan 2
+plan 1$purge a$purge b→E18 BadPlan 3
+plan 1$purge a$ →E18 BadPlan 3
+plan 1$purge a$x→E18 BadPlan 3
+plan 1$remove  a$→E18 BadPlan 2
+plan 1$remove a $→E18 BadPlan 2
+plan 1$ remove a$→E18 BadPlan 2
+plan 1$remove\ta$→E18 BadPlan 2
+plan 1$remove a\r$→E18 BadPlan 2
+plan 1$remove a\t$→E18 BadPlan 2
+plan 1$configure a  b$→E18 BadPlan 2
+plan 1$configure a $→E18 BadPlan 2
+plan 1$unpack a  1$→E18 BadPlan 2
+plan 1$unpack a 1 $→E18 BadPlan 2
+plan 1$$→E18 BadPlan 2
+plan 1$purge a$$purge b$→E18 BadPlan 3
+plan 1$#$→E18 BadPlan 2
+plan 1$unpack foo$→E18 BadPlan 2
+plan 1$unpack$→E18 BadPlan 2
+plan 1$unpack foo $→E18 BadPlan 2
+plan 1$unpack a 1 b$→E18 BadPlan 2
+plan 1$configure$→E18 BadPlan 2
+plan 1$configure $→E18 BadPlan 2
+plan 1$remove$→E18 BadPlan 2
+plan 1$remove a b$→E18 BadPlan 2
+plan 1$purge a b$→E18 BadPlan 2
+plan 1$deconfigure a b$→E18 BadPlan 2
+plan 1$Remove a$→E18 BadPlan 2
+plan 1$removed a$→E18 BadPlan 2
+plan 1$remov a$→E18 BadPlan 2
+plan 1$plan 1$→E18 BadPlan 2
+plan 1$remove -a$→E18 BadPlan 2
+plan 1$remove a_b$→E18 BadPlan 2
+plan 1$remove a:any$→E18 BadPlan 2
+plan 1$configure a b_$→E18 BadPlan 2
+plan 1$unpack .a 1$→E18 BadPlan 2
+plan 1$unpack a 1.0-$→E18 BadPlan 2
+plan 1$unpack a :1$→E18 BadPlan 2
+plan 1$unpack a 1_0$→E18 BadPlan 2
+plan 1$purge a$x$y$→E18 BadPlan 3
+plan 1$purge a$x$purge b→E18 BadPlan 3
+";
 
 #[test]
 fn a_line_that_is_no_step_is_refused_with_its_number(rt: HostRuntime) -> Result<(), Fail> {
-    assert_rows(
-        &rt,
-        &[
-            // Lines that lack their newline, well formed or not.
-            ("plan 1\nunpack foo 1.0", "E18 BadPlan 2"),
-            ("plan 1\npurge a\npurge b", "E18 BadPlan 3"),
-            ("plan 1\npurge a\n ", "E18 BadPlan 3"),
-            ("plan 1\npurge a\nx", "E18 BadPlan 3"),
-            // White space.
-            ("plan 1\nremove  a\n", "E18 BadPlan 2"),
-            ("plan 1\nremove a \n", "E18 BadPlan 2"),
-            ("plan 1\n remove a\n", "E18 BadPlan 2"),
-            ("plan 1\nremove\ta\n", "E18 BadPlan 2"),
-            ("plan 1\nremove a\r\n", "E18 BadPlan 2"),
-            ("plan 1\nremove a\t\n", "E18 BadPlan 2"),
-            ("plan 1\nconfigure a  b\n", "E18 BadPlan 2"),
-            ("plan 1\nconfigure a \n", "E18 BadPlan 2"),
-            ("plan 1\nunpack a  1\n", "E18 BadPlan 2"),
-            ("plan 1\nunpack a 1 \n", "E18 BadPlan 2"),
-            ("plan 1\n\n", "E18 BadPlan 2"),
-            ("plan 1\npurge a\n\npurge b\n", "E18 BadPlan 3"),
-            ("plan 1\n#\n", "E18 BadPlan 2"),
-            // Too few words or too many.
-            ("plan 1\nunpack foo\n", "E18 BadPlan 2"),
-            ("plan 1\nunpack\n", "E18 BadPlan 2"),
-            ("plan 1\nunpack foo \n", "E18 BadPlan 2"),
-            ("plan 1\nunpack a 1 b\n", "E18 BadPlan 2"),
-            ("plan 1\nconfigure\n", "E18 BadPlan 2"),
-            ("plan 1\nconfigure \n", "E18 BadPlan 2"),
-            ("plan 1\nremove\n", "E18 BadPlan 2"),
-            ("plan 1\nremove a b\n", "E18 BadPlan 2"),
-            ("plan 1\npurge a b\n", "E18 BadPlan 2"),
-            ("plan 1\ndeconfigure a b\n", "E18 BadPlan 2"),
-            // Words that are no action, no name or no version.
-            ("plan 1\nRemove a\n", "E18 BadPlan 2"),
-            ("plan 1\nremoved a\n", "E18 BadPlan 2"),
-            ("plan 1\nremov a\n", "E18 BadPlan 2"),
-            ("plan 1\nplan 1\n", "E18 BadPlan 2"),
-            ("plan 1\nremove -a\n", "E18 BadPlan 2"),
-            ("plan 1\nremove a_b\n", "E18 BadPlan 2"),
-            ("plan 1\nremove a:any\n", "E18 BadPlan 2"),
-            ("plan 1\nconfigure a b_\n", "E18 BadPlan 2"),
-            ("plan 1\nunpack .a 1\n", "E18 BadPlan 2"),
-            ("plan 1\nunpack a 1.0-\n", "E18 BadPlan 2"),
-            ("plan 1\nunpack a :1\n", "E18 BadPlan 2"),
-            ("plan 1\nunpack a 1_0\n", "E18 BadPlan 2"),
-            // The first of two.
-            ("plan 1\npurge a\nx\ny\n", "E18 BadPlan 3"),
-            ("plan 1\npurge a\nx\npurge b", "E18 BadPlan 3"),
-        ],
-    )
+    assert_rows(&rt, LINES)
 }
 
 #[test]

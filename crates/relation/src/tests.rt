@@ -70,3 +70,12 @@ fn shown_items(alloc: Global, items: &[Provided<'_>]) -> Result<String, Fail> {
     }
     Ok(shown)
 }
+
+// The bytes of a row's text, in which `$` stands for a newline.
+fn unescaped(alloc: Global, text: &str) -> Result<Vec<u8>, Fail> {
+    let mut bytes = Vec::new(alloc);
+    for byte in text.as_bytes() {
+        bytes.push(if *byte == b'$' { b'\n' } else { *byte })?;
+    }
+    Ok(bytes)
+}

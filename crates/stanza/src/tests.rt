@@ -34,10 +34,28 @@ fn shown(alloc: Global, text: &[u8], commented: bool) -> Result<String, Fail> {
     Ok(shown)
 }
 
-fn assert_rows<R: Abort + AllocGlobal>(rt: &R, rows: &[(&str, bool, &str)]) -> Result<(), Fail> {
-    for (text, commented, wanted) in rows {
-        let shown = shown(rt.alloc(), text.as_bytes(), *commented)?;
-        assert_eq!(rt; shown.as_str(), *wanted, "in {text:?}");
+// The bytes of a row's text, in which `$` stands for a newline.
+fn unescaped(alloc: Global, text: &str) -> Result<Vec<u8>, Fail> {
+    let mut bytes = Vec::new(alloc);
+    for byte in text.as_bytes() {
+        bytes.push(if *byte == b'$' { b'\n' } else { *byte })?;
+    }
+    Ok(bytes)
+}
+
+// The text before the arrow is shown as is said behind it.
+fn is_shown(alloc: Global, commented: bool, row: &str) -> Result<bool, Fail> {
+    let Some((text, wanted)) = row.split_once('→') else {
+        return Ok(false);
+    };
+    let text = unescaped(alloc, text)?;
+    let wanted = unescaped(alloc, wanted)?;
+    Ok(shown(alloc, text.as_slice(), commented)?.as_bytes() == wanted.as_slice())
+}
+
+fn assert_rows<R: Abort + AllocGlobal>(rt: &R, commented: bool, rows: &str) -> Result<(), Fail> {
+    for row in rows.lines() {
+        assert!(rt; is_shown(rt.alloc(), commented, row)?, "{row}");
     }
     Ok(())
 }
@@ -52,120 +70,81 @@ fn the_example_of_the_readme(rt: HostRuntime) -> Result<(), Fail> {
     Ok(())
 }
 
+// `$` stands for a newline.
+const STANZAS: &str = "\
+→
+$ $\t\t$→
+A: 1→1<A: 1>A=1@1;
+Package: a$ \t$Package: b$Conffiles:$ /etc/b 0$X: é→1<Package: a$>Package=a@1;3<Package: b$Conffiles:$ /etc/b 0$X: é>Package=b@3;Conffiles=$ /etc/b 0@4;X=é@6;
+$$A:1$$\t$B:2$$→3<A:1$>A=1@3;6<B:2$>B=2@6;
+";
+
 #[test]
 fn stanzas_are_the_lines_between_separators(rt: HostRuntime) -> Result<(), Fail> {
-    assert_rows(
-        &rt,
-        &[
-            ("", false, ""),
-            ("\n \n\t\t\n", false, ""),
-            ("A: 1", false, "1<A: 1>A=1@1;"),
-            (
-                "Package: a\n \t\nPackage: b\nConffiles:\n /etc/b 0\nX: é",
-                false,
-                "1<Package: a\n>Package=a@1;3<Package: b\nConffiles:\n /etc/b 0\nX: é>Package=b@3;Conffiles=\n /etc/b 0@4;X=é@6;",
-            ),
-            (
-                "\n\nA:1\n\n\t\nB:2\n\n",
-                false,
-                "3<A:1\n>A=1@3;6<B:2\n>B=2@6;",
-            ),
-        ],
-    )
+    assert_rows(&rt, false, STANZAS)
 }
+
+const VALUES: &str = "\
+A:\t 1 \t$→1<A:\t 1 \t$>A=1@1;
+A:  $→1<A:  $>A=@1;
+A: b: c$→1<A: b: c$>A=b: c@1;
+A: 1\r$→1<A: 1\r$>A=1\r@1;
+A:1$ x→1<A:1$ x>A=1$ x@1;
+A:$ .$\t b $B: 2$→1<A:$ .$\t b $B: 2$>A=$ .$\t b@1;B=2@4;
+";
+
+const VALUES_COMMENTED: &str = "\
+A: 1$ # no comment$→1<A: 1$ # no comment$>A=1$ # no comment@1;
+";
 
 #[test]
 fn a_value_is_trimmed_and_keeps_its_inner_newlines(rt: HostRuntime) -> Result<(), Fail> {
-    assert_rows(
-        &rt,
-        &[
-            ("A:\t 1 \t\n", false, "1<A:\t 1 \t\n>A=1@1;"),
-            ("A:  \n", false, "1<A:  \n>A=@1;"),
-            ("A: b: c\n", false, "1<A: b: c\n>A=b: c@1;"),
-            ("A: 1\r\n", false, "1<A: 1\r\n>A=1\r@1;"),
-            ("A:1\n x", false, "1<A:1\n x>A=1\n x@1;"),
-            (
-                "A:\n .\n\t b \nB: 2\n",
-                false,
-                "1<A:\n .\n\t b \nB: 2\n>A=\n .\n\t b@1;B=2@4;",
-            ),
-            (
-                "A: 1\n # no comment\n",
-                true,
-                "1<A: 1\n # no comment\n>A=1\n # no comment@1;",
-            ),
-        ],
-    )
+    assert_rows(&rt, false, VALUES)?;
+    assert_rows(&rt, true, VALUES_COMMENTED)
 }
+
+const FAULTS: &str = "\
+Package: a$Version: 1$package: b$→E4 DuplicateField 3
+ x$Package: a$→E2 BadLine 1
+Package a$→E2 BadLine 1
+#c: 1$→E3 BadFieldName 1
+#c$→E2 BadLine 1
+: v$→E3 BadFieldName 1
+-a: 1$→E3 BadFieldName 1
+a b: 1$→E3 BadFieldName 1
+é: 1$→E3 BadFieldName 1
+A: 1$A: 2$B$→E4 DuplicateField 2
+A: 1\r$\r$B: 2\r$→E2 BadLine 2
+Explanation: x$Explanation: y$→E4 DuplicateField 2
+A: 1$#x$→E2 BadLine 2
+A:1$$x$$B:1$→1<A:1$>A=1@1;E2 BadLine 3
+A: 1$$a: 2→1<A: 1$>A=1@1;3<a: 2>a=2@3;
+Conflicts: a$Conffiles: b$→1<Conflicts: a$Conffiles: b$>Conflicts=a@1;Conffiles=b@2;
+Conflicts: a$Conffiles: b$CONFLICTS: c$→E4 DuplicateField 3
+";
 
 // Of the last two rows, the names share a slot of the table by which most names are known to be new.
 #[test]
 fn the_first_bad_line_is_told_and_nothing_follows(rt: HostRuntime) -> Result<(), Fail> {
-    assert_rows(
-        &rt,
-        &[
-            (
-                "Package: a\nVersion: 1\npackage: b\n",
-                false,
-                "E4 DuplicateField 3",
-            ),
-            (" x\nPackage: a\n", false, "E2 BadLine 1"),
-            ("Package a\n", false, "E2 BadLine 1"),
-            ("#c: 1\n", false, "E3 BadFieldName 1"),
-            ("#c\n", false, "E2 BadLine 1"),
-            (": v\n", false, "E3 BadFieldName 1"),
-            ("-a: 1\n", false, "E3 BadFieldName 1"),
-            ("a b: 1\n", false, "E3 BadFieldName 1"),
-            ("é: 1\n", false, "E3 BadFieldName 1"),
-            ("A: 1\nA: 2\nB\n", false, "E4 DuplicateField 2"),
-            ("A: 1\r\n\r\nB: 2\r\n", false, "E2 BadLine 2"),
-            (
-                "Explanation: x\nExplanation: y\n",
-                false,
-                "E4 DuplicateField 2",
-            ),
-            ("A: 1\n#x\n", false, "E2 BadLine 2"),
-            ("A:1\n\nx\n\nB:1\n", false, "1<A:1\n>A=1@1;E2 BadLine 3"),
-            ("A: 1\n\na: 2", false, "1<A: 1\n>A=1@1;3<a: 2>a=2@3;"),
-            (
-                "Conflicts: a\nConffiles: b\n",
-                false,
-                "1<Conflicts: a\nConffiles: b\n>Conflicts=a@1;Conffiles=b@2;",
-            ),
-            (
-                "Conflicts: a\nConffiles: b\nCONFLICTS: c\n",
-                false,
-                "E4 DuplicateField 3",
-            ),
-        ],
-    )
+    assert_rows(&rt, false, FAULTS)
 }
+
+const COMMENTS: &str = "\
+#x$A: 1$→2<A: 1$>A=1@2;
+A: 1$#x$B: 2$→1<A: 1$#x$B: 2$>A=1@1;B=2@3;
+A: 1$#x$ y$→E2 BadLine 3
+A: 1$ y$#x$#z$$B: 2$#→1<A: 1$ y$>A=1$ y@1;6<B: 2$>B=2@6;
+#x$$#y→
+#x$ c$→E2 BadLine 2
+ #x$→E2 BadLine 1
+ $#x$\t$A: 1$→4<A: 1$>A=1@4;
+Explanation: a$explanation: b$A: 1$→1<Explanation: a$explanation: b$A: 1$>Explanation=a@1;explanation=b@2;A=1@3;
+A: 1$Explanation: x$A: 2$→E4 DuplicateField 3
+";
 
 #[test]
 fn comments_end_a_field_and_are_in_none(rt: HostRuntime) -> Result<(), Fail> {
-    assert_rows(
-        &rt,
-        &[
-            ("#x\nA: 1\n", true, "2<A: 1\n>A=1@2;"),
-            ("A: 1\n#x\nB: 2\n", true, "1<A: 1\n#x\nB: 2\n>A=1@1;B=2@3;"),
-            ("A: 1\n#x\n y\n", true, "E2 BadLine 3"),
-            (
-                "A: 1\n y\n#x\n#z\n\nB: 2\n#",
-                true,
-                "1<A: 1\n y\n>A=1\n y@1;6<B: 2\n>B=2@6;",
-            ),
-            ("#x\n\n#y", true, ""),
-            ("#x\n c\n", true, "E2 BadLine 2"),
-            (" #x\n", true, "E2 BadLine 1"),
-            (" \n#x\n\t\nA: 1\n", true, "4<A: 1\n>A=1@4;"),
-            (
-                "Explanation: a\nexplanation: b\nA: 1\n",
-                true,
-                "1<Explanation: a\nexplanation: b\nA: 1\n>Explanation=a@1;explanation=b@2;A=1@3;",
-            ),
-            ("A: 1\nExplanation: x\nA: 2\n", true, "E4 DuplicateField 3"),
-        ],
-    )
+    assert_rows(&rt, true, COMMENTS)
 }
 
 #[test]

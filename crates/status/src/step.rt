@@ -31,7 +31,7 @@ impl<'p, 'a> PackageRecord<'p, 'a> {
     }
 
     /// The record once its package is configured.
-    pub fn configured(&self) -> PackageRecord<'p, 'a>
+    pub(crate) fn configured(&self) -> PackageRecord<'p, 'a>
         requires { IsPresent self.now }
         ensures { result ≡ configured self.now }
     {
@@ -39,7 +39,7 @@ impl<'p, 'a> PackageRecord<'p, 'a> {
     }
 
     /// The record once its package is deconfigured.
-    pub fn deconfigured(&self) -> PackageRecord<'p, 'a>
+    pub(crate) fn deconfigured(&self) -> PackageRecord<'p, 'a>
         requires { IsPresent self.now }
         ensures { result ≡ deconfigured self.now }
     {
@@ -59,7 +59,7 @@ impl<'p, 'a> PackageRecord<'p, 'a> {
     }
 
     /// The config version of what is unpacked over the record.
-    pub fn kept_config_version(&self) -> Option<Version<'a>>
+    pub(crate) fn kept_config_version(&self) -> Option<Version<'a>>
         ensures { result ≡ kept_config_version self.now }
     {
         if self.state().is_unconfigured() || self.state().is_installed() {
@@ -70,7 +70,7 @@ impl<'p, 'a> PackageRecord<'p, 'a> {
     }
 
     /// The record once its package is removed.
-    pub fn removed(&self) -> PackageRecord<'p, 'a>
+    pub(crate) fn removed(&self) -> PackageRecord<'p, 'a>
         requires { IsPresent self.now }
         ensures { result ≡ removed self.now }
     {

@@ -13,7 +13,7 @@ use std::alloc::AllocFailed;
 
 impl<'p, 'a> PackageRecord<'p, 'a> {
     /// The record of a package of an index once it is unpacked, with this config version.
-    pub fn unpacked(
+    pub(crate) fn unpacked(
         listed: &'p Listed<'a>,
         config_version: Option<Version<'a>>,
     ) -> PackageRecord<'p, 'a>
@@ -30,7 +30,7 @@ impl<'p, 'a> PackageRecord<'p, 'a> {
     }
 
     /// The record once a package of an index is unpacked over it.
-    pub fn unpacked_over(&self, listed: &'p Listed<'a>) -> PackageRecord<'p, 'a>
+    pub(crate) fn unpacked_over(&self, listed: &'p Listed<'a>) -> PackageRecord<'p, 'a>
         ensures { result ≡ unpacked_over listed.now self.now }
     {
         PackageRecord::unpacked(listed, self.kept_config_version())

@@ -64,10 +64,26 @@ fn shown(alloc: Global, text: &[u8]) -> Result<String, Fail> {
     Ok(shown)
 }
 
-fn assert_rows<R: Abort + AllocGlobal>(rt: &R, rows: &[(&str, &str)]) -> Result<(), Fail> {
-    for (text, wanted) in rows {
-        let shown = shown(rt.alloc(), text.as_bytes())?;
-        assert_eq!(rt; shown.as_str(), *wanted, "of {text:?}");
+// The bytes of a row's text, in which `$` stands for a newline.
+fn unescaped(alloc: Global, text: &str) -> Result<Vec<u8>, Fail> {
+    let mut bytes = Vec::new(alloc);
+    for byte in text.as_bytes() {
+        bytes.push(if *byte == b'$' { b'\n' } else { *byte })?;
+    }
+    Ok(bytes)
+}
+
+// The text before the arrow is read or refused as is said behind it.
+fn is_read(alloc: Global, row: &str) -> Result<bool, Fail> {
+    let Some((text, wanted)) = row.split_once('→') else {
+        return Ok(false);
+    };
+    Ok(shown(alloc, unescaped(alloc, text)?.as_slice())?.as_str() == wanted)
+}
+
+fn assert_rows<R: Abort + AllocGlobal>(rt: &R, rows: &str) -> Result<(), Fail> {
+    for row in rows.lines() {
+        assert!(rt; is_read(rt.alloc(), row)?, "{row}");
     }
     Ok(())
 }
@@ -87,128 +103,116 @@ fn the_readme_example(rt: HostRuntime) -> Result<(), Fail> {
     Ok(())
 }
 
+// `$` stands for a newline.
+const GOALS: &str = "\
+install foo$→1I:foo;
+install foo→1I:foo;
+remove a$purge b$upgrade c$upgrade-all$no-remove$→1R:a;2P:b;3U:c;4A;5N;
+install p$remove p$install p→1I:p;2R:p;3I:p;
+install Ab+c.d-e→1I:Ab+c.d-e;
+install install$remove upgrade-all→1I:install;2R:upgrade-all;
+";
+
 #[test]
 fn each_kind_of_goal_is_read_with_its_line(rt: HostRuntime) -> Result<(), Fail> {
-    assert_rows(
-        &rt,
-        &[
-            ("install foo\n", "1I:foo;"),
-            ("install foo", "1I:foo;"),
-            (
-                "remove a\npurge b\nupgrade c\nupgrade-all\nno-remove\n",
-                "1R:a;2P:b;3U:c;4A;5N;",
-            ),
-            ("install p\nremove p\ninstall p", "1I:p;2R:p;3I:p;"),
-            ("install Ab+c.d-e", "1I:Ab+c.d-e;"),
-            (
-                "install install\nremove upgrade-all",
-                "1I:install;2R:upgrade-all;",
-            ),
-        ],
-    )
+    assert_rows(&rt, GOALS)
 }
+
+// A newline ends the line, within an atom too.
+const ATOMS: &str = "\
+install a (>= 1)→1I:a>=1;
+install a(=1:2.0~rc1+b-3~)→1I:a=1:2.0~rc1+b-3~;
+install a  (\t<< 1 ) →1I:a<<1;
+install a (< 1)→1I:a<=1;
+install a (>> 1)→1I:a>>1;
+install a:any→1I:a;
+install a:native (= 1)→1I:a=1;
+install a:amd64 (<= 1)→1I:a<=1;
+install a:i386→E16 BadRequest 1
+install a:i386 (= 1)→E16 BadRequest 1
+install a: any→E16 BadRequest 1
+install a (= 1→E16 BadRequest 1
+install a (= )→E16 BadRequest 1
+install a (= 1-)→E16 BadRequest 1
+install a (== 1)→E16 BadRequest 1
+install a (1)→E16 BadRequest 1
+install a | b→E16 BadRequest 1
+install a,→E16 BadRequest 1
+install ,a→E16 BadRequest 1
+install a, b→E16 BadRequest 1
+install ,→E16 BadRequest 1
+install a b→E16 BadRequest 1
+install -a→E16 BadRequest 1
+install a_b→E16 BadRequest 1
+install→E16 BadRequest 1
+install \t→E16 BadRequest 1
+install a\r$→E16 BadRequest 1
+install a$(= 1)$→E16 BadRequest 2
+";
 
 #[test]
 fn an_atom_is_read_as_in_a_relation_field(rt: HostRuntime) -> Result<(), Fail> {
-    assert_rows(
-        &rt,
-        &[
-            ("install a (>= 1)", "1I:a>=1;"),
-            ("install a(=1:2.0~rc1+b-3~)", "1I:a=1:2.0~rc1+b-3~;"),
-            ("install a  (\t<< 1 ) ", "1I:a<<1;"),
-            ("install a (< 1)", "1I:a<=1;"),
-            ("install a (>> 1)", "1I:a>>1;"),
-            ("install a:any", "1I:a;"),
-            ("install a:native (= 1)", "1I:a=1;"),
-            ("install a:amd64 (<= 1)", "1I:a<=1;"),
-            ("install a:i386", "E16 BadRequest 1"),
-            ("install a:i386 (= 1)", "E16 BadRequest 1"),
-            ("install a: any", "E16 BadRequest 1"),
-            ("install a (= 1", "E16 BadRequest 1"),
-            ("install a (= )", "E16 BadRequest 1"),
-            ("install a (= 1-)", "E16 BadRequest 1"),
-            ("install a (== 1)", "E16 BadRequest 1"),
-            ("install a (1)", "E16 BadRequest 1"),
-            ("install a | b", "E16 BadRequest 1"),
-            ("install a,", "E16 BadRequest 1"),
-            ("install ,a", "E16 BadRequest 1"),
-            ("install a, b", "E16 BadRequest 1"),
-            ("install ,", "E16 BadRequest 1"),
-            ("install a b", "E16 BadRequest 1"),
-            ("install -a", "E16 BadRequest 1"),
-            ("install a_b", "E16 BadRequest 1"),
-            ("install", "E16 BadRequest 1"),
-            ("install \t", "E16 BadRequest 1"),
-            ("install a\r\n", "E16 BadRequest 1"),
-            // A newline ends the line, within an atom too.
-            ("install a\n(= 1)\n", "E16 BadRequest 2"),
-        ],
-    )
+    assert_rows(&rt, ATOMS)
 }
+
+// Behind white space `#` begins no comment, nor does it within a line; a carriage return is no white space.
+const LINES: &str = "\
+→
+$→
+ \t $$\t→
+#→
+#install a$# remove b$##$→
+$ \t$# x$remove a$$remove b$→4R:a;6R:b;
+# x$$remove$→E16 BadRequest 3
+remove a$#$$x→E16 BadRequest 4
+ # x$→E16 BadRequest 1
+\t#$→E16 BadRequest 1
+remove a # b$→E16 BadRequest 1
+remove a #→E16 BadRequest 1
+\r$→E16 BadRequest 1
+";
 
 #[test]
 fn lines_that_ask_for_nothing_count_in_the_numbers(rt: HostRuntime) -> Result<(), Fail> {
-    assert_rows(
-        &rt,
-        &[
-            ("", ""),
-            ("\n", ""),
-            (" \t \n\n\t", ""),
-            ("#", ""),
-            ("#install a\n# remove b\n##\n", ""),
-            ("\n \t\n# x\nremove a\n\nremove b\n", "4R:a;6R:b;"),
-            ("# x\n\nremove\n", "E16 BadRequest 3"),
-            ("remove a\n#\n\nx", "E16 BadRequest 4"),
-            // Behind white space `#` begins no comment, nor does it within a line.
-            (" # x\n", "E16 BadRequest 1"),
-            ("\t#\n", "E16 BadRequest 1"),
-            ("remove a # b\n", "E16 BadRequest 1"),
-            ("remove a #", "E16 BadRequest 1"),
-            // A carriage return is no white space.
-            ("\r\n", "E16 BadRequest 1"),
-        ],
-    )
+    assert_rows(&rt, LINES)
 }
+
+const WHITE_SPACE: &str = "\
+removea→E16 BadRequest 1
+remove\x0ba→E16 BadRequest 1
+  remove   a  $→1R:a;
+\tpurge\t\ta\t→1P:a;
+ \tupgrade \t a \t$→1U:a;
+\t upgrade-all \t$ no-remove→1A;2N;
+\tinstall \t a\t(= 1)\t→1I:a=1;
+";
 
 #[test]
 fn white_space_parts_words_and_is_ignored_at_the_ends(rt: HostRuntime) -> Result<(), Fail> {
-    assert_rows(
-        &rt,
-        &[
-            ("  remove   a  \n", "1R:a;"),
-            ("\tpurge\t\ta\t", "1P:a;"),
-            (" \tupgrade \t a \t\n", "1U:a;"),
-            ("\t upgrade-all \t\n no-remove", "1A;2N;"),
-            ("\tinstall \t a\t(= 1)\t", "1I:a=1;"),
-            ("removea", "E16 BadRequest 1"),
-            ("remove\x0ba", "E16 BadRequest 1"),
-        ],
-    )
+    assert_rows(&rt, WHITE_SPACE)
 }
+
+const REFUSED: &str = "\
+remove→E16 BadRequest 1
+remove a b→E16 BadRequest 1
+purge a (= 1)→E16 BadRequest 1
+upgrade a:any→E16 BadRequest 1
+remove -a→E16 BadRequest 1
+remove a,→E16 BadRequest 1
+upgrade-all x→E16 BadRequest 1
+no-remove x→E16 BadRequest 1
+upgrade→E16 BadRequest 1
+Remove a→E16 BadRequest 1
+upgrade-al→E16 BadRequest 1
+upgrade-alll→E16 BadRequest 1
+hold a→E16 BadRequest 1
+foo→E16 BadRequest 1
+remove a$foo$bar$→E16 BadRequest 2
+";
 
 #[test]
 fn every_other_line_is_refused(rt: HostRuntime) -> Result<(), Fail> {
-    assert_rows(
-        &rt,
-        &[
-            ("remove", "E16 BadRequest 1"),
-            ("remove a b", "E16 BadRequest 1"),
-            ("purge a (= 1)", "E16 BadRequest 1"),
-            ("upgrade a:any", "E16 BadRequest 1"),
-            ("remove -a", "E16 BadRequest 1"),
-            ("remove a,", "E16 BadRequest 1"),
-            ("upgrade-all x", "E16 BadRequest 1"),
-            ("no-remove x", "E16 BadRequest 1"),
-            ("upgrade", "E16 BadRequest 1"),
-            ("Remove a", "E16 BadRequest 1"),
-            ("upgrade-al", "E16 BadRequest 1"),
-            ("upgrade-alll", "E16 BadRequest 1"),
-            ("hold a", "E16 BadRequest 1"),
-            ("foo", "E16 BadRequest 1"),
-            // The first of two.
-            ("remove a\nfoo\nbar\n", "E16 BadRequest 2"),
-        ],
-    )
+    assert_rows(&rt, REFUSED)
 }
 
 #[test]

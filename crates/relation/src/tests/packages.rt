@@ -1,5 +1,5 @@
 //! Packages of stanzas, their refusals, and which package matches which atom.
-use super::{shown_atoms, shown_clauses, shown_items};
+use super::{shown_atoms, shown_clauses, shown_items, unescaped};
 use crate::{Pkg, PkgError, PkgFields, RelationError, parse_atoms, parse_clauses, parse_provides};
 use stanza::Stanzas;
 use std::alloc::Global;
@@ -42,69 +42,41 @@ fn write_pkg(alloc: Global, shown: &mut String, pkg: &Pkg<'_>) -> Result<(), Fai
     Ok(())
 }
 
+// `$` stands for a newline.
+const PACKAGES: &str = "\
+Package: a$Version: 1$→a 1 ////
+VERSION: 1:2-3$provides: p (= 1), q$Breaks: r (<< 2)$Conflicts: s$Depends:$ t | u,$ v:i386$Pre-Depends: w$package: A→A 1:2-3 [w]/[t,u][v!]/s/r<<2/p=1,q
+Package: a$Version: 1$Depends:$Breaks: , ,$→a 1 ////
+Version: 1$→E9 MissingField 1 Package
+Package: a$→E9 MissingField 1 Version
+Package: z$Version: 1$$X: 1$Version: 1$→E9 MissingField 4 Package
+Package: a_b$Version: 1$→E8 BadName 1 1
+Version: 1_$Package: ab-.+C/$→E8 BadName 2 6
+Version: 1$Package:$→E8 BadName 2 0
+Package: -a$→E8 BadName 1 0
+Package: a$Version:$→E6 BadVersion 2 Empty
+Package: a$Version: 1_0$Depends: b_$→E6 BadVersion 2 BadByte E7 BadRelation 3 1
+Package: a$Version: 1$Depends:$ b,$ c_$→E7 BadRelation 3 7 E7 BadRelation 3 7
+Package: a$Version: 1$Conflicts: b | c$→E7 BadRelation 3 2 E7 BadRelation 3 2
+Package: a$Version: 1$Pre-Depends: b |$→E8 BadName 3 3 E8 BadName 3 3
+Provides: b (>= 1)$Breaks: b (= 1-)$Conflicts: b:$Depends: b b$Pre-Depends: 1_$Package: a$Version: 1$→E7 BadRelation 5 1 E7 BadRelation 5 1
+Provides: b (>= 1)$Breaks: b (= 1-)$Conflicts: b:$Depends: b b$Package: a$Version: 1$→E7 BadRelation 4 2 E7 BadRelation 4 2
+Provides: b (>= 1)$Breaks: b (= 1-)$Conflicts: b:$Package: a$Version: 1$→E8 BadName 3 2 E8 BadName 3 2
+Provides: b (>= 1)$Breaks: b (= 1-)$Package: a$Version: 1$→E7 BadRelation 2 5 E7 BadRelation 2 5
+Provides: b (>= 1)$Package: a$Version: 1$→E7 BadRelation 1 3 E7 BadRelation 1 3
+";
+
+fn is_shown(alloc: Global, row: &str) -> Result<bool, Fail> {
+    let Some((text, wanted)) = row.split_once('→') else {
+        return Ok(false);
+    };
+    Ok(shown(alloc, unescaped(alloc, text)?.as_slice())?.as_str() == wanted)
+}
+
 #[test]
 fn a_package_is_read_from_its_fields(rt: HostRuntime) -> Result<(), Fail> {
-    let rows = [
-        ("Package: a\nVersion: 1\n", "a 1 ////"),
-        (
-            "VERSION: 1:2-3\nprovides: p (= 1), q\nBreaks: r (<< 2)\nConflicts: s\nDepends:\n t | u,\n v:i386\nPre-Depends: w\npackage: A",
-            "A 1:2-3 [w]/[t,u][v!]/s/r<<2/p=1,q",
-        ),
-        (
-            "Package: a\nVersion: 1\nDepends:\nBreaks: , ,\n",
-            "a 1 ////",
-        ),
-        ("Version: 1\n", "E9 MissingField 1 Package"),
-        ("Package: a\n", "E9 MissingField 1 Version"),
-        (
-            "Package: z\nVersion: 1\n\nX: 1\nVersion: 1\n",
-            "E9 MissingField 4 Package",
-        ),
-        ("Package: a_b\nVersion: 1\n", "E8 BadName 1 1"),
-        ("Version: 1_\nPackage: ab-.+C/\n", "E8 BadName 2 6"),
-        ("Version: 1\nPackage:\n", "E8 BadName 2 0"),
-        ("Package: -a\n", "E8 BadName 1 0"),
-        ("Package: a\nVersion:\n", "E6 BadVersion 2 Empty"),
-        (
-            "Package: a\nVersion: 1_0\nDepends: b_\n",
-            "E6 BadVersion 2 BadByte E7 BadRelation 3 1",
-        ),
-        (
-            "Package: a\nVersion: 1\nDepends:\n b,\n c_\n",
-            "E7 BadRelation 3 7 E7 BadRelation 3 7",
-        ),
-        (
-            "Package: a\nVersion: 1\nConflicts: b | c\n",
-            "E7 BadRelation 3 2 E7 BadRelation 3 2",
-        ),
-        (
-            "Package: a\nVersion: 1\nPre-Depends: b |\n",
-            "E8 BadName 3 3 E8 BadName 3 3",
-        ),
-        (
-            "Provides: b (>= 1)\nBreaks: b (= 1-)\nConflicts: b:\nDepends: b b\nPre-Depends: 1_\nPackage: a\nVersion: 1\n",
-            "E7 BadRelation 5 1 E7 BadRelation 5 1",
-        ),
-        (
-            "Provides: b (>= 1)\nBreaks: b (= 1-)\nConflicts: b:\nDepends: b b\nPackage: a\nVersion: 1\n",
-            "E7 BadRelation 4 2 E7 BadRelation 4 2",
-        ),
-        (
-            "Provides: b (>= 1)\nBreaks: b (= 1-)\nConflicts: b:\nPackage: a\nVersion: 1\n",
-            "E8 BadName 3 2 E8 BadName 3 2",
-        ),
-        (
-            "Provides: b (>= 1)\nBreaks: b (= 1-)\nPackage: a\nVersion: 1\n",
-            "E7 BadRelation 2 5 E7 BadRelation 2 5",
-        ),
-        (
-            "Provides: b (>= 1)\nPackage: a\nVersion: 1\n",
-            "E7 BadRelation 1 3 E7 BadRelation 1 3",
-        ),
-    ];
-    for (text, wanted) in rows {
-        let shown = shown(rt.alloc(), text.as_bytes())?;
-        assert_eq!(rt; shown.as_str(), wanted, "in {text:?}");
+    for row in PACKAGES.lines() {
+        assert!(rt; is_shown(rt.alloc(), row)?, "{row}");
     }
     Ok(())
 }
@@ -122,43 +94,48 @@ fn is_matched(alloc: Global, atom: &[u8], text: &[u8]) -> Result<bool, Fail> {
     Ok(matched)
 }
 
+// `$` stands for a newline.
+const MATCHES: &str = "\
+bar (>= 1.0)→Package: x$Version: 5$Provides: bar (= 1.0)$→matched
+bar (>= 1.0)→Package: y$Version: 1$Provides: bar$→not
+bar (>= 1.0)→Package: bar$Version: 0.9$→not
+bar→Package: x$Version: 5$Provides: bar (= 1.0)$→matched
+bar→Package: y$Version: 1$Provides: bar$→matched
+bar→Package: bar$Version: 0.9$→matched
+bar (<< 1)→Package: bar$Version: 0.9$→matched
+bar (< 0.9)→Package: bar$Version: 0.9$→matched
+bar (<< 0.9)→Package: bar$Version: 0.9$→not
+bar (= 0.90)→Package: bar$Version: 0.9$→not
+bar (= 0.09)→Package: bar$Version: 0.9$→matched
+bar (= 1.00)→Package: x$Version: 5$Provides: bar (= 1.0)$→matched
+bar (>> 1.0)→Package: x$Version: 5$Provides: bar (= 1.0)$→not
+bar (= 5)→Package: x$Version: 5$Provides: bar (= 1.0)$→not
+x (= 5)→Package: x$Version: 5$Provides: bar (= 1.0)$→matched
+Bar→Package: bar$Version: 0.9$→not
+ba→Package: bar$Version: 0.9$→not
+bar:any→Package: bar$Version: 0.9$→matched
+bar:amd64→Package: bar$Version: 0.9$→matched
+bar:i386→Package: bar$Version: 0.9$→not
+bar:i386→Package: y$Version: 1$Provides: bar$→not
+bar→Package: z$Version: 1$Provides: bar:i386$→not
+bar (= 2)→Package: bar$Version: 1$Provides: bar (= 2), bar (= 3)$→matched
+";
+
+fn matches_as_said(alloc: Global, row: &str) -> Result<bool, Fail> {
+    let Some((atom, rest)) = row.split_once('→') else {
+        return Ok(false);
+    };
+    let Some((text, wanted)) = rest.split_once('→') else {
+        return Ok(false);
+    };
+    let stanza = unescaped(alloc, text)?;
+    Ok(is_matched(alloc, atom.as_bytes(), stanza.as_slice())? == (wanted == "matched"))
+}
+
 #[test]
 fn an_atom_is_matched_by_name_or_by_what_is_provided(rt: HostRuntime) -> Result<(), Fail> {
-    let provides_versioned = "Package: x\nVersion: 5\nProvides: bar (= 1.0)\n";
-    let provides_unversioned = "Package: y\nVersion: 1\nProvides: bar\n";
-    let earlier = "Package: bar\nVersion: 0.9\n";
-    let rows = [
-        ("bar (>= 1.0)", provides_versioned, true),
-        ("bar (>= 1.0)", provides_unversioned, false),
-        ("bar (>= 1.0)", earlier, false),
-        ("bar", provides_versioned, true),
-        ("bar", provides_unversioned, true),
-        ("bar", earlier, true),
-        ("bar (<< 1)", earlier, true),
-        ("bar (< 0.9)", earlier, true),
-        ("bar (<< 0.9)", earlier, false),
-        ("bar (= 0.90)", earlier, false),
-        ("bar (= 0.09)", earlier, true),
-        ("bar (= 1.00)", provides_versioned, true),
-        ("bar (>> 1.0)", provides_versioned, false),
-        ("bar (= 5)", provides_versioned, false),
-        ("x (= 5)", provides_versioned, true),
-        ("Bar", earlier, false),
-        ("ba", earlier, false),
-        ("bar:any", earlier, true),
-        ("bar:amd64", earlier, true),
-        ("bar:i386", earlier, false),
-        ("bar:i386", provides_unversioned, false),
-        ("bar", "Package: z\nVersion: 1\nProvides: bar:i386\n", false),
-        (
-            "bar (= 2)",
-            "Package: bar\nVersion: 1\nProvides: bar (= 2), bar (= 3)\n",
-            true,
-        ),
-    ];
-    for (atom, text, wanted) in rows {
-        let matched = is_matched(rt.alloc(), atom.as_bytes(), text.as_bytes())?;
-        assert_eq!(rt; matched, wanted, "{atom:?} by {text:?}");
+    for row in MATCHES.lines() {
+        assert!(rt; matches_as_said(rt.alloc(), row)?, "{row}");
     }
     Ok(())
 }
