@@ -5,10 +5,10 @@
 
 mod built;
 mod candidate;
-mod choice;
 mod error;
 mod exact;
 mod laws;
+mod offer;
 mod order;
 mod pair;
 mod pairs;
@@ -25,5 +25,3 @@ pub use pairs::Pairs;
 pub use start::Start;
 pub use universe::Universe;
 
-#[cfg(test)]
-mod tests;
