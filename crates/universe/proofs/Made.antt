@@ -60,29 +60,29 @@ made_of goals ordered best = record {
 
 module _ (indices : List Index) (goals : List Goal) (ordered : List Listed) (best : List Offer)
     (is : IsOrdered (all_listed indices) ordered) (are : AreBest (offers_of indices) best) where
-  abbrev kept : List Listed
-  kept = admitted_among best (exacts_of goals) ordered
+  abbrev kept_ones : List Listed
+  kept_ones = admitted_among best (exacts_of goals) ordered
 
   -- an admitted pair is one that is kept
   pair_of_admitted : (name version : List ℕ) → IsAdmitted (inputs_of indices goals) name version
-      → Any (λ (pair : Pair). IsOf name version pair.pkg) (map listed_pair kept)
+      → Any (λ (pair : Pair). IsOf name version pair.pkg) (map listed_pair kept_ones)
   pair_of_admitted name version admitted =
       let there = kept_of_offered indices goals ordered best is are name version (IsAdmitted-is indices goals name version admitted) in
-      Any-intro (λ (pair : Pair). IsOf name version pair.pkg) (map listed_pair kept) (listed_pair there.0)
-      (Contains-map_intro listed_pair kept there.0 (Contains-filter_intro (is_kept best goals) ordered there.0 there.1 there.2)) there.3
+      Any-intro (λ (pair : Pair). IsOf name version pair.pkg) (map listed_pair kept_ones) (listed_pair there.0)
+      (Contains-map_intro listed_pair kept_ones there.0 (Contains-filter_intro (is_kept best goals) ordered there.0 there.1 there.2)) there.3
 
-  admitted_of_pair : (name version : List ℕ) → Any (λ (pair : Pair). IsOf name version pair.pkg) (map listed_pair kept)
+  admitted_of_pair : (name version : List ℕ) → Any (λ (pair : Pair). IsOf name version pair.pkg) (map listed_pair kept_ones)
       → IsAdmitted (inputs_of indices goals) name version
   admitted_of_pair name version some = IsAdmitted-from indices goals name version
-      (Any-elim (λ (pair : Pair). IsOf name version pair.pkg) (map listed_pair kept) (IsOffered (inputs_of indices goals) name version)
+      (Any-elim (λ (pair : Pair). IsOf name version pair.pkg) (map listed_pair kept_ones) (IsOffered (inputs_of indices goals) name version)
       (λ pair within of.
-      let from = Contains-map listed_pair kept pair within in
+      let from = Contains-map listed_pair kept_ones pair within in
       let at = Contains-filter (is_kept best goals) ordered from.0 from.1 in
       offered_of_kept indices goals ordered best is are from.0 at.0 at.1 name version
       (subst (λ (p : Pair). IsOf name version p.pkg) (sym from.2) of)) some)
 
   -- a stanza that is kept is found of its own version
-  found_kept : (found : Listed) → Contains kept found → index_package indices found.pkg.name found.pkg.version ≡ Some found
+  found_kept : (found : Listed) → Contains kept_ones found → index_package indices found.pkg.name found.pkg.version ≡ Some found
   found_kept found within = found_ordered (all_listed indices) ordered is found
       (Contains-filter (is_kept best goals) ordered found within).0 found.pkg.name found.pkg.version (of_itself found.pkg)
 
@@ -90,13 +90,13 @@ module _ (indices : List Index) (goals : List Goal) (ordered : List Listed) (bes
   pub universe_of : IsUniverse (inputs_of indices goals) (made_of goals ordered best)
   universe_of = record {
     ascending = AllPairs-sorted listed_cmp (λ (earlier : Pair) (later : Pair). pair_cmp earlier later ≡ Less) listed_pair
-        (λ earlier later below. below) kept (IsStrictlySortedBy-filter listed_cmp (is_kept best goals) ordered is.ascending);
+        (λ earlier later below. below) kept_ones (IsStrictlySortedBy-filter listed_cmp (is_kept best goals) ordered is.ascending);
     admitted = λ name version. (pair_of_admitted name version, admitted_of_pair name version);
-    counting = All-map (λ (pair : Pair). counting_package (inputs_of indices goals) pair.pkg.name pair.pkg.version ≡ Some pair.pkg) listed_pair kept
-        (All-intro (λ (found : Listed). counting_package (inputs_of indices goals) found.pkg.name found.pkg.version ≡ Some found.pkg) kept
+    counting = All-map (λ (pair : Pair). counting_package (inputs_of indices goals) pair.pkg.name pair.pkg.version ≡ Some pair.pkg) listed_pair kept_ones
+        (All-intro (λ (found : Listed). counting_package (inputs_of indices goals) found.pkg.name found.pkg.version ≡ Some found.pkg) kept_ones
         (λ found within. ap (option_map (λ (l : Listed). l.pkg)) (found_kept found within)));
-    listed = All-map (λ (pair : Pair). index_package indices pair.pkg.name pair.pkg.version ≡ pair.listed) listed_pair kept
-        (All-intro (λ (found : Listed). index_package indices found.pkg.name found.pkg.version ≡ Some found) kept
+    listed = All-map (λ (pair : Pair). index_package indices pair.pkg.name pair.pkg.version ≡ pair.listed) listed_pair kept_ones
+        (All-intro (λ (found : Listed). index_package indices found.pkg.name found.pkg.version ≡ Some found) kept_ones
         (λ found within. found_kept found within));
     goals = refl;
     starts = refl;
@@ -152,32 +152,40 @@ admitted_alike lines best chosen asked ordered kept of_best of_goals same =
     ap (λ (b : Bool). b || is_sought asked found) (sym first)
     ∙ ap (λ (b : Bool). is_sought (best_exacts best) found || b) (sym second)) ordered
 
--- the universe of what is chosen by the goals of these lines
-pub universe_chosen : (indices : List Index) (lines : List GoalLine) (offers best : List Offer) (ordered kept : List Listed)
-    → offers ≡ offers_of indices → IsOrdered (map (λ offer. offer.listed) offers) ordered → AreBest offers best
-    → kept ≡ admitted_among best (exacts_of (goals_of lines)) ordered
+-- the stanzas in order of all offers, given as equal ones, are those of the indices
+ordered_given : (indices : List Index) (offers given : List Offer) (ordered : List Listed) → offers ≡ offers_of indices
+    → given ≡ offers → IsOrdered (map (λ offer. offer.listed) given) ordered → IsOrdered (all_listed indices) ordered
+ordered_given indices offers given ordered all same is = subst (λ (listed : List Listed). IsOrdered listed ordered)
+    (ap (map (λ (offer : Offer). offer.listed)) (same ∙ all) ∙ listed_of_offers indices) is
+
+-- the universe of what is chosen by the goals of these lines, each given as an equal one
+pub universe_given : (indices : List Index) (lines asked : List GoalLine) (offers given best taken : List Offer) (ordered kept : List Listed)
+    → offers ≡ offers_of indices → given ≡ offers → IsOrdered (map (λ offer. offer.listed) given) ordered
+    → AreBest offers best → taken ≡ best → asked ≡ lines
+    → kept ≡ admitted_among taken (exacts_of (goals_of asked)) ordered
     → IsUniverse (inputs_of indices (goals_of lines)) (record {
       pairs = map listed_pair kept;
       goals = goals_of lines;
       starts = [];
       candidates = map candidate_at best;
     })
-universe_chosen indices lines offers best ordered kept all is are same =
+universe_given indices lines asked offers given best taken ordered kept all same is are alike line_same kept_is =
     let goals : List Goal = goals_of lines in
-    let is' : IsOrdered (all_listed indices) ordered = subst (λ (listed : List Listed). IsOrdered listed ordered)
-    (ap (map (λ (offer : Offer). offer.listed)) all ∙ listed_of_offers indices) is in
     let are' : AreBest (offers_of indices) best = subst (λ (o : List Offer). AreBest o best) all are in
+    let kept_all : kept ≡ admitted_among best (exacts_of goals) ordered = kept_is
+    ∙ ap (λ (b : List Offer). admitted_among b (exacts_of (goals_of asked)) ordered) alike
+    ∙ ap (λ (l : List GoalLine). admitted_among best (exacts_of (goals_of l)) ordered) line_same in
     subst (λ (k : List Listed). IsUniverse (inputs_of indices goals) (record {
       pairs = map listed_pair k;
       goals = goals;
       starts = [];
       candidates = map candidate_at best;
-    })) (sym same) (universe_of indices goals ordered best is' are')
+    })) (sym kept_all) (universe_of indices goals ordered best (ordered_given indices offers given ordered all same is) are')
 
 -- the first unknown name among the stanzas in order is that of the indices
-pub first_unknown-chosen : (indices : List Index) (lines : List GoalLine) (offers : List Offer) (ordered : List Listed)
-    → offers ≡ offers_of indices → IsOrdered (map (λ offer. offer.listed) offers) ordered
-    → first_unknown (all_listed indices) lines ≡ first_unknown ordered lines
-first_unknown-chosen indices lines offers ordered all is = sym (first_unknown-ordered (all_listed indices) ordered
-    (subst (λ (listed : List Listed). IsOrdered listed ordered)
-    (ap (map (λ (offer : Offer). offer.listed)) all ∙ listed_of_offers indices) is) lines)
+pub first_unknown-given : (indices : List Index) (lines asked : List GoalLine) (offers given : List Offer) (ordered among : List Listed)
+    → offers ≡ offers_of indices → given ≡ offers → IsOrdered (map (λ offer. offer.listed) given) ordered
+    → among ≡ ordered → asked ≡ lines → first_unknown (all_listed indices) lines ≡ first_unknown among asked
+first_unknown-given indices lines asked offers given ordered among all same is alike line_same =
+    sym (ap (λ (o : List Listed). first_unknown o asked) alike ∙ ap (first_unknown ordered) line_same
+    ∙ first_unknown-ordered (all_listed indices) ordered (ordered_given indices offers given ordered all same is) lines)

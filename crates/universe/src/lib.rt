@@ -25,3 +25,5 @@ pub use pairs::Pairs;
 pub use start::Start;
 pub use universe::Universe;
 
+#[cfg(test)]
+mod tests;
