@@ -32,7 +32,7 @@ returns-then-len-gt-PAIRS-clause-err c = (
         c.in_ok-offers.offers.items c.as_slice.result.now c.in_ok-best.best.items c.as_slice-4.result.now
         c.in_ok-ordered.ordered.items c.in_ok-kept.kept.items c.in_ok-offers.ensures c.as_slice.ensures.value
         c.in_ok-ordered.ensures c.in_ok-best.ensures c.as_slice-4.ensures.value c.as_slice-5.ensures.value c.in_ok-kept.ensures;
-    beyond = omega (arith, length-map listed_pair c.in_ok-kept.kept.items);
+    beyond = omega (arith, length-map c.in_ok-kept.kept.items listed_pair);
   },
 )
 
@@ -57,5 +57,5 @@ returns-clause-ok c =
           c.in_ok-offers.offers.items c.as_slice.result.now c.in_ok-best.best.items c.as_slice-4.result.now
           c.in_ok-ordered.ordered.items c.in_ok-kept.kept.items c.in_ok-offers.ensures c.as_slice.ensures.value
           c.in_ok-ordered.ensures c.in_ok-best.ensures c.as_slice-4.ensures.value c.as_slice-5.ensures.value c.in_ok-kept.ensures;
-      bounded = omega (arith, length-map listed_pair c.in_ok-kept.kept.items);
+      bounded = omega (arith, length-map c.in_ok-kept.kept.items listed_pair);
     })
