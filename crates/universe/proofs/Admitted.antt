@@ -1,6 +1,6 @@
 -- Which stanzas in order are candidates, asked for or available, where nothing is installed.
-use Rattle.std.proofs.Common.{◌≡◌, ℕ, ℤ, Bool, true, false, ◌||◌, List, map, Option, Some, None, IsSome, refl, sym, ap, subst, ◌∙◌}
-use Rattle.std.specs.List.{Any, Contains, find}
+use Rattle.std.proofs.Common.{◌≡◌, ℕ, ℤ, Bool, true, false, ◌||◌, List, Option, Some, None, IsSome, refl, sym, ap, subst, ◌∙◌}
+use Rattle.std.specs.List.{Contains}
 use Rattle.std.specs.Cmp.{tied_itself}
 use Rattle.std.specs.Cmp.Lexicographic.{nat_list_cmp_total}
 use Rattle.std.specs.List.Sorted.{IsStrictlySortedBy}
@@ -8,17 +8,15 @@ use Rattle.std.specs.Option.{option_map}
 use Rattle.std.specs.declared.cmp.Ordering.TheVariants.{Equal}
 use Rattle.rules.specs.Name.{name_cmp}
 use Rattle.std.proofs.lemmas.Bool.{or_cases, or_left, or_right}
-use Rattle.std.proofs.lemmas.Option.{same_Some}
 use Rattle.rules.specs.Available.{Index, IsAvailable, all_listed, index_package, is_of}
 use Rattle.rules.specs.ElementLaws.{Any-elim, Any-from_list_any, Contains-map, Contains-map_intro, list_any-from_contains}
 use Rattle.rules.specs.Priority.{IsCandidate, IsUpTo}
 use Rattle.rules.specs.Step.{Listed}
 use Rattle.rules.specs.Universe.{IsOf, IsOffered}
-use Rattle.rules.specs.Version.{SameVersion}
 use Rattle.rules.specs.VersionOrderLaws.{SameVersion-refl, SameVersion-symm, SameVersion-trans}
 use Rattle.rules.specs.declared.goal.Goal.{Goal}
 use Rattle.universe.specs.Build.{inputs_of}
-use Rattle.universe.specs.Choice.{AreBest, Exact, IsBeaten, IsOrdered, Offer, best_exacts, exact_at, exacts_of, is_sought, listed_cmp, offer_name_cmp, offers_of, stanza_of}
+use Rattle.universe.specs.Choice.{AreBest, Exact, IsBeaten, IsOrdered, Offer, best_exacts, exact_at, exacts_of, is_sought, offer_name_cmp, offers_of, stanza_of}
 use Rattle.universe.specs.ChoiceLaws.{listed_cmp_total, offer_name_cmp_total}
 use Rattle.universe.proofs.Asked.{is_sought-from, is_sought-names}
 use Rattle.universe.proofs.Finding.{find-exists, find-some, sorted-one}

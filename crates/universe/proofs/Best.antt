@@ -1,10 +1,10 @@
 -- Offers that are sorted and freed of repeated names are the best of their names.
-use Rattle.std.proofs.Common.{◌≡◌, ℕ, suc, ◌<ℤ◌, ◌⊎◌, Bool, true, false, cond, not, List, [], ◌∷◌, Option, Some, None, refl, sym, ap, subst, ◌∙◌, add-one, arith, bytes_eq}
+use Rattle.std.proofs.Common.{◌≡◌, ℕ, suc, ◌<ℤ◌, ◌⊎◌, Bool, true, false, cond, List, [], ◌∷◌, Some, refl, sym, ap, subst, ◌∙◌, add-one, arith, bytes_eq}
 use Rattle.std.specs.Cmp.{IsTotalOrder, tied_itself}
 use Rattle.std.specs.Cmp.Lexicographic.{nat_list_cmp_total}
 use Rattle.std.specs.List.{Any, Contains, dedup, find}
-use Rattle.std.specs.List.Sorted.{IsPermutation, IsSorted, IsStrictlySortedBy}
-use Rattle.std.specs.Ordering.{eq_by_cmp, int_cmp, is_lt, ordering_reverse, ordering_then}
+use Rattle.std.specs.List.Sorted.{IsPermutation, IsSorted}
+use Rattle.std.specs.Ordering.{int_cmp, is_lt, ordering_reverse, ordering_then}
 use Rattle.std.specs.declared.cmp.Ordering.{Ordering}
 use Rattle.std.specs.declared.cmp.Ordering.TheVariants.{Less, Equal, Greater}
 use Rattle.std.proofs.lemmas.Cmp.{int_ranked}
@@ -19,7 +19,7 @@ use Rattle.rules.specs.NamedLaws.{bytes_eq-true, bytes_eq-same}
 use Rattle.rules.specs.Priority.{IsUpTo}
 use Rattle.rules.specs.Version.{version_cmp}
 use Rattle.rules.specs.VersionOrderLaws.{version_cmp-antisymm}
-use Rattle.universe.specs.Choice.{AreBest, IsBeaten, Offer, choice_cmp, offer_cmp, offer_name_cmp}
+use Rattle.universe.specs.Choice.{AreBest, IsBeaten, Offer, choice_cmp, offer_cmp}
 use Rattle.universe.specs.ChoiceLaws.{offer_cmp_total, offer_name_cmp_total}
 use Rattle.universe.proofs.Finding.{find-dedup, find-exists, find-some}
 use mathlib.Core.Logic.{inl, inr}

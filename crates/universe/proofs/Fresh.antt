@@ -1,7 +1,7 @@
 -- Priorities and candidates where nothing is installed or preferred: the priority of a version is the greatest default
 -- priority of the indices that have it.
 use Rattle.std.proofs.Common.{◌≡◌, ℕ, ℤ, pos, ◌≤ℤ◌, ◌<ℤ◌, Bool, true, false, cond, List, [], ◌∷◌, map, Option, Some, None, MatchOption, refl, sym, ap, subst, ◌∙◌, arith}
-use Rattle.std.specs.List.{All, Any, Contains, list_any}
+use Rattle.std.specs.List.{Any, Contains, list_any}
 use Rattle.std.specs.Option.{option_map}
 use Rattle.std.specs.Ordering.{ordering_reverse}
 use Rattle.std.specs.declared.cmp.Ordering.{Ordering}
@@ -11,13 +11,12 @@ use Rattle.std.proofs.lemmas.List.Elements.{All-contains, Contains-append_cases,
 use Rattle.rules.specs.Available.{Index, Inputs, all_listed, index_package, is_of}
 use Rattle.rules.specs.ElementLaws.{All-intro, Any-elim, Contains-cons, Contains-filter, Contains-filter_intro, Contains-head, Contains-map, Contains-map_intro, Contains-nil, Contains-rest, Any-from_list_any, list_any-from_contains}
 use Rattle.rules.specs.Package.{Pkg}
-use Rattle.rules.specs.Priority.{HasPriority, HasPriorityAs, IsCandidate, IsDowngrade, IsEligible, IsGreatest, IsUpTo, default_priority, index_origin, indices_with, origin_priority}
+use Rattle.rules.specs.Priority.{HasPriority, HasPriorityAs, IsCandidate, IsDowngrade, IsEligible, IsUpTo, default_priority, index_origin, indices_with, origin_priority}
 use Rattle.rules.specs.Step.{Listed}
 use Rattle.rules.specs.Universe.{IsAdmitted, IsOf, IsOffered, StandsAs}
 use Rattle.rules.specs.Version.{SameVersion, version_cmp}
 use Rattle.rules.specs.VersionOrderLaws.{SameVersion-symm, SameVersion-trans, version_cmp-antisymm, version_cmp-same_left, version_cmp-same_right}
 use Rattle.rules.specs.declared.goal.Goal.{Goal}
-use Rattle.rules.specs.declared.release.Release.{Release}
 use Rattle.universe.specs.Build.{inputs_of}
 use Rattle.universe.specs.Choice.{Offer, offer_at, offers_in, offers_of}
 use Rattle.universe.proofs.Finding.{find-exists, find-some}

@@ -1,9 +1,9 @@
 -- The stanzas of the best offers' versions and those that are asked for, and the candidates, make the universe of a request
 -- where nothing is installed.
-use Rattle.std.proofs.Common.{◌≡◌, ◌≢◌, ℕ, ℤ, Bool, ◌||◌, List, [], ◌∷◌, ◌++◌, map, Option, Some, ◌↔◌, refl, sym, ap, subst, ◌∙◌, arith}
+use Rattle.std.proofs.Common.{◌≡◌, ◌≢◌, ℕ, ℤ, Bool, ◌||◌, List, [], ◌∷◌, ◌++◌, map, Option, Some, refl, sym, ap, subst, ◌∙◌, arith}
 use Rattle.std.specs.Cmp.{tied_itself}
 use Rattle.std.specs.Cmp.Lexicographic.{nat_list_cmp_total}
-use Rattle.std.specs.List.{All, AllPairs, Any, Contains, cons_option, filter, filter_map}
+use Rattle.std.specs.List.{AllPairs, Any, Contains, cons_option, filter, filter_map}
 use Rattle.std.specs.List.Sorted.{IsPermutation, IsStrictlySortedBy}
 use Rattle.std.specs.Option.{option_map}
 use Rattle.std.specs.declared.cmp.Ordering.{Ordering}
@@ -21,7 +21,6 @@ use Rattle.rules.specs.Priority.{IsCandidate, default_priority}
 use Rattle.rules.specs.Step.{Listed}
 use Rattle.rules.specs.Universe.{Candidate, IsAdmitted, IsOf, IsOffered, IsUniverse, Pair, Universe, pair_cmp}
 use Rattle.rules.specs.Version.{SameVersion}
-use Rattle.rules.specs.VersionOrderLaws.{SameVersion-refl}
 use Rattle.rules.specs.declared.goal.Goal.{Goal}
 use Rattle.rules.specs.declared.goal.GoalLine.{GoalLine}
 use Rattle.universe.specs.Build.{first_unknown, goals_of, inputs_of}

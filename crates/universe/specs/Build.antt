@@ -4,7 +4,7 @@ use Rattle.std.specs.Prelude.{ℕ, Bool, false, not, List, [], map, Option, Some
 use Rattle.std.specs.List.{list_any, find}
 use Rattle.std.specs.Option.{option_map, option_map_or}
 use Rattle.index.specs.Index.{ReadIndex}
-use Rattle.rules.specs.Available.{Index, Inputs, all_listed}
+use Rattle.rules.specs.Available.{Index, Inputs}
 use Rattle.rules.specs.Step.{Listed}
 use Rattle.rules.specs.declared.goal.Goal.{Goal}
 use Rattle.rules.specs.declared.goal.Goal.TheVariants as goal

@@ -1,5 +1,5 @@
 -- What is sought in order keeps the stanzas that are admitted.
-use Rattle.std.proofs.Common.{sym, subst, ◌∙◌}
+use Rattle.std.proofs.Common.{sym, subst}
 use Rattle.universe.specs.Choice.{AreExacts}
 use Rattle.universe.proofs.Made.{admitted_alike}
 use Rattle.universe.proofs.built.admitted.Goals as goal

@@ -1,7 +1,7 @@
 -- The universe of what is chosen, and the first refusal.
-use Rattle.std.proofs.Common.{arith, ◌≡◌, [], map, length, sym, ap, subst, ◌∙◌}
+use Rattle.std.proofs.Common.{arith, ◌≡◌, [], map, sym, ap, subst, ◌∙◌}
 use Rattle.std.proofs.lemmas.List.{length-map}
-use Rattle.rules.specs.Universe.{Pair, Universe}
+use Rattle.rules.specs.Universe.{Universe}
 use Rattle.universe.specs.Build.{goals_of, indices_of}
 use Rattle.universe.specs.Choice.{candidate_at, listed_pair}
 use Rattle.universe.specs.Error.{IsBuilt}
