@@ -1,7 +1,8 @@
 #!/bin/sh
-# run.sh DIR: measures debplan's readers on the *.Packages files of DIR, beside wc, grep and apt, and prints a
-# table of medians. README.md says what is measured.
-# Environment: ROUNDS (default 5); PYTHON, which has python3-apt (default Debian's own, /usr/bin/python3).
+# run.sh DIR: measures debplan's readers on the *.Packages files of DIR, beside wc, grep, apt and libsolv, and prints
+# a table of medians. README.md says what is measured.
+# Environment: ROUNDS (default 5); PYTHON, which has python3-apt and python3-solv (default Debian's own,
+# /usr/bin/python3).
 set -eu
 
 fail() {
@@ -18,6 +19,7 @@ rounds=${ROUNDS:-5}
 ls "$1"/*.Packages > /dev/null 2>&1 || fail "$1 has no file *.Packages"
 [ -x "$program" ] || fail "crates/bench/out/bench is missing: 'rt run' in crates/bench builds it"
 "$python" -c 'import apt_pkg' 2> /dev/null || fail "$python has no apt_pkg: install python3-apt, or set PYTHON"
+"$python" -c 'import solv' 2> /dev/null || fail "$python has no solv: install python3-solv, or set PYTHON"
 
 work=$(mktemp -d)
 trap 'rm -rf "$work"' EXIT
@@ -42,6 +44,9 @@ while [ "$round" -lt "$rounds" ]; do
     timed "grep -c" grep -c ^Package: "$work/Packages"
     timed "bench stanzas, whole process" "$program" stanzas "$work/Packages"
     "$program" relations "$work/Packages" >> "$work/counts" 2>> "$work/times"
+    "$program" index "$work/Packages" >> "$work/counts" 2>> "$work/times"
+    timed "bench index, whole process" "$program" index "$work/Packages" 2> /dev/null
+    "$python" "$here/libsolv_index.py" "$work/Packages" >> "$work/counts" 2>> "$work/times"
     "$program" versions "$work/pairs" > "$work/ours" 2>> "$work/times"
     "$python" "$here/apt_versions.py" "$work/pairs" > "$work/apt" 2>> "$work/times"
     cat "$work/ours" >> "$work/counts"

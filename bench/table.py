@@ -8,6 +8,8 @@ RATIOS = [
     ("stanzas", "grep -c", "ms"),
     ("bench stanzas, whole process", "grep -c", "ms"),
     ("stanzas", "wc -l", "ms"),
+    ("index read", "libsolv's reading", "ms"),
+    ("bench index, whole process", "libsolv's reading", "ms"),
     ("versions compared", "apt_pkg.version_compare", "ns/pair"),
     ("versions read and compared", "apt_pkg.version_compare", "ns/pair"),
 ]

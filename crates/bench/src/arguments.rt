@@ -10,6 +10,8 @@ pub enum Measure {
     Versions,
     /// Testing and reading the relation fields of a Packages file.
     Relations,
+    /// Reading a Packages file as an index.
+    Index,
 }
 
 /// A measure, and the file on which it is taken.
@@ -40,6 +42,7 @@ fn measure_of(word: &str) -> Option<Measure> {
         "stanzas" => Some(Measure::Stanzas),
         "versions" => Some(Measure::Versions),
         "relations" => Some(Measure::Relations),
+        "index" => Some(Measure::Index),
         _ => None,
     }
 }
