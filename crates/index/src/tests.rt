@@ -8,10 +8,19 @@ use std::alloc::Global;
 use std::test::Fail;
 
 /// This many copies of a text, one after another.
-pub fn repeated(alloc: Global, part: &str, count: usize) -> Result<String, Fail> {
-    let mut text = String::new(alloc);
+pub fn repeated(alloc: Global, part: &[u8], count: usize) -> Result<Vec<u8>, Fail> {
+    let mut text = Vec::new(alloc);
     for _ in 0..count {
-        text.push_str(part)?;
+        text.extend_from_slice(part)?;
     }
     Ok(text)
+}
+
+/// The bytes of a row's text, in which `$` stands for a newline.
+pub fn unescaped(alloc: Global, text: &str) -> Result<Vec<u8>, Fail> {
+    let mut bytes = Vec::new(alloc);
+    for byte in text.as_bytes() {
+        bytes.push(if *byte == b'$' { b'\n' } else { *byte })?;
+    }
+    Ok(bytes)
 }

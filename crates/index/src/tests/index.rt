@@ -1,4 +1,5 @@
 //! Packages files, by rows worked by hand, for the architecture amd64.
+use super::unescaped;
 use crate::{Entry, Index, IndexError};
 use rules::{Release, Text};
 use std::alloc::{AllocError, Global};
@@ -22,9 +23,9 @@ fn release_of(alloc: Global, host: &[u8]) -> Result<Release, AllocError> {
     })
 }
 
-fn read<'a>(alloc: Global, text: &'a str, before: usize) -> Result<Index<'a>, IndexError> {
+fn read<'a>(alloc: Global, text: &'a [u8], before: usize) -> Result<Index<'a>, IndexError> {
     let release = release_of(alloc, b"h")?;
-    Index::read(alloc, text.as_bytes(), release, ARCH, before)
+    Index::read(alloc, text, release, ARCH, before)
 }
 
 /// The name and the version, the numbers of clauses, atoms and items of the relation fields, and whether it is essential.
@@ -43,7 +44,7 @@ fn write_entry(alloc: Global, shown: &mut String, entry: &Entry<'_>) -> Result<(
 }
 
 /// The packages, then how many stanzas were skipped; or the refusal as it is printed.
-fn shown(alloc: Global, text: &str, before: usize) -> Result<String, Fail> {
+fn shown(alloc: Global, text: &[u8], before: usize) -> Result<String, Fail> {
     let mut shown = String::new(alloc);
     match read(alloc, text, before) {
         Ok(index) => {
@@ -58,125 +59,61 @@ fn shown(alloc: Global, text: &str, before: usize) -> Result<String, Fail> {
     Ok(shown)
 }
 
-#[test]
-fn stanzas_of_the_architecture_are_read(rt: HostRuntime) -> Result<(), Fail> {
-    let rows = [
-        ("", 4000000, "skipped 0"),
-        (
-            "Package: a\nVersion: 1\nArchitecture: all\n",
-            3999999,
-            "a 1 00000, skipped 0",
-        ),
-        (
-            "VERSION: 1:2-3\npackage: b\nDepends: c, d (<< 2) | e\narchitecture:\tamd64 \nX: y",
-            0,
-            "b 1:2-3 02000, skipped 0",
-        ),
-        (
-            "Package: a\nVersion: 2\nArchitecture: all\n\nPackage: b\nVersion: 1_\nArchitecture: i386\nDepends: _\nProvides: p (<< 1)\n\nPackage: a\nVersion: 1\nArchitecture: amd64\nPre-Depends: b\nDepends: c, d\nConflicts: e, f, g\nBreaks: h, i, j, k\nProvides: l, m, n, o, p (= 1)\n",
-            3999998,
-            "a 2 00000, a 1 12345, skipped 1",
-        ),
-        ("Package: a\nArchitecture: any\n", 4000000, "skipped 1"),
-        ("Package: a\nArchitecture: ALL\n", 0, "skipped 1"),
-        (
-            "Package: a\nArchitecture: i386 amd64\n\nPackage: a\nArchitecture:\n",
-            0,
-            "skipped 2",
-        ),
-    ];
-    for (text, before, wanted) in rows {
-        assert_eq!(rt;
-            shown(rt.alloc(), text, before)?.as_str(),
-            wanted,
-            "of {text}"
-        );
-    }
-    Ok(())
-}
+// The number of packages before, the text, in which `$` stands for a newline, and what is shown of it.
+const READ: &str = "\
+4000000→→skipped 0
+3999999→Package: a$Version: 1$Architecture: all$→a 1 00000, skipped 0
+0→VERSION: 1:2-3$package: b$Depends: c, d (<< 2) | e$architecture:\tamd64 $X: y→b 1:2-3 02000, skipped 0
+3999998→Package: a$Version: 2$Architecture: all$$Package: b$Version: 1_$Architecture: i386$Depends: _$Provides: p (<< 1)$$Package: a$Version: 1$Architecture: amd64$Pre-Depends: b$Depends: c, d$Conflicts: e, f, g$Breaks: h, i, j, k$Provides: l, m, n, o, p (= 1)$→a 2 00000, a 1 12345, skipped 1
+4000000→Package: a$Architecture: any$→skipped 1
+0→Package: a$Architecture: ALL$→skipped 1
+0→Package: a$Architecture: i386 amd64$$Package: a$Architecture:$→skipped 2
+";
 
 // Policy 5.6.9 has `Essential: yes`; that Protected says the same is this project's own.
-#[test]
-fn yes_alone_marks_a_package_essential(rt: HostRuntime) -> Result<(), Fail> {
-    let rows = [
-        ("Essential: yes", "a 1 00000 essential, skipped 0"),
-        ("PROTECTED:yes\t", "a 1 00000 essential, skipped 0"),
-        (
-            "Protected: no\nEssential: yes",
-            "a 1 00000 essential, skipped 0",
-        ),
-        ("Essential: Yes\nProtected: true", "a 1 00000, skipped 0"),
-        ("Essential: yes yes\nImportant: yes", "a 1 00000, skipped 0"),
-    ];
-    for (fields, wanted) in rows {
-        let text = format!(in rt.alloc(); "Package: a\nVersion: 1\nArchitecture: all\n{fields}\n")?;
-        assert_eq!(rt;
-            shown(rt.alloc(), &text, 0)?.as_str(),
-            wanted,
-            "of {fields}"
-        );
-    }
-    Ok(())
+const ESSENTIAL: &str = "\
+0→Package: a$Version: 1$Architecture: all$Essential: yes$→a 1 00000 essential, skipped 0
+0→Package: a$Version: 1$Architecture: all$PROTECTED:yes\t$→a 1 00000 essential, skipped 0
+0→Package: a$Version: 1$Architecture: all$Protected: no$Essential: yes$→a 1 00000 essential, skipped 0
+0→Package: a$Version: 1$Architecture: all$Essential: Yes$Protected: true$→a 1 00000, skipped 0
+0→Package: a$Version: 1$Architecture: all$Essential: yes yes$Important: yes$→a 1 00000, skipped 0
+";
+
+const REFUSED: &str = "\
+0→Package: a$Architecture: all$Version: 1$Provides: _$package: b→E4 DuplicateField 5
+0→ x$Package: a$→E2 BadLine 1
+0→#c: 1$→E3 BadFieldName 1
+0→Package: a$$$Package: b$Version: 1$Size: 1$size: 2$→E9 MissingField 1 Architecture
+0→Version: 1$Architecture: i386$→E9 MissingField 1 Package
+0→Package: a_$Architecture: i386$→E8 BadName 1 1
+0→$$$Package: a$Architecture: all$Depends: _$→E9 MissingField 4 Version
+0→Package: a$Architecture: all$Pre-Depends: _$Version:$→E6 BadVersion 4 Empty
+0→Package: a$Version: 1$Architecture: all$Depends: a | , b$Pre-Depends: a (= )$→E7 BadRelation 5 5
+0→Package: a$Version: 1$Architecture: all$Provides: p, q (<< 1)$Breaks: b, _$→E8 BadName 5 3
+3999999→Package: a$Version: 1$Architecture: all$$Package: b$Architecture: i386$Provides: _$$Package: c$Version: 1$Architecture: amd64$Provides: p, q (<< 1)$→E7 BadRelation 12 6
+4000000→Package: a$Architecture: i386$$Package: b$Version: 1$Architecture: all$$x$→E10 TooLarge
+";
+
+fn is_shown(alloc: Global, row: &str) -> Result<bool, Fail> {
+    let Some((before, rest)) = row.split_once('→') else {
+        return Ok(false);
+    };
+    let Some((text, wanted)) = rest.split_once('→') else {
+        return Ok(false);
+    };
+    let text = unescaped(alloc, text)?;
+    let shown = shown(alloc, text.as_slice(), before.parse()?)?;
+    Ok(shown.as_str() == wanted)
 }
 
 #[test]
-fn the_first_refusal_of_an_index_is_printed(rt: HostRuntime) -> Result<(), Fail> {
-    let rows = [
-        (
-            "Package: a\nArchitecture: all\nVersion: 1\nProvides: _\npackage: b",
-            0,
-            "E4 DuplicateField 5",
-        ),
-        (" x\nPackage: a\n", 0, "E2 BadLine 1"),
-        ("#c: 1\n", 0, "E3 BadFieldName 1"),
-        (
-            "Package: a\n\n\nPackage: b\nVersion: 1\nSize: 1\nsize: 2\n",
-            0,
-            "E9 MissingField 1 Architecture",
-        ),
-        (
-            "Version: 1\nArchitecture: i386\n",
-            0,
-            "E9 MissingField 1 Package",
-        ),
-        ("Package: a_\nArchitecture: i386\n", 0, "E8 BadName 1 1"),
-        (
-            "\n\n\nPackage: a\nArchitecture: all\nDepends: _\n",
-            0,
-            "E9 MissingField 4 Version",
-        ),
-        (
-            "Package: a\nArchitecture: all\nPre-Depends: _\nVersion:\n",
-            0,
-            "E6 BadVersion 4 Empty",
-        ),
-        (
-            "Package: a\nVersion: 1\nArchitecture: all\nDepends: a | , b\nPre-Depends: a (= )\n",
-            0,
-            "E7 BadRelation 5 5",
-        ),
-        (
-            "Package: a\nVersion: 1\nArchitecture: all\nProvides: p, q (<< 1)\nBreaks: b, _\n",
-            0,
-            "E8 BadName 5 3",
-        ),
-        (
-            "Package: a\nVersion: 1\nArchitecture: all\n\nPackage: b\nArchitecture: i386\nProvides: _\n\nPackage: c\nVersion: 1\nArchitecture: amd64\nProvides: p, q (<< 1)\n",
-            3999999,
-            "E7 BadRelation 12 6",
-        ),
-        (
-            "Package: a\nArchitecture: i386\n\nPackage: b\nVersion: 1\nArchitecture: all\n\nx\n",
-            4000000,
-            "E10 TooLarge",
-        ),
-    ];
-    for (text, before, wanted) in rows {
-        assert_eq!(rt;
-            shown(rt.alloc(), text, before)?.as_str(),
-            wanted,
-            "of {text}"
-        );
+fn stanzas_of_the_architecture_are_read_up_to_the_first_refusal(
+    rt: HostRuntime,
+) -> Result<(), Fail> {
+    for table in [READ, ESSENTIAL, REFUSED] {
+        for row in table.lines() {
+            assert!(rt; is_shown(rt.alloc(), row)?, "{row}");
+        }
     }
     Ok(())
 }
@@ -184,7 +121,7 @@ fn the_first_refusal_of_an_index_is_printed(rt: HostRuntime) -> Result<(), Fail>
 #[test]
 fn an_index_has_its_names_once_and_its_release(rt: HostRuntime) -> Result<(), Fail> {
     let text =
-        "Package: b\nVersion: 1\nArchitecture: all\n\nPackage: a\nVersion: 1\nArchitecture: all\n\nPackage: c\nArchitecture: i386\n\nPackage: b\nVersion: 2\nArchitecture: amd64\nX: é\n";
+        b"Package: b\nVersion: 1\nArchitecture: all\n\nPackage: a\nVersion: 1\nArchitecture: all\n\nPackage: c\nArchitecture: i386\n\nPackage: b\nVersion: 2\nArchitecture: amd64\nX: y\n";
     let index = read(rt.alloc(), text, 0)?;
     assert_eq!(rt; index.names(), [b"b".as_slice(), b"a"].as_slice());
     assert!(rt; index.has_name(b"a") && !index.has_name(b"c"));

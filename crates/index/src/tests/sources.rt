@@ -1,5 +1,5 @@
 //! Sources texts: this project's own format, by rows worked by hand.
-use super::repeated;
+use super::{repeated, unescaped};
 use crate::{Source, SourcesError, read_sources};
 use rules::Text;
 use std::alloc::Global;
@@ -34,9 +34,9 @@ fn write_source(shown: &mut String, source: &Source<'_>) -> Result<(), Fail> {
 }
 
 /// The indices with their keys, parted by a semicolon, or the refusal as it is printed.
-fn shown(alloc: Global, text: &str) -> Result<String, Fail> {
+fn shown(alloc: Global, text: &[u8]) -> Result<String, Fail> {
     let mut shown = String::new(alloc);
-    match read_sources(alloc, text.as_bytes()) {
+    match read_sources(alloc, text) {
         Ok(sources) => {
             for source in &sources {
                 write_source(&mut shown, source)?;
@@ -48,82 +48,78 @@ fn shown(alloc: Global, text: &str) -> Result<String, Fail> {
     Ok(shown)
 }
 
+// `$` stands for a newline.
+const READ: &str = "\
+→
+# nothing$$ \t$→
+File: a→a Host=;
+File: a$$$File:$→a Host=; Host=;
+Suite: s$FILE: p/q r$Archive: t$Codename: n$Version: 12.1$Component: main$origin: Debian$Label: l$Host: deb.debian.org$NotAutomatic: yes$ButAutomaticUpgrades: yes$→p/q r Archive=t Suite=s Codename=n Version=12.1 Component=main Origin=Debian Label=l Host=deb.debian.org NotAutomatic ButAutomaticUpgrades;
+File: a$NotAutomatic: Yes$ButAutomaticUpgrades: \tyes $→a Host= ButAutomaticUpgrades;
+File: a$NotAutomatic: yes$ButAutomaticUpgrades: no$→a Host= NotAutomatic;
+File: a$NotAutomatic: true$Size: 1$→a Host=;
+File: a$Suite:$→a Suite= Host=;
+# one$File: a$# two$Suite: s$# three$$# four$File: b$→a Suite=s Host=;b Host=;
+Explanation: x$File: a$explanation: y$Explanation: z$→a Host=;
+";
+
+const REFUSED: &str = "\
+File: a$# c$ x$→E2 BadLine 3
+File a$→E2 BadLine 1
+-a: x$File: a$→E3 BadFieldName 1
+File: a$$File: b$Suite: s$file: c$→E4 DuplicateField 5
+$# c$Suite: s$Label: l$→E9 MissingField 3 File
+File: a$$Label: l$$x$→E9 MissingField 3 File
+Label: l$x$→E2 BadLine 2
+ x$File: a$→E2 BadLine 1
+";
+
+fn is_shown(alloc: Global, row: &str) -> Result<bool, Fail> {
+    let Some((text, wanted)) = row.split_once('→') else {
+        return Ok(false);
+    };
+    Ok(shown(alloc, unescaped(alloc, text)?.as_slice())?.as_str() == wanted)
+}
+
 #[test]
-fn each_stanza_is_an_index_with_its_keys(rt: HostRuntime) -> Result<(), Fail> {
-    let rows = [
-        ("", ""),
-        ("# nothing\n\n \t\n", ""),
-        ("File: a", "a Host=;"),
-        ("File: a\n\n\nFile:\n", "a Host=; Host=;"),
-        (
-            "Suite: s\nFILE: p/q r\nArchive: t\nCodename: n\nVersion: 12.1\nComponent: main\norigin: Debian\nLabel: l\nHost: deb.debian.org\nNotAutomatic: yes\nButAutomaticUpgrades: yes\n",
-            "p/q r Archive=t Suite=s Codename=n Version=12.1 Component=main Origin=Debian Label=l Host=deb.debian.org NotAutomatic ButAutomaticUpgrades;",
-        ),
-        (
-            "File: a\nNotAutomatic: Yes\nButAutomaticUpgrades: \tyes \n",
-            "a Host= ButAutomaticUpgrades;",
-        ),
-        (
-            "File: a\nNotAutomatic: yes\nButAutomaticUpgrades: no\n",
-            "a Host= NotAutomatic;",
-        ),
-        ("File: a\nNotAutomatic: true\nSize: 1\n", "a Host=;"),
-        ("File: a\nSuite:\n", "a Suite= Host=;"),
-        (
-            "# one\nFile: a\n# two\nSuite: s\n# three\n\n# four\nFile: b\n",
-            "a Suite=s Host=;b Host=;",
-        ),
-        (
-            "Explanation: x\nFile: a\nexplanation: y\nExplanation: z\n",
-            "a Host=;",
-        ),
-    ];
-    for (text, wanted) in rows {
-        assert_eq!(rt; shown(rt.alloc(), text)?.as_str(), wanted, "of {text}");
+fn each_stanza_is_an_index_up_to_the_first_refusal(rt: HostRuntime) -> Result<(), Fail> {
+    for table in [READ, REFUSED] {
+        for row in table.lines() {
+            assert!(rt; is_shown(rt.alloc(), row)?, "{row}");
+        }
     }
     Ok(())
 }
 
-#[test]
-fn the_first_refusal_of_a_sources_text_is_printed(rt: HostRuntime) -> Result<(), Fail> {
-    let rows = [
-        (" x\nFile: a\n", "E2 BadLine 1"),
-        ("File: a\n# c\n x\n", "E2 BadLine 3"),
-        ("File a\n", "E2 BadLine 1"),
-        ("-a: x\nFile: a\n", "E3 BadFieldName 1"),
-        (
-            "File: a\n\nFile: b\nSuite: s\nfile: c\n",
-            "E4 DuplicateField 5",
-        ),
-        ("\n# c\nSuite: s\nLabel: l\n", "E9 MissingField 3 File"),
-        ("File: a\n\nLabel: l\n\nx\n", "E9 MissingField 3 File"),
-        ("Label: l\nx\n", "E2 BadLine 2"),
-    ];
-    for (text, wanted) in rows {
-        assert_eq!(rt; shown(rt.alloc(), text)?.as_str(), wanted, "of {text}");
+// What stands behind a thousand stanzas. Each has two lines, so the thousand and first begins on line 2001.
+const BEHIND_A_THOUSAND: &str = "\
+→1000 indices
+File: b$→E10 TooLarge
+File: b$$x$→E10 TooLarge
+Label: l$→E9 MissingField 2001 File
+File: b$x$→E2 BadLine 2002
+";
+
+fn counted(alloc: Global, text: &[u8]) -> Result<String, Fail> {
+    match read_sources(alloc, text) {
+        Ok(sources) => Ok(format!(in alloc; "{} indices", sources.len())?),
+        Err(error) => Ok(format!(in alloc; "{error}")?),
     }
-    Ok(())
 }
 
-// A stanza has two lines, so the thousand and first begins on line 2001.
+fn is_counted(alloc: Global, row: &str) -> Result<bool, Fail> {
+    let Some((last, wanted)) = row.split_once('→') else {
+        return Ok(false);
+    };
+    let mut text = repeated(alloc, b"File: a\n\n", 1000)?;
+    text.extend_from_slice(unescaped(alloc, last)?.as_slice())?;
+    Ok(counted(alloc, text.as_slice())?.as_str() == wanted)
+}
+
 #[test]
 fn a_thousand_indices_are_read(rt: HostRuntime) -> Result<(), Fail> {
-    let rows = [
-        ("", "1000 indices"),
-        ("File: b\n", "E10 TooLarge"),
-        ("File: b\n\nx\n", "E10 TooLarge"),
-        ("Label: l\n", "E9 MissingField 2001 File"),
-        ("File: b\nx\n", "E2 BadLine 2002"),
-    ];
-    for (last, wanted) in rows {
-        let mut text = repeated(rt.alloc(), "File: a\n\n", 1000)?;
-        text.push_str(last)?;
-        let mut shown = String::new(rt.alloc());
-        match read_sources(rt.alloc(), text.as_bytes()) {
-            Ok(sources) => write!(shown, "{} indices", sources.len())?,
-            Err(error) => write!(shown, "{error}")?,
-        }
-        assert_eq!(rt; shown.as_str(), wanted, "of {last}");
+    for row in BEHIND_A_THOUSAND.lines() {
+        assert!(rt; is_counted(rt.alloc(), row)?, "{row}");
     }
     Ok(())
 }
