@@ -34,8 +34,3 @@ out_of_memory = record { place = place.Memory; fault = fault.OutOfMemory }
 abbrev pub IsPlaced : Place → Fault → Refusal → Type 0
 IsPlaced where_ found refused = ((found ≡ fault.OutOfMemory) × (refused ≡ out_of_memory))
     ⊎ ((found ≢ fault.OutOfMemory) × (refused ≡ record { place = where_; fault = found }))
-
--- the refusal of a reading of the text at this place, if it is refused
-abbrev pub refusal_at : {A : Type 0} → Place → Result A Fault → Option Refusal
-refusal_at where_ (Ok read) = None
-refusal_at where_ (Err refused) = Some (record { place = where_; fault = refused })

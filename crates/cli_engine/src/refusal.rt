@@ -3,8 +3,9 @@
 ghost use Rattle.std.specs.Prelude.{◌≡◌};
 ghost use Rattle.cli_engine.specs.Reading.{IsPlaced, out_of_memory};
 
-use index::{IndexFault, LaterField, SourcesFault};
+use index::{IndexFault, SourcesFault};
 use plantext::PlanFault;
+use rules::BadVersion;
 use stanza::StanzaError;
 use std::alloc::AllocError;
 use thiserror::Error;
@@ -13,6 +14,9 @@ use universe_request::RequestFault;
 /// The text that is refused.
 #[derive(Clone, Copy, Debug, PartialEq, Eq, Error)]
 pub enum Place {
+    /// The version of this number among those of a comparison, counted from 1.
+    #[error("version {0}")]
+    Version(usize),
     /// The status file.
     #[error("status")]
     Status,
@@ -39,12 +43,6 @@ pub enum Later {
     /// A stanza of the status file.
     #[error("status")]
     Status,
-    /// A second stanza of the sources, or a field other than File and Explanation.
-    #[error("sources")]
-    Sources,
-    /// This relation field of an index.
-    #[error("{0}")]
-    Field(LaterField),
     /// The goal `remove`.
     #[error("remove")]
     Remove,
@@ -71,6 +69,9 @@ pub enum Later {
 /// What is wrong with a text.
 #[derive(Clone, Copy, Debug, PartialEq, Eq, Error)]
 pub enum Fault {
+    /// The version that was to be compared is none.
+    #[error("E6 BadVersion {0}")]
+    Version(BadVersion),
     /// No control text goes on so.
     #[error("{0}")]
     Stanza(StanzaError),
