@@ -1,2 +1,4 @@
 pub mod SourcesLemmas
 pub mod IndexLemmas
+pub mod NameLemmas
+pub mod ProviderLemmas

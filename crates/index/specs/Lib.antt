@@ -2,4 +2,5 @@ pub mod Listed
 pub mod Error
 pub mod Sources
 pub mod Index
-pub mod Later
+pub mod Names
+pub mod Providers

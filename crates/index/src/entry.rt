@@ -1,102 +1,113 @@
-//! One stanza of an index: whether it counts, and its package.
-ghost use Rattle.std.specs.Prelude.{◌≡◌, ◌||◌, IfErr, IfOk, Ok, Some};
-ghost use Rattle.relation.specs.PkgText.{read_fields};
-ghost use Rattle.rules.specs.Stanza.{is_called, marks_essential};
-ghost use Rattle.index.specs.Error.{IsIndexFault};
-ghost use Rattle.index.specs.Index as Spec;
-ghost use Rattle.index.specs.Listed.{field_of};
+// A stanza of an index that counts, whose relation fields are read when they are asked for.
 
-use crate::error::{IndexError, IndexFault};
+ghost use Rattle.std.specs.Prelude.{◌≡◌, IfOk, MatchResult, None, Some};
+ghost use Rattle.relation.specs.PkgText.{pkg_fault, pkg_of};
+ghost use Rattle.index.specs.Listed.{read_stanza};
+
 use crate::listed::Listed;
-use relation::{Pkg, PkgFields};
-use stanza::{Field, Stanza, StanzaError};
-use std::alloc::Global;
+use relation::{Pkg, PkgError, PkgFault, PkgFields, Version};
+use stanza::Stanza;
+use std::alloc::{AllocError, Global};
+use std::marker::Model;
 
-// The fields that a package is read from.
-fn fields_read<'a>(fields: PkgFields<'a>) -> PkgFields<'a>
-    ensures { result ≡ Spec.fields_read fields.entry }
-{
-    fields.depends_alone()
-}
-
-fn is_called(name: &[u8], field: &Field<'_>) -> bool
-    ensures { result ≡ is_called name.now (field_of field.now) }
-{
-    field.name().eq_ignore_ascii_case(name)
-}
-
-fn marks_essential(field: &Field<'_>) -> bool
-    ensures { result ≡ marks_essential (field_of field.now) }
-{
-    (is_called(b"Essential", field) || is_called(b"Protected", field))
-        && field.value() == b"yes".as_slice()
-}
-
-fn is_essential(stanza: &Stanza<'_>) -> bool
-    ensures { result ≡ Spec.is_essential stanza.now.fields }
-{
-    for field in stanza.fields() {
-        if marks_essential(&field) {
-            return true;
-        }
-    }
-    false
-}
-
-fn counts_for(arch: &[u8], value: &[u8]) -> bool
-    ensures { result ≡ Spec.counts_for arch.now value.now }
-{
-    value == b"all".as_slice() || value == arch
-}
-
-// The stanza with the package of these fields.
-fn read_listed<'a>(
-    alloc: Global,
-    stanza: &Stanza<'a>,
+/// A stanza of an index that counts: its package, whether it is marked essential, and the stanza itself. Its relation
+/// fields have been tested, and `pkg` reads them each time that it is called.
+#[derive(Drop)]
+pub struct Entry<'a> {
+    name: &'a [u8],
+    version: Version<'a>,
     fields: PkgFields<'a>,
-    arch: &[u8],
-) -> Result<Listed<'a>, IndexError>
-    ensures ok { IfOk result (λ listed. Spec.listed_with stanza.now (read_fields arch.now (Spec.fields_read fields.entry)) ≡ Ok (Some listed)) }
-    ensures err { IfErr result (λ e. IsIndexFault e (Spec.listed_with stanza.now (read_fields arch.now (Spec.fields_read fields.entry)))) }
-{
-    let pkg = Pkg::from_fields(alloc, &fields_read(fields), arch)?;
-    Ok(Listed::new(pkg, is_essential(stanza), stanza.again()))
+    arch: &'a [u8],
+    is_essential: bool,
+    stanza: Stanza<'a>,
 }
 
-// What the stanza gives: nothing where its architecture doesn't count.
-fn read_entry<'a>(
-    alloc: Global,
-    stanza: &Stanza<'a>,
-    arch: &[u8],
-) -> Result<Option<Listed<'a>>, IndexError>
-    ensures ok { IfOk result (λ entry. Spec.read_entry arch.now stanza.now ≡ Ok entry) }
-    ensures err { IfErr result (λ e. IsIndexFault e (Spec.read_entry arch.now stanza.now)) }
-{
-    let fields = PkgFields::in_stanza(stanza);
-    fields.name()?;
-    match stanza.get(b"Architecture") {
-        None => Err(IndexFault::MissingArchitecture(stanza.line()).into()),
-        Some(value) => {
-            if counts_for(arch, value) {
-                Ok(Some(read_listed(alloc, stanza, fields, arch)?))
-            } else {
-                Ok(None)
-            }
+impl<'a> Model for Entry<'a> {
+    ghost use Rattle.std.specs.Prelude.{◌≡◌, None};
+    ghost use Rattle.relation.specs.PkgText.{pkg_fault, pkg_of, value_in};
+    ghost use Rattle.rules.specs.Step.{Listed as ListedValue};
+    ghost use Rattle.index.specs.Listed.{read_stanza};
+
+    ghost Value = { ListedValue };
+
+    ghost view = { λ e. record { pkg = pkg_of e.arch.now e.fields; is_essential = e.is_essential; stanza = read_stanza e.stanza } };
+
+    ghost invariant = { λ e. (pkg_fault e.fields ≡ None)
+        × (e.name.now ≡ value_in e.fields.name)
+        × (e.version ≡ value_in e.fields.version) };
+}
+
+impl<'a> Entry<'a> {
+    // The stanza with the package that its fields spell for this configured architecture, or their first refusal.
+    pub(crate) fn read(
+        fields: PkgFields<'a>,
+        arch: &'a [u8],
+        is_essential: bool,
+        stanza: Stanza<'a>,
+    ) -> Result<Entry<'a>, PkgFault>
+        ensures { MatchResult result
+            (λ entry. (pkg_fault fields.entry ≡ None)
+            × (entry ≡ record { pkg = pkg_of arch.now fields.entry; is_essential = is_essential; stanza = read_stanza stanza.entry }))
+            (λ fault. pkg_fault fields.entry ≡ Some fault) }
+    {
+        let name = fields.name()?;
+        let version = fields.version()?;
+        fields.check_relations()?;
+        Ok(Entry {
+            name,
+            version,
+            fields,
+            arch,
+            is_essential,
+            stanza,
+        })
+    }
+
+    /// The name of the package.
+    pub fn name(&self) -> &'a [u8]
+        ensures { result.now ≡ self.now.pkg.name }
+    {
+        self.name
+    }
+
+    /// The version of the package.
+    pub fn version(&self) -> &Version<'a>
+        ensures { result.now ≡ self.now.pkg.version }
+    {
+        &self.version
+    }
+
+    /// Whether the stanza marks the package essential.
+    pub fn is_essential(&self) -> bool
+        ensures { result ≡ self.now.is_essential }
+    {
+        self.is_essential
+    }
+
+    /// The stanza.
+    pub fn stanza(&self) -> &Stanza<'a>
+        ensures { read_stanza result.now ≡ self.now.stanza }
+    {
+        &self.stanza
+    }
+
+    /// The package, with its relations. Memory alone can fail. Linear in the values of the relation fields.
+    pub fn pkg(&self, alloc: Global) -> Result<Pkg<'a>, AllocError>
+        ensures { IfOk result (λ pkg. pkg ≡ self.now.pkg) }
+    {
+        match Pkg::from_fields(alloc, &self.fields, self.arch) {
+            Ok(pkg) => Ok(pkg),
+            Err(PkgError::OutOfMemory) => Err(AllocError),
+            Err(_) => unreachable!(),
         }
     }
-}
 
-// What an item of the text gives.
-pub fn read_item<'a>(
-    alloc: Global,
-    item: &Result<Stanza<'a>, StanzaError>,
-    arch: &[u8],
-) -> Result<Option<Listed<'a>>, IndexError>
-    ensures ok { IfOk result (λ entry. Spec.read_item arch.now item.now ≡ Ok entry) }
-    ensures err { IfErr result (λ e. IsIndexFault e (Spec.read_item arch.now item.now)) }
-{
-    match item {
-        Ok(stanza) => read_entry(alloc, stanza, arch),
-        Err(fault) => Err(IndexFault::Stanza(*fault).into()),
+    /// The stanza with its package, as `pkg` reads it. Memory alone can fail. Linear in the values of the relation
+    /// fields.
+    pub fn listed(&self, alloc: Global) -> Result<Listed<'a>, AllocError>
+        ensures { IfOk result (λ listed. listed ≡ self.now) }
+    {
+        let pkg = self.pkg(alloc)?;
+        Ok(Listed::new(pkg, self.is_essential, self.stanza.again()))
     }
 }

@@ -1,11 +1,9 @@
 //! Why a sources text or an index wasn't read.
 ghost use Rattle.std.specs.Prelude.{◌≡◌};
 ghost use Rattle.index.specs.declared.error.IndexError.TheVariants as index_error;
-ghost use Rattle.index.specs.declared.error.IndexFault.TheVariants as index_fault;
 ghost use Rattle.index.specs.declared.error.SourcesError.TheVariants as sources_error;
-ghost use Rattle.index.specs.Error.{index_error_of};
 
-use relation::{PkgError, PkgFault};
+use relation::PkgFault;
 use stanza::StanzaError;
 use std::alloc::{AllocError, AllocFailed};
 use thiserror::Error;
@@ -95,26 +93,11 @@ impl From<IndexFault> for IndexError {
     }
 }
 
-impl From<PkgFault> for IndexError {
-    ghost from_gives = { λ fault e. e ≡ index_error.Refused (index_fault.Pkg fault) };
+impl From<AllocError> for IndexError {
+    ghost from_gives = { λ _ e. e ≡ index_error.OutOfMemory };
 
-    fn from(fault: PkgFault) -> IndexError {
-        IndexError::Refused(IndexFault::Pkg(fault))
-    }
-}
-
-impl From<PkgError> for IndexError {
-    ghost from_gives = { λ error e. e ≡ index_error_of error };
-
-    fn from(error: PkgError) -> IndexError {
-        match error {
-            PkgError::MissingField(line, field) => PkgFault::MissingField(line, field).into(),
-            PkgError::BadVersion(line, kind) => PkgFault::BadVersion(line, kind).into(),
-            PkgError::BadRelation(line, offset) => PkgFault::BadRelation(line, offset).into(),
-            PkgError::BadName(line, offset) => PkgFault::BadName(line, offset).into(),
-            PkgError::TooLarge => PkgFault::TooLarge.into(),
-            PkgError::OutOfMemory => IndexError::OutOfMemory,
-        }
+    fn from(_e: AllocError) -> IndexError {
+        IndexError::OutOfMemory
     }
 }
 

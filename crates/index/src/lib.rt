@@ -1,19 +1,23 @@
 //! What an index of packages has (Debian Policy 5.3, "Packages"): the stanzas that count for an architecture, with
 //! their packages; and the sources text, which names the indices. It stands on `stanza` and `relation`.
-//! The main calls are `read_sources` and `read_index`.
+//! The main calls are `read_sources` and `Index::read`.
 #![tactic(auto)]
 
 mod entry;
 mod error;
-mod later;
+mod item;
 mod listed;
+mod names;
+mod providers;
 mod read;
 mod sources;
+mod stanzas;
 #[cfg(test)]
 mod tests;
 
+pub use entry::Entry;
 pub use error::{IndexError, IndexFault, SourcesError, SourcesFault};
-pub use later::{LaterField, has_later_keys, later_field};
 pub use listed::Listed;
-pub use read::{IndexText, read_index};
+pub use providers::Providers;
+pub use read::Index;
 pub use sources::{Source, read_sources};

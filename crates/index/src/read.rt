@@ -1,58 +1,96 @@
 //! Indices: the stanzas of a Packages file that count for an architecture (Debian Policy 5.3).
-ghost use Rattle.std.specs.Prelude.{◌≡◌, ◌+◌, ◌<◌, ◌^◌, IfErr, IfOk, OnOk, Ok, [], ℕ, Result, false, length};
-ghost use Rattle.stanza.specs.Stanza.{items_of};
-ghost use Rattle.index.specs.declared.error.IndexFault.{IndexFault as Fault};
+ghost use Rattle.std.specs.Prelude.{◌≡◌, IfErr, IfOk, Ok, map};
 ghost use Rattle.index.specs.Error.{IsIndexFault};
 ghost use Rattle.index.specs.Index as Spec;
-ghost use Rattle.index.specs.Index.{IndexValue};
+ghost use Rattle.index.specs.Names.{has_name, names_of};
 
-use crate::entry::read_item;
+use crate::entry::Entry;
 use crate::error::{IndexError, IndexFault};
-use crate::listed::Listed;
-use rules::{PACKAGES, TEXT_BYTES};
-use stanza::Stanzas;
+use crate::names::distinct_names;
+use crate::stanzas::stanzas_in;
+use indexmap::IndexSet;
+use rules::{Release, TEXT_BYTES};
 use std::alloc::Global;
 use std::marker::Model;
 
-/// An index: the stanzas that count, in the order of the text, and how many were skipped, since they are of another
-/// architecture.
+/// An index: its release keys, the stanzas that count, in the order of the text, and how many were skipped, since they
+/// are of another architecture.
 #[derive(Drop)]
-pub struct IndexText<'a> {
-    listed: Vec<Listed<'a>>,
+pub struct Index<'a> {
+    release: Release,
+    entries: Vec<Entry<'a>>,
+    names: IndexSet<&'a [u8]>,
     skipped: usize,
 }
 
-impl<'a> Model for IndexText<'a> {
-    ghost use Rattle.index.specs.Index.{IndexValue};
+impl<'a> Model for Index<'a> {
+    ghost use Rattle.std.specs.Prelude.{◌≡◌, map};
+    ghost use Rattle.index.specs.Index.{ReadIndex};
+    ghost use Rattle.index.specs.Names.{names_of};
 
-    ghost Value = { IndexValue };
+    ghost Value = { ReadIndex };
 
-    ghost view = { λ i. record { listed = i.listed.items; skipped = i.skipped } };
+    ghost view = { λ i. record { index = record { release = i.release; listed = i.entries.items }; skipped = i.skipped } };
+
+    ghost invariant = { λ i. map (λ name. name.now) i.names.keys ≡ names_of i.entries.items };
 }
 
-impl<'a> IndexText<'a> {
-    fn new(alloc: Global) -> IndexText<'a>
-        ensures { result ≡ record { listed = []; skipped = 0 } }
+impl<'a> Index<'a> {
+    /// The index that a Packages file is for the configured architecture `arch`, with the release keys that the sources
+    /// text gives it. A stanza counts where its Architecture is `all` or `arch`, byte for byte; the others are skipped and
+    /// counted. `before` is the number of packages of the earlier indices: over all of them four million are read.
+    /// The first refusal is answered: of a text that is too long, or else of the first stanza that has one: of its lines,
+    /// then of Package, then of Architecture, and of a stanza that counts then of Version and of the relation fields, and
+    /// last that it is a package too many. What was read borrows the text and `arch`. Linear in the text.
+    pub fn read(
+        alloc: Global,
+        text: &'a [u8],
+        release: Release,
+        arch: &'a [u8],
+        before: usize,
+    ) -> Result<Index<'a>, IndexError>
+        ensures ok { IfOk result (λ index. Spec.read_index arch.now release before text.now ≡ Ok index) }
+        ensures err { IfErr result (λ e. IsIndexFault e (Spec.read_index arch.now release before text.now)) }
     {
-        IndexText {
-            listed: Vec::new(alloc),
-            skipped: 0,
+        if text.len() > TEXT_BYTES {
+            return Err(IndexFault::TooLarge.into());
         }
+        let stanzas = stanzas_in(alloc, text, arch, before)?;
+        let names = distinct_names(alloc, stanzas.entries.as_slice())?;
+        Ok(Index {
+            release,
+            entries: stanzas.entries,
+            names,
+            skipped: stanzas.skipped,
+        })
+    }
+
+    /// The release keys.
+    pub fn release(&self) -> &Release
+        ensures { result.now ≡ self.now.index.release }
+    {
+        &self.release
     }
 
     /// The stanzas that count, in the order of the text.
-    pub fn listed(&self) -> &[Listed<'a>]
-        ensures { result.now ≡ self.now.listed }
+    pub fn packages(&self) -> &[Entry<'a>]
+        ensures { result.now ≡ self.now.index.listed }
     {
-        self.listed.as_slice()
+        self.entries.as_slice()
     }
 
-    /// The stanzas that count, to be kept.
-    pub fn into_listed(self) -> Vec<Listed<'a>>
-        ensures { result.items ≡ self.entry.listed }
+    /// The names of the packages, each once, in the order in which each is first read.
+    pub fn names(&self) -> &[&'a [u8]]
+        ensures { map (λ name. name.now) result.now ≡ names_of self.now.index.listed }
     {
-        let listed = self.listed;
-        listed
+        self.names.as_slice()
+    }
+
+    /// Whether a package has this name. Linear in the name alone.
+    pub fn has_name(&self, name: &[u8]) -> bool
+        ensures { result ≡ has_name name.now self.now.index.listed }
+    {
+        self.names.contains(name)
     }
 
     /// How many stanzas are of another architecture.
@@ -61,57 +99,4 @@ impl<'a> IndexText<'a> {
     {
         self.skipped
     }
-
-    // Adds what a stanza gives.
-    fn add(&mut self, found: Option<Listed<'a>>) -> Result<(), IndexError>
-        requires { self.old.skipped + 1 < 2 ^ 64 }
-        ensures ok { OnOk result (
-            (Spec.is_too_many (length self.old.listed) found.entry ≡ false) × (self.new ≡ Spec.joined self.old (Spec.index_of found.entry))) }
-        ensures err { (later : ℕ → Result IndexValue Fault)
-            → IfErr result (λ e. IsIndexFault e (Spec.entry_then (length self.old.listed) (Ok found.entry) later)) }
-    {
-        match found {
-            None => self.skipped += 1,
-            Some(listed) => {
-                if self.listed.len() == PACKAGES {
-                    return Err(IndexFault::TooLarge.into());
-                }
-                self.listed.push(listed)?;
-            }
-        }
-        Ok(())
-    }
-}
-
-// The index of a text that isn't too long.
-fn index_in<'a>(alloc: Global, text: &'a [u8], arch: &[u8]) -> Result<IndexText<'a>, IndexError>
-    requires { length text.now < 2 ^ 32 }
-    ensures ok { IfOk result (λ index. Spec.index_in arch.now (items_of false text.now) 0 ≡ Ok index) }
-    ensures err { IfErr result (λ e. IsIndexFault e (Spec.index_in arch.now (items_of false text.now) 0)) }
-{
-    let mut index = IndexText::new(alloc);
-    for item in Stanzas::new(text) {
-        let entry = read_item(alloc, &item, arch)?;
-        index.add(entry)?;
-    }
-    Ok(index)
-}
-
-/// The index that a Packages file is for the configured architecture `arch`. A stanza counts where its Architecture is
-/// `all` or `arch`, byte for byte; the others are skipped and counted. The first refusal is answered: of a text that is
-/// too long, or else of the first stanza that has one: of its lines, then of Package, then of Architecture, and of a stanza
-/// that counts then of Version and of the relation fields that are read, and last that it is a package too many.
-/// What was read borrows the text. Linear in the text.
-pub fn read_index<'a>(
-    alloc: Global,
-    text: &'a [u8],
-    arch: &[u8],
-) -> Result<IndexText<'a>, IndexError>
-    ensures ok { IfOk result (λ index. Spec.read_index arch.now text.now ≡ Ok index) }
-    ensures err { IfErr result (λ e. IsIndexFault e (Spec.read_index arch.now text.now)) }
-{
-    if text.len() > TEXT_BYTES {
-        return Err(IndexFault::TooLarge.into());
-    }
-    index_in(alloc, text, arch)
 }

@@ -1,7 +1,7 @@
 //! What the clauses do not say: printed refusals, worked texts and their readings, and that the calls succeed. Lines and
 //! offsets were counted in the row's text.
 mod index;
-mod later;
+mod providers;
 mod sources;
 
 use std::alloc::Global;

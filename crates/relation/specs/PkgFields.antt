@@ -47,16 +47,3 @@ with_field found field = record {
 -- the fields of a package in a stanza
 abbrev pub fields_of : StanzaText → PkgFields
 fields_of stanza = fields_in stanza.line stanza.fields
-
--- the fields, but of the relation fields Depends alone
-abbrev pub depends_alone : PkgFields → PkgFields
-depends_alone fields = record {
-  line = fields.line;
-  name = fields.name;
-  version = fields.version;
-  pre_depends = None;
-  depends = fields.depends;
-  conflicts = None;
-  breaks = None;
-  provides = None;
-}

@@ -3,7 +3,6 @@ ghost use Rattle.std.specs.Prelude.{◌≡◌, IfErr, IfOk, IsTrue, MatchOption,
 ghost use Rattle.rules.specs.Name.{is_name};
 ghost use Rattle.stanza.specs.Field.{same_name};
 ghost use Rattle.relation.specs.PkgText as Spec;
-ghost use Rattle.relation.specs.PkgFields.{depends_alone};
 ghost use Rattle.relation.specs.PkgText.{IsPkgFault, read_fields, read_pkg, read_relations, relations_fault, value_in};
 ghost use Rattle.relation_text.specs.Spelling.{atoms_between, clauses_of, provided_items_of};
 ghost use Rattle.relation_text.specs.declared.cut.Separator.TheVariants.{Comma};
@@ -156,22 +155,6 @@ impl<'a> PkgFields<'a> {
             (λ fault. Spec.pkg_version_fault self.now ≡ Some fault) }
     {
         version_in(self.line, &self.version)
-    }
-
-    /// These fields, but of the relation fields Depends alone.
-    pub fn depends_alone(self) -> PkgFields<'a>
-        ensures { result ≡ depends_alone self.entry }
-    {
-        PkgFields {
-            line: self.line,
-            name: self.name,
-            version: self.version,
-            pre_depends: None,
-            depends: self.depends,
-            conflicts: None,
-            breaks: None,
-            provides: None,
-        }
     }
 
     /// Tests the relation fields in the order Pre-Depends, Depends, Conflicts, Breaks, Provides, and takes no

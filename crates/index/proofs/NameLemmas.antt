@@ -1,0 +1,65 @@
+-- The names of packages, put together one after another.
+use Rattle.std.proofs.Common.{◌≡◌, ℕ, Bool, true, false, ◌||◌, List, [], ◌∷◌, ◌++◌, map, fold, refl, sym, ap, ◌∙◌, bytes_eq, Bor}
+use Rattle.std.specs.List.{list_any}
+use Rattle.std.proofs.lemmas.List.Folds.{list_any-append}
+use Rattle.indexmap.specs.IndexSet.{insert_key}
+use Rattle.rules.specs.NamedLaws.{bytes_eq-true}
+use Rattle.rules.specs.Step.{Listed}
+use Rattle.index.specs.Names.{has_name, names_of, with_name}
+
+pub list_any-map : {X Y : Type 0} (p : X → Bool) (h : Y → X) (ys : List Y) → list_any p (map h ys) ≡ list_any (λ y. p (h y)) ys
+list_any-map p h [] = refl
+list_any-map p h (y ∷ ys) = ap (λ b. p (h y) || b) (list_any-map p h ys)
+
+map-push : {X Y : Type 0} (h : Y → X) (ys : List Y) (y : Y) → map h (ys ++ y ∷ []) ≡ map h ys ++ h y ∷ []
+map-push h [] y = refl
+map-push h (z ∷ ys) y = ap (λ rest. h z ∷ rest) (map-push h ys y)
+
+-- a name that is put into a set is put behind the names that the set has
+pub inserted : (keys : List (Bor (List ℕ))) (name : Bor (List ℕ))
+    → map (λ (key : Bor (List ℕ)). key.now) (insert_key (λ (a b : Bor (List ℕ)). bytes_eq a.now b.now) keys name)
+      ≡ with_name (map (λ (key : Bor (List ℕ)). key.now) keys) name.now
+inserted keys name = by (list_any (λ (key : Bor (List ℕ)). bytes_eq name.now key.now) keys) refl
+  where
+    by : (b : Bool) → list_any (λ (key : Bor (List ℕ)). bytes_eq name.now key.now) keys ≡ b
+        → map (λ (key : Bor (List ℕ)). key.now) (insert_key (λ (a b : Bor (List ℕ)). bytes_eq a.now b.now) keys name)
+          ≡ with_name (map (λ (key : Bor (List ℕ)). key.now) keys) name.now
+    by true e = rw (list_any-map (bytes_eq name.now) (λ (key : Bor (List ℕ)). key.now) keys, e) refl
+    by false e = rw (list_any-map (bytes_eq name.now) (λ (key : Bor (List ℕ)). key.now) keys, e)
+        (map-push (λ (key : Bor (List ℕ)). key.now) keys name)
+
+or_same : (b c : Bool) → (c ≡ true → b ≡ true) → b ≡ (b || c)
+or_same true c h = refl
+or_same false false h = refl
+or_same false true h = h refl
+
+or_later : (a b c : Bool) → ((a || b) || c) ≡ (a || (b || c))
+or_later true b c = refl
+or_later false b c = refl
+
+or_false : (b : Bool) → b ≡ (b || false)
+or_false true = refl
+or_false false = refl
+
+-- a name is among these and one more where it is among these or is the other
+with_name-has : (asked : List ℕ) (names : List (List ℕ)) (name : List ℕ)
+    → list_any (bytes_eq asked) (with_name names name) ≡ (list_any (bytes_eq asked) names || bytes_eq asked name)
+with_name-has asked names name = by (list_any (bytes_eq name) names) refl
+  where
+    by : (b : Bool) → list_any (bytes_eq name) names ≡ b
+        → list_any (bytes_eq asked) (with_name names name) ≡ (list_any (bytes_eq asked) names || bytes_eq asked name)
+    by true e = rw e (or_same (list_any (bytes_eq asked) names) (bytes_eq asked name)
+        (λ same. ap (λ other. list_any (bytes_eq other) names) (bytes_eq-true asked name same) ∙ e))
+    by false e = rw e (list_any-append (bytes_eq asked) names (name ∷ []) ∙ ap (λ b. list_any (bytes_eq asked) names || b) (sym (or_false (bytes_eq asked name))))
+
+folded-has : (asked : List ℕ) (names more : List (List ℕ))
+    → list_any (bytes_eq asked) (fold with_name names more) ≡ (list_any (bytes_eq asked) names || list_any (bytes_eq asked) more)
+folded-has asked names [] = or_false (list_any (bytes_eq asked) names)
+folded-has asked names (name ∷ more) = folded-has asked (with_name names name) more
+    ∙ ap (λ b. b || list_any (bytes_eq asked) more) (with_name-has asked names name)
+    ∙ or_later (list_any (bytes_eq asked) names) (bytes_eq asked name) (list_any (bytes_eq asked) more)
+
+-- a name is among the names of packages where a package has it
+pub names_of-has : (asked : List ℕ) (listed : List Listed) → list_any (bytes_eq asked) (names_of listed) ≡ has_name asked listed
+names_of-has asked listed = folded-has asked [] (map (λ (found : Listed). found.pkg.name) listed)
+    ∙ list_any-map (bytes_eq asked) (λ (found : Listed). found.pkg.name) listed

@@ -1,0 +1,16 @@
+-- The names of the packages of an index.
+use Rattle.std.specs.Prelude.{ℕ, Bool, List, [], ◌∷◌, ◌++◌, map, bytes_eq, fold, if◌then◌else◌}
+use Rattle.std.specs.List.{list_any}
+use Rattle.rules.specs.Step.{Listed}
+
+-- a package of these has the name, as a test
+abbrev pub has_name : List ℕ → List Listed → Bool
+has_name name listed = list_any (λ found. bytes_eq name found.pkg.name) listed
+
+-- the names, with one more behind them unless it is there
+abbrev pub with_name : List (List ℕ) → List ℕ → List (List ℕ)
+with_name names name = if list_any (bytes_eq name) names then names else names ++ name ∷ []
+
+-- the distinct names of the packages, in the order in which each comes first
+abbrev pub names_of : List Listed → List (List ℕ)
+names_of listed = fold with_name [] (map (λ found. found.pkg.name) listed)
