@@ -1,28 +1,22 @@
--- The universe of a request where nothing is installed at the start and every index has the usual priority
--- (apt_preferences(5)). Which request is refused is this project's own.
-use Rattle.std.specs.Prelude.{◌≡◌, ℕ, pos, Bool, false, not, List, [], map, Option, Some, None, bytes_eq}
-use Rattle.std.specs.List.{All, list_any, find}
+-- The universe of a request where nothing is installed at the start, no record of preferences is given and no release is
+-- the target (apt_preferences(5)). Which request is refused is this project's own.
+use Rattle.std.specs.Prelude.{ℕ, Bool, false, not, List, [], map, Option, Some, None, bytes_eq}
+use Rattle.std.specs.List.{list_any, find}
 use Rattle.std.specs.Option.{option_map, option_map_or}
+use Rattle.index.specs.Index.{ReadIndex}
 use Rattle.rules.specs.Available.{Index, Inputs, all_listed}
-use Rattle.rules.specs.Priority.{default_priority}
 use Rattle.rules.specs.Step.{Listed}
-use Rattle.rules.specs.Universe.{IsUniverse, Universe}
 use Rattle.rules.specs.declared.goal.Goal.{Goal}
 use Rattle.rules.specs.declared.goal.Goal.TheVariants as goal
 use Rattle.rules.specs.declared.goal.GoalLine.{GoalLine}
 
+-- the indices that were read
+abbrev pub indices_of : List ReadIndex → List Index
+indices_of indices = map (λ read. read.index) indices
+
 -- the inputs of a request where nothing is installed or preferred
 abbrev pub inputs_of : List Index → List Goal → Inputs
 inputs_of indices goals = record { start = []; indices = indices; preferences = []; target = None; goals = goals }
-
--- the indices have these stanzas, and the usual priority
-pub record HaveStanzas (indices : List Index) (listed : List Listed) : Type 0 where
-  pub stanzas : all_listed indices ≡ listed
-  pub usual : All (λ index. default_priority index.release ≡ pos 500) indices
-
--- the universe of the goals over these stanzas, in whatever indices they stand
-abbrev pub IsUniverseOf : List Listed → List Goal → Universe → Type 0
-IsUniverseOf listed goals u = (indices : List Index) → HaveStanzas indices listed → IsUniverse (inputs_of indices goals) u
 
 -- the goals of the lines
 abbrev pub goals_of : List GoalLine → List Goal

@@ -4,7 +4,7 @@ ghost use Rattle.std.specs.Prelude.{◌≡◌, IfOk, IfErr};
 ghost use Rattle.std.specs.List.Sorted.{IsStrictlySortedBy};
 ghost use Rattle.std.specs.Option.{option_copied};
 ghost use Rattle.rules.specs.Universe.{pair_cmp};
-ghost use Rattle.universe.specs.Build.{first_unknown_by, goals_of, is_unknown, named_by};
+ghost use Rattle.universe.specs.Build.{first_unknown_by, goals_of, indices_of, is_unknown, named_by};
 ghost use Rattle.universe.specs.Choice.{IsChosen, exacts_of, has_pair};
 ghost use Rattle.universe.specs.Error.{IsBuilt, IsUniverseFault};
 
@@ -15,7 +15,7 @@ use crate::order::in_order;
 use crate::pair::Pair;
 use crate::pairs::Pairs;
 use crate::universe::Universe;
-use index::Listed;
+use index::Index;
 use rules::{Goal, GoalLine, PAIRS};
 use std::alloc::{AllocError, Global};
 
@@ -87,11 +87,11 @@ fn choose_among<'a>(
 /// growths that are refused. About n log n comparisons of n stanzas, and for m goals about m log n and n log m more.
 pub fn build<'a>(
     alloc: Global,
-    listed: Vec<Listed<'a>>,
+    indices: &[Index<'a>],
     goals: Vec<GoalLine>,
 ) -> Result<Universe<'a>, UniverseError>
-    ensures ok { IfOk result (λ u. IsBuilt listed.entry.items goals.items u) }
-    ensures err { IfErr result (λ e. IsUniverseFault listed.entry.items goals.items e) }
+    ensures ok { IfOk result (λ u. IsBuilt (indices_of indices.now) goals.items u) }
+    ensures err { IfErr result (λ e. IsUniverseFault (indices_of indices.now) goals.items e) }
 {
     let pairs = in_order(alloc, listed)?;
     if let Some(line) = first_unknown(pairs.as_slice(), goals.as_slice()) {
