@@ -8,7 +8,7 @@ pub(crate) fn program<'a>(alloc: Global) -> Result<Command<'a>, AllocError> {
     Command::new(alloc, "debplan")
         .about("Compares versions and judges plans of dpkg actions")
         .subcommand_required(true)
-        .subcommand(compare(alloc)?)
+        .subcommand(compare(alloc)?)?
         .subcommand(check_plan(alloc)?)
 }
 

@@ -7,7 +7,7 @@ use index::{IndexFault, SourcesFault};
 use plantext::PlanFault;
 use rules::BadVersion;
 use stanza::StanzaError;
-use std::alloc::AllocError;
+use std::alloc::{AllocError, AllocFailed};
 use thiserror::Error;
 use universe_request::RequestFault;
 
@@ -131,6 +131,17 @@ impl From<AllocError> for Refusal {
     ghost from_gives = { λ _ e. e ≡ out_of_memory };
 
     fn from(_e: AllocError) -> Refusal {
+        Refusal {
+            place: Place::Memory,
+            fault: Fault::OutOfMemory,
+        }
+    }
+}
+
+impl<T: Drop> From<AllocFailed<T>> for Refusal {
+    ghost from_gives = { λ _ e. e ≡ out_of_memory };
+
+    fn from(_e: AllocFailed<T>) -> Refusal {
         Refusal {
             place: Place::Memory,
             fault: Fault::OutOfMemory,

@@ -8,7 +8,7 @@ use std::cmp::Ordering;
 
 // How many of these comparisons are printed so, up to the first that isn't.
 fn right_rows(alloc: Global, rows: &[(&str, &str, &str, u8)]) -> usize {
-    let mut count = 0;
+    let mut count: usize = 0;
     for (line, out, err, status) in rows {
         match run_line(alloc, line) {
             Ok(printed) if printed.is(out, err, *status) => count = count.saturating_add(1),

@@ -15,6 +15,7 @@ const ALL: [(&str, &str); 6] = [
 ];
 
 /// A file that is missing, one that is refused at its first line, and what is printed and opened then.
+#[derive(Clone, Copy)]
 struct Row {
     missing: &'static str,
     refused: &'static str,
@@ -47,7 +48,7 @@ fn is_right(alloc: Global, row: &Row) -> Result<bool, AllocError> {
 
 // How many rows are as they have to be, up to the first that isn't.
 fn right_rows(alloc: Global, rows: &[Row]) -> usize {
-    let mut count = 0;
+    let mut count: usize = 0;
     for row in rows {
         match is_right(alloc, row) {
             Ok(true) => count = count.saturating_add(1),

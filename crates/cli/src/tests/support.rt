@@ -143,7 +143,7 @@ impl Row<'_> {
 
 /// How many rows are printed as they have to be, up to the first that isn't.
 pub(super) fn right_rows(alloc: Global, rows: &[Row<'_>]) -> usize {
-    let mut count = 0;
+    let mut count: usize = 0;
     for row in rows {
         if !row.is_right(alloc) {
             return count;

@@ -25,7 +25,7 @@ fn has_fate(printed: &Printed, fate: Fate) -> bool {
 
 // How many lines have this fate, up to the first that hasn't.
 fn lines_with(alloc: Global, fate: Fate, lines: &[&str]) -> usize {
-    let mut count = 0;
+    let mut count: usize = 0;
     for line in lines {
         match run_line(alloc, line) {
             Ok(printed) if has_fate(&printed, fate) => count = count.saturating_add(1),
