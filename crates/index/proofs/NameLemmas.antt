@@ -1,6 +1,7 @@
 -- The names of packages, put together one after another.
-use Rattle.std.proofs.Common.{◌≡◌, ℕ, Bool, true, false, ◌||◌, List, [], ◌∷◌, ◌++◌, map, fold, refl, sym, ap, ◌∙◌, bytes_eq, Bor}
+use Rattle.std.proofs.Common.{◌≡◌, ℕ, Bool, true, false, ◌||◌, List, [], ◌∷◌, ◌++◌, map, fold, refl, sym, ap, ◌∙◌, bytes_eq, Bor, ◌+◌, ◌<◌, drop, get_or, length}
 use Rattle.std.specs.List.{list_any}
+use Rattle.std.proofs.lemmas.List.{drop_more}
 use Rattle.std.proofs.lemmas.List.Folds.{list_any-append}
 use Rattle.indexmap.specs.IndexSet.{insert_key}
 use Rattle.rules.specs.NamedLaws.{bytes_eq-true}
@@ -18,12 +19,12 @@ map-push h (z ∷ ys) y = ap (λ rest. h z ∷ rest) (map-push h ys y)
 -- a name that is put into a set is put behind the names that the set has
 pub inserted : (keys : List (Bor (List ℕ))) (name : Bor (List ℕ))
     → map (λ (key : Bor (List ℕ)). key.now) (insert_key (λ (a b : Bor (List ℕ)). bytes_eq a.now b.now) keys name)
-      ≡ with_name (map (λ (key : Bor (List ℕ)). key.now) keys) name.now
+    ≡ with_name (map (λ (key : Bor (List ℕ)). key.now) keys) name.now
 inserted keys name = by (list_any (λ (key : Bor (List ℕ)). bytes_eq name.now key.now) keys) refl
   where
     by : (b : Bool) → list_any (λ (key : Bor (List ℕ)). bytes_eq name.now key.now) keys ≡ b
         → map (λ (key : Bor (List ℕ)). key.now) (insert_key (λ (a b : Bor (List ℕ)). bytes_eq a.now b.now) keys name)
-          ≡ with_name (map (λ (key : Bor (List ℕ)). key.now) keys) name.now
+        ≡ with_name (map (λ (key : Bor (List ℕ)). key.now) keys) name.now
     by true e = rw (list_any-map (bytes_eq name.now) (λ (key : Bor (List ℕ)). key.now) keys, e) refl
     by false e = rw (list_any-map (bytes_eq name.now) (λ (key : Bor (List ℕ)). key.now) keys, e)
         (map-push (λ (key : Bor (List ℕ)). key.now) keys name)
@@ -63,3 +64,26 @@ folded-has asked names (name ∷ more) = folded-has asked (with_name names name)
 pub names_of-has : (asked : List ℕ) (listed : List Listed) → list_any (bytes_eq asked) (names_of listed) ≡ has_name asked listed
 names_of-has asked listed = folded-has asked [] (map (λ (found : Listed). found.pkg.name) listed)
     ∙ list_any-map (bytes_eq asked) (λ (found : Listed). found.pkg.name) listed
+
+-- the names that keys of a set are
+abbrev names_in : List (Bor (List ℕ)) → List (List ℕ)
+names_in keys = map (λ (key : Bor (List ℕ)). key.now) keys
+
+-- the step of a loop: the name of the package at the place is put behind those so far
+pub names-next : (listed : List Listed) (place : ℕ) (found : Listed) (keys after : List (Bor (List ℕ))) (name : Bor (List ℕ))
+    → place < length listed → found ≡ get_or listed place found → name.now ≡ found.pkg.name
+    → after ≡ insert_key (λ (a b : Bor (List ℕ)). bytes_eq a.now b.now) keys name
+    → names_of listed ≡ fold with_name (names_in keys) (map (λ (found : Listed). found.pkg.name) (drop place listed))
+    → names_of listed ≡ fold with_name (names_in after) (map (λ (found : Listed). found.pkg.name) (drop (place + 1) listed))
+names-next listed place found keys after name within is named put so_far = so_far
+    ∙ ap (λ (rest : List Listed). fold with_name (names_in keys) (map (λ (found : Listed). found.pkg.name) rest)) (drop_more listed place found within)
+    ∙ ap (λ names. fold with_name names (map (λ (found : Listed). found.pkg.name) (drop (place + 1) listed)))
+    (ap (λ (here : Listed). with_name (names_in keys) here.pkg.name) (sym is)
+    ∙ ap (with_name (names_in keys)) (sym named)
+    ∙ sym (inserted keys name) ∙ ap names_in (sym put))
+
+-- a set that has the names of packages has a name where a package has it
+pub has-name : (asked : List ℕ) (listed : List Listed) (keys : List (Bor (List ℕ))) → names_in keys ≡ names_of listed
+    → list_any (λ (key : Bor (List ℕ)). bytes_eq asked key.now) keys ≡ has_name asked listed
+has-name asked listed keys same = sym (list_any-map (bytes_eq asked) (λ (key : Bor (List ℕ)). key.now) keys)
+    ∙ ap (list_any (bytes_eq asked)) same ∙ names_of-has asked listed

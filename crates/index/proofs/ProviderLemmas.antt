@@ -1,13 +1,13 @@
 -- Who provides a name: the test decides the match, and its positions ascend and are met one after another.
-use Rattle.std.proofs.Common.{◌≡◌, ◌↔◌, ℕ, zero, suc, ◌+◌, ◌<◌, ◌≤◌, Bool, true, false, not, cond, ◌&&◌, ◌||◌, ◌⊎◌, List, [], ◌∷◌, ◌++◌, length, get_or, map, Option, Some, None, Contains, slice_get, refl, sym, ap, ◌∙◌, arith, bytes_eq, inl, inr}
+use Rattle.std.proofs.Common.{◌≡◌, ◌↔◌, ℕ, zero, suc, ◌+◌, ◌<◌, ◌≤◌, Bool, true, false, not, cond, ◌&&◌, ◌||◌, ◌⊎◌, List, [], ◌∷◌, ◌++◌, length, get_or, map, Option, Some, None, Contains, slice_get, refl, sym, ap, ◌∙◌, arith, bytes_eq, inl, inr, Bor}
 use Rattle.std.specs.List.{Any, filter, list_any, range_with_len}
 use Rattle.std.specs.List.Sorted.{IsStrictlyIncreasing, IsStrictlySortedBy}
-use Rattle.std.specs.Option.{option_map_or}
+use Rattle.std.specs.Option.{option_map, option_map_or}
 use Rattle.std.specs.Ordering.{nat_cmp}
 use Rattle.std.proofs.lemmas.List.FromFn.{filter_of_map_range_with_len_more, get_or-range_with_len, length-range_with_len}
 use Rattle.std.proofs.lemmas.List.Kept.{IsStrictlySortedBy-filter}
 use Rattle.std.proofs.lemmas.Map.Keys.{IsStrictlyIncreasing-from_sorted, sorted_from_strictly_increasing}
-use Rattle.std.proofs.lemmas.Option.{slice_get-get_or, slice_get_within}
+use Rattle.std.proofs.lemmas.Option.{slice_get-get_or, slice_get-map, slice_get_within}
 use Rattle.rules.specs.ElementLaws.{Any-elim, Any-from_list_any, Any-weaker, Contains-cons, Contains-filter, Contains-filter_intro, Contains-head, Contains-nil, Contains-rest, list_any-from_contains}
 use Rattle.rules.specs.NamedLaws.{bytes_eq-same, bytes_eq-true}
 use Rattle.rules.specs.Package.{Atom, FitsByName, FitsByProvides, FitsProvided, Matches, Pkg, Provided}
@@ -38,11 +38,14 @@ test-fits name item fits = rw (fits.0, bytes_eq-same item.name name fits.1) refl
 -- a package that has or provides the name matches its atom, and only such a one
 pub matches-test : (name : List ℕ) (pkg : Pkg) → is_provider name pkg ≡ true → Matches pkg (plain_atom name)
 unfolding Matches FitsByName FitsByProvides
-matches-test name pkg passes = (refl, elim (either (bytes_eq pkg.name name) (list_any (is_item_of name) pkg.relations.provides) passes) [
-  | inl same ↦ inl (bytes_eq-true pkg.name name same, tt)
-  | inr some ↦ inr (Any-weaker (λ item. is_item_of name item ≡ true) (λ item. FitsProvided item (plain_atom name)) pkg.relations.provides
-      (λ item within holds. fits-test name item holds) (Any-from_list_any (is_item_of name) pkg.relations.provides some))
-])
+matches-test name pkg passes = (
+  refl,
+  elim (either (bytes_eq pkg.name name) (list_any (is_item_of name) pkg.relations.provides) passes) [
+    | inl same ↦ inl (bytes_eq-true pkg.name name same, tt)
+    | inr some ↦ inr (Any-weaker (λ item. is_item_of name item ≡ true) (λ item. FitsProvided item (plain_atom name)) pkg.relations.provides
+        (λ item within holds. fits-test name item holds) (Any-from_list_any (is_item_of name) pkg.relations.provides some))
+  ],
+)
 
 pub test-matches : (name : List ℕ) (pkg : Pkg) → Matches pkg (plain_atom name) → is_provider name pkg ≡ true
 unfolding Matches FitsByName FitsByProvides
@@ -55,7 +58,7 @@ test-matches name pkg matches = elim matches.1 [
 
 -- a range from 0 has the numbers below its length
 range_has : (count place : ℕ) → place < count → Contains (range_with_len 0 count) place
-range_has count place below = (place, omega (arith, below, length-range_with_len 0 count), get_or-range_with_len 0 count place place below)
+range_has count place below = (place, omega (arith, below, length-range_with_len 0 count), (let e : 0 + place ≡ place = omega arith in get_or-range_with_len 0 count place place below ∙ e))
 
 -- and ascends
 range_ascends : (count : ℕ) → IsStrictlySortedBy nat_cmp (range_with_len 0 count)
@@ -73,12 +76,37 @@ map-same : (xs : List ℕ) → map (λ k. k) xs ≡ xs
 map-same [] = refl
 map-same (x ∷ xs) = ap (λ rest. x ∷ rest) (map-same xs)
 
--- one position more is looked at: it is put behind the others where a provider stands there
-pub providers-next : (name : List ℕ) (packages : List Pkg) (place : ℕ)
-    → filter (is_provider_at name packages) (range_with_len 0 (place + 1))
-      ≡ filter (is_provider_at name packages) (range_with_len 0 place) ++ cond (is_provider_at name packages place) (place ∷ []) []
-providers-next name packages place = rw (map-same (range_with_len 0 place), map-same (range_with_len 0 (place + 1)))
-    (filter_of_map_range_with_len_more (is_provider_at name packages) (λ k. k) 0 place place (omega arith))
+-- one number more is tested behind the others
+filter-next : (test : ℕ → Bool) (place : ℕ)
+    → filter test (range_with_len 0 (place + 1)) ≡ filter test (range_with_len 0 place) ++ cond (test place) (place ∷ []) []
+filter-next test place = let at : 0 + place ≡ place = omega arith in
+    ap (filter test) (sym (map-same (range_with_len 0 (place + 1))))
+    ∙ filter_of_map_range_with_len_more test (λ k. k) 0 place place at
+    ∙ ap (λ numbers. filter test numbers ++ cond (test place) (place ∷ []) []) (map-same (range_with_len 0 place))
+
+-- the packages that are lent
+abbrev lent : List (Bor Pkg) → List Pkg
+lent packages = map (λ (pkg : Bor Pkg). pkg.now) packages
+
+-- the test at a position is that of the package there
+at-place : (name : List ℕ) (packages : List (Bor Pkg)) (place : ℕ) (pkg : Bor Pkg) → place < length packages
+    → pkg ≡ get_or packages place pkg → is_provider_at name (lent packages) place ≡ is_provider name pkg.now
+at-place name packages place pkg within is =
+    ap (λ found. option_map_or (is_provider name) found false) (slice_get-map (λ (pkg : Bor Pkg). pkg.now) packages place)
+    ∙ ap (λ (found : Option (Bor Pkg)). option_map_or (is_provider name) (option_map (λ (pkg : Bor Pkg). pkg.now) found) false)
+    (slice_get-get_or packages place pkg within ∙ ap Some (sym is))
+
+-- the step of a loop: the position is put behind the others where a provider stands there
+pub providers-next : (name : List ℕ) (packages : List (Bor Pkg)) (place : ℕ) (pkg : Bor Pkg) (places after : List ℕ) (test : Bool)
+    → place < length packages → pkg ≡ get_or packages place pkg → test ≡ is_provider name pkg.now
+    → after ≡ places ++ cond test (place ∷ []) []
+    → places ≡ filter (is_provider_at name (lent packages)) (range_with_len 0 place)
+    → after ≡ filter (is_provider_at name (lent packages)) (range_with_len 0 (place + 1))
+providers-next name packages place pkg places after test within is tested put so_far = put
+    ∙ ap (λ front. front ++ cond test (place ∷ []) []) so_far
+    ∙ ap (λ b. filter (is_provider_at name (lent packages)) (range_with_len 0 place) ++ cond b (place ∷ []) [])
+    (tested ∙ sym (at-place name packages place pkg within is))
+    ∙ sym (filter-next (is_provider_at name (lent packages)) place)
 
 -- the positions of providers are those at which a package matches
 pub providers-match : (name : List ℕ) (packages : List Pkg) (place : ℕ) → Contains (providers_of name packages) place ↔ IsProviderAt name packages place

@@ -1,5 +1,5 @@
 //! Which packages of a list have a name or provide it (Policy 7.5).
-ghost use Rattle.std.specs.Prelude.{◌≡◌, ◌↔◌, ℕ, Contains, IfOk, map};
+ghost use Rattle.std.specs.Prelude.{◌≡◌, ◌↔◌, ◌++◌, ◌∷◌, [], ℕ, Contains, IfOk, OnOk, if◌then◌else◌, map};
 ghost use Rattle.std.specs.List.{list_any};
 ghost use Rattle.std.specs.List.Sorted.{IsStrictlyIncreasing};
 ghost use Rattle.index.specs.Providers.{IsProviderAt, is_item_of, is_provider, providers_of};
@@ -41,19 +41,23 @@ fn is_provider(name: &[u8], pkg: &Pkg<'_>) -> bool
     pkg.name() == name || has_item_of(name, pkg.provides())
 }
 
+// Puts the position behind the others where a provider stands there.
+fn push_if(places: &mut Vec<usize>, place: usize, is_one: bool) -> Result<(), AllocError>
+    ensures { OnOk result (places.new.items ≡ places.old.items ++ (if is_one then place ∷ [] else [])) }
+{
+    if is_one {
+        places.push(place)?;
+    }
+    Ok(())
+}
+
 // The positions of the providers of the name.
-fn providers_in(
-    alloc: Global,
-    name: &[u8],
-    packages: &[&Pkg<'_>],
-) -> Result<Vec<usize>, AllocError>
+fn providers_in(alloc: Global, name: &[u8], packages: &[&Pkg<'_>]) -> Result<Vec<usize>, AllocError>
     ensures { IfOk result (λ places. places.items ≡ providers_of name.now (map (λ pkg. pkg.now) packages.now)) }
 {
     let mut places = Vec::new(alloc);
     for (place, pkg) in packages.iter().enumerate() {
-        if is_provider(name, pkg) {
-            places.push(place)?;
-        }
+        push_if(&mut places, place, is_provider(name, pkg))?;
     }
     Ok(places)
 }
