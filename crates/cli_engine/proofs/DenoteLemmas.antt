@@ -56,15 +56,16 @@ index_place arch number before (source ∷ sources) [] refused same = absurd (le
 index_place arch number before (source ∷ sources) (text ∷ texts) refused same = here (read_index arch source.release before text) same
     (λ count. index_place arch (number + 1) (before + count) sources texts refused)
   where
-    err-same : (one other : Refusal) → Err {A = List Index} one ≡ Err other → other ≡ one
-    err-same one other same = cc
+    err-same : (one other : Refusal) (made : Result (List Index) Refusal) → made ≡ Err one → made ≡ Err other → other ≡ one
+    err-same one other made first second = let e = sym first ∙ second in cc
 
     here : (read : Result ReadIndex IndexFault)
         → index_then number read (λ count. indices_from arch (number + 1) (before + count) sources texts) ≡ Err refused
         → ((count : ℕ) → indices_from arch (number + 1) (before + count) sources texts ≡ Err refused → IsAtAnIndex refused)
         → IsAtAnIndex refused
     here (Err found) same later = (number, ap (λ (r : Refusal). r.place)
-        (err-same (record { place = place.Index number; fault = fault.Index found }) refused same))
+        (err-same (record { place = place.Index number; fault = fault.Index found }) refused
+        (Err (record { place = place.Index number; fault = fault.Index found })) refl same))
     here (Ok read) same later = later (length read.index.listed) (behind (read.index ∷ [])
         (indices_from arch (number + 1) (before + length read.index.listed) sources texts) refused same)
 

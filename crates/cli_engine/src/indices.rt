@@ -23,9 +23,9 @@ fn index_at<'a>(
     arch: &'a [u8],
     before: usize,
 ) -> Result<Index<'a>, Refusal>
-    ensures ok { IfOk result (λ index. Read.read_index arch.now release.entry before text.now ≡ Ok index) }
+    ensures ok { IfOk result (λ index. Read.read_index arch.now release before text.now ≡ Ok index) }
     ensures err { (later : ℕ → Result (List IndexValue) RefusalOf) → IfErr result (λ refused. (refused ≡ out_of_memory)
-        ⊎ (index_then number (Read.read_index arch.now release.entry before text.now) later ≡ Err refused)) }
+        ⊎ (index_then number (Read.read_index arch.now release before text.now) later ≡ Err refused)) }
 {
     match Index::read(alloc, text, release, arch, before) {
         Ok(index) => Ok(index),
@@ -56,7 +56,11 @@ pub(crate) fn read_indices<'a>(
     for source in sources {
         let text = texts[number];
         number += 1;
-        let index = index_at(alloc, number, text, source.into_release(), arch, before)?;
+        let release = source.into_release();
+        let index = match index_at(alloc, number, text, release, arch, before) {
+            Ok(index) => index,
+            Err(refused) => return Err(refused),
+        };
         before += index.packages().len();
         indices.push(index)?;
     }

@@ -56,12 +56,12 @@ fn the_release_keys_of_an_index_are_its_own(rt: HostRuntime) {
     let first = "Package: a\nVersion: 1\nArchitecture: all\n\n\
         Package: b\nVersion: 1\nArchitecture: all\n";
     let second = "Package: a\nVersion: 2\nArchitecture: all\n\n\
-        Package: b\nVersion: 1.0\nArchitecture: all\nDepends: c\n";
+        Package: b\nVersion: 1-0\nArchitecture: all\nDepends: c\n";
     let second_lower = "File: index1\n\nFile: index2\nNotAutomatic: yes\n";
     let first_lower = "File: index1\nNotAutomatic: yes\n\nFile: index2\n";
     let a_1 = "plan 1\nunpack a 1\nconfigure a\n";
     let a_2 = "plan 1\nunpack a 2\nconfigure a\n";
-    let b_1 = "plan 1\nunpack b 1.0\nconfigure b\n";
+    let b_1 = "plan 1\nunpack b 1-0\nconfigure b\n";
     let refused = "no step 1 F10 NotAdmitted\n";
     let request = "install a\n";
     let rows = [
