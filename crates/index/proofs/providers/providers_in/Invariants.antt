@@ -1,4 +1,4 @@
-use Rattle.std.proofs.Common.{◌≡◌, ℕ, List, map, Bor}
+use Rattle.std.proofs.Common.{◌≡◌, map, Bor}
 use Rattle.std.specs.List.{filter, range_with_len}
 use Rattle.rules.specs.Package.{Pkg}
 use Rattle.index.specs.Providers.{is_provider_at}

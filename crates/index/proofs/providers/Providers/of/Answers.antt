@@ -1,5 +1,5 @@
 -- The positions are those of the definition, and so match and ascend.
-use Rattle.std.proofs.Common.{◌≡◌, ◌↔◌, ◌∙◌, ℕ, List, Contains, Result, Ok, Err, IfOk, ap, subst, sym}
+use Rattle.std.proofs.Common.{◌↔◌, ◌∙◌, ℕ, List, Contains, Result, Ok, Err, IfOk, ap, subst, sym}
 use Rattle.std.specs.List.Sorted.{IsStrictlyIncreasing}
 use Rattle.index.proofs.ProviderLemmas.{providers-ascend, providers-match}
 use Rattle.index.specs.Providers.{IsProviderAt, providers_of}
