@@ -1,157 +1,190 @@
--- The pairs of the stanzas in order, and which of them are candidates or available, where nothing is installed.
-use Rattle.std.proofs.Common.{◌≡◌, ℕ, ℤ, pos, Bool, true, false, List, Option, Some, None, IsSome, refl, sym, ap, subst, ◌∙◌, bytes_eq}
-use Rattle.std.specs.List.{Contains, find, list_any}
+-- Which stanzas in order are candidates, asked for or available, where nothing is installed.
+use Rattle.std.proofs.Common.{◌≡◌, ℕ, ℤ, Bool, true, false, ◌||◌, List, map, Option, Some, None, IsSome, refl, sym, ap, subst, ◌∙◌}
+use Rattle.std.specs.List.{Any, Contains, find}
+use Rattle.std.specs.Cmp.{tied_itself}
+use Rattle.std.specs.Cmp.Lexicographic.{nat_list_cmp_total}
 use Rattle.std.specs.List.Sorted.{IsStrictlySortedBy}
 use Rattle.std.specs.Option.{option_map}
-use Rattle.std.specs.Ordering.{is_lt, ordering_reverse}
-use Rattle.std.specs.declared.cmp.Ordering.{Ordering}
-use Rattle.std.specs.declared.cmp.Ordering.TheVariants.{Less, Equal, Greater}
+use Rattle.std.specs.declared.cmp.Ordering.TheVariants.{Equal}
+use Rattle.rules.specs.Name.{name_cmp}
+use Rattle.std.proofs.lemmas.Bool.{or_cases, or_left, or_right}
 use Rattle.std.proofs.lemmas.Option.{same_Some}
-use Rattle.std.proofs.lemmas.Bool.{and_from, and_parts, cases_Bool, not_from_false, not-true}
 use Rattle.rules.specs.Available.{Index, IsAvailable, all_listed, index_package, is_of}
-use Rattle.rules.specs.ElementLaws.{Any-elim, Any-from_list_any, list_any-from_contains}
-use Rattle.rules.specs.NamedLaws.{bytes_eq-true, bytes_eq-same}
-use Rattle.rules.specs.Priority.{IsCandidate}
+use Rattle.rules.specs.ElementLaws.{Any-elim, Any-from_list_any, Contains-map, Contains-map_intro, list_any-from_contains}
+use Rattle.rules.specs.Priority.{IsCandidate, IsUpTo}
 use Rattle.rules.specs.Step.{Listed}
-use Rattle.rules.specs.Universe.{IsOf, Pair, pair_cmp}
-use Rattle.rules.specs.Version.{version_cmp}
-use Rattle.rules.specs.VersionOrderLaws.{SameVersion-refl, SameVersion-symm, SameVersion-trans, version_cmp-antisymm, version_cmp-same_left, version_cmp-same_right}
+use Rattle.rules.specs.Universe.{IsOf, IsOffered}
+use Rattle.rules.specs.Version.{SameVersion}
+use Rattle.rules.specs.VersionOrderLaws.{SameVersion-refl, SameVersion-symm, SameVersion-trans}
 use Rattle.rules.specs.declared.goal.Goal.{Goal}
 use Rattle.universe.specs.Build.{inputs_of}
-use Rattle.universe.specs.Choice.{IsOrdered, is_higher, is_highest, listed_pair, stanza_of}
+use Rattle.universe.specs.Choice.{AreBest, Exact, IsBeaten, IsOrdered, Offer, best_exacts, exact_at, exacts_of, is_sought, listed_cmp, offer_name_cmp, offers_of, stanza_of}
+use Rattle.universe.specs.ChoiceLaws.{listed_cmp_total, offer_name_cmp_total}
+use Rattle.universe.proofs.Asked.{is_sought-from, is_sought-names}
 use Rattle.universe.proofs.Finding.{find-exists, find-some, sorted-one}
-use Rattle.universe.proofs.Fresh.{AreUsual, IsCandidate-is, IsCandidate-usual, NoneHigher}
-use Rattle.universe.proofs.PairOrder.{is_of-from, is_of-parts, pair_cmp-tied}
-use Rattle.universe.specs.PairLaws.{pair_cmp_total}
+use Rattle.universe.proofs.Fresh.{IsCandidate-from, IsCandidate-is, IsFirst, offered_listed, one_candidate}
+use Rattle.universe.proofs.StanzaOrder.{is_of-from, is_of-parts, listed_cmp-tied}
 use mathlib.Core.Logic.{inl, inr}
 
--- the pair that is found of a version is the stanza's
-pub pair_found : (listed : List Listed) (pairs : List Pair) → IsOrdered listed pairs
-    → (name version : List ℕ) (found : Listed) → stanza_of listed name version ≡ Some found
-    → Contains pairs (listed_pair found) × IsOf name version found.pkg
-pair_found listed pairs ordered name version found is =
-    let at = find-some (λ (pair : Pair). is_of name version pair.pkg) pairs (listed_pair found)
-    (ordered.earliest name version ∙ ap (option_map listed_pair) is) in
-    (at.0, is_of-parts name version found.pkg at.1)
+-- another stanza of the same name and version
+same_pair : (name version : List ℕ) (found other : Listed) → IsOf name version found.pkg → IsOf name version other.pkg
+    → IsOf other.pkg.name other.pkg.version found.pkg
+same_pair name version found other of of' = (
+  of.0 ∙ sym of'.0,
+  SameVersion-trans found.pkg.version version other.pkg.version of.1 (SameVersion-symm other.pkg.version version of'.1),
+)
 
--- a pair of a sorted list is the one that is found of its name and version
-pub found_itself : (pairs : List Pair) → IsStrictlySortedBy pair_cmp pairs → (pair : Pair) → Contains pairs pair
-    → (name version : List ℕ) → IsOf name version pair.pkg
-    → find (λ (other : Pair). is_of name version other.pkg) pairs ≡ Some pair
-found_itself pairs ascending pair within name version of =
-    let p : Pair → Bool = λ other. is_of name version other.pkg in
-    let found = find-exists p pairs pair within (is_of-from name version pair.pkg of) in
-    let at = find-some p pairs found.0 found.1 in
-    let own = is_of-parts name version found.0.pkg at.1 in
-    let tied = pair_cmp-tied found.0 pair (
-      own.0 ∙ sym of.0,
-      SameVersion-trans found.0.pkg.version version pair.pkg.version own.1
-          (SameVersion-symm pair.pkg.version version of.1),
-    ) in
-    found.1 ∙ ap Some (sorted-one pair_cmp_total pairs ascending found.0 pair at.0 within tied)
+-- what is found of a version stands in order
+pub ordered_found : (listed ordered : List Listed) → IsOrdered listed ordered → (name version : List ℕ) (found : Listed)
+    → stanza_of listed name version ≡ Some found → Contains ordered found × IsOf name version found.pkg
+ordered_found listed ordered is name version found at =
+    let there = find-some (λ (other : Listed). is_of name version other.pkg) ordered found (is.earliest name version ∙ at) in
+    (there.0, is_of-parts name version found.pkg there.1)
 
--- the stanza of a pair
-pub stanza_found : (listed : List Listed) (pairs : List Pair) → IsOrdered listed pairs → (pair : Pair)
-    → Contains pairs pair → (name version : List ℕ) → IsOf name version pair.pkg
-    → (found : Listed) × (stanza_of listed name version ≡ Some found) × (listed_pair found ≡ pair)
-stanza_found listed pairs ordered pair within name version of =
-    at (stanza_of listed name version) refl
-    (sym (ordered.earliest name version) ∙ found_itself pairs ordered.ascending pair within name version of)
-  where
-    at : (o : Option Listed) → stanza_of listed name version ≡ o → option_map listed_pair o ≡ Some pair
-        → (found : Listed) × (stanza_of listed name version ≡ Some found) × (listed_pair found ≡ pair)
-    at None is whole = absurd (let e : None ≡ Some pair = whole in cc)
-    at (Some found) is whole = (found, is, same_Some (listed_pair found) pair whole)
+-- what stands in order is found of its version
+pub found_ordered : (listed ordered : List Listed) → IsOrdered listed ordered → (found : Listed) → Contains ordered found
+    → (name version : List ℕ) → IsOf name version found.pkg → stanza_of listed name version ≡ Some found
+found_ordered listed ordered is found within name version of =
+    let p : Listed → Bool = λ other. is_of name version other.pkg in
+    let first = find-exists p ordered found within (is_of-from name version found.pkg of) in
+    let at = find-some p ordered first.0 first.1 in
+    let own : IsOf name version first.0.pkg = is_of-parts name version first.0.pkg at.1 in
+    sym (is.earliest name version) ∙ first.1 ∙ ap Some
+    (sorted-one listed_cmp_total ordered is.ascending first.0 found at.0 within
+    (listed_cmp-tied first.0 found (same_pair name version first.0 found own of)))
 
--- before is before
-pub is_lt-Less : (o : Ordering) → is_lt o ≡ true → o ≡ Less
-is_lt-Less Less passes = refl
-is_lt-Less Equal passes = absurd (let e : false ≡ true = passes in cc)
-is_lt-Less Greater passes = absurd (let e : false ≡ true = passes in cc)
+-- a stanza of a version stands in order as the one that is found
+pub ordered_stanza : (listed ordered : List Listed) → IsOrdered listed ordered → (other : Listed) → Contains listed other
+    → (name version : List ℕ) → IsOf name version other.pkg
+    → (found : Listed) × Contains ordered found × IsOf name version found.pkg
+ordered_stanza listed ordered is other within name version of =
+    let first = find-exists (λ (found : Listed). is_of name version found.pkg) listed other within (is_of-from name version other.pkg of) in
+    let there = ordered_found listed ordered is name version first.0 first.1 in
+    (first.0, there.0, there.1)
 
--- no pair of the name has a higher version than the highest
-pub is_highest-none : (pairs : List Pair) (pair : Pair) → is_highest pairs pair ≡ true → (other : Pair) → Contains pairs other
-    → other.pkg.name ≡ pair.pkg.name → version_cmp pair.pkg.version other.pkg.version ≡ Less → ⊥
-is_highest-none pairs pair highest other within named below =
-    let none : list_any (is_higher pair) pairs ≡ false = not-true (list_any (is_higher pair) pairs) highest in
-    let some : list_any (is_higher pair) pairs ≡ true = list_any-from_contains (is_higher pair) pairs other within
-    (and_from (bytes_eq other.pkg.name pair.pkg.name) (is_lt (version_cmp pair.pkg.version other.pkg.version))
-    (bytes_eq-same other.pkg.name pair.pkg.name named) (ap is_lt below)) in
-    absurd (cc)
+-- of one name there is one best offer
+one_of_name : (best : List Offer) → IsStrictlySortedBy offer_name_cmp best → (offer other : Offer) → Contains best offer
+    → Contains best other → offer.listed.pkg.name ≡ other.listed.pkg.name → offer ≡ other
+one_of_name best ascending offer other one two named = sorted-one offer_name_cmp_total best ascending offer other one two
+    (subst (λ (n : List ℕ). name_cmp offer.listed.pkg.name n ≡ Equal) named (tied_itself nat_list_cmp_total offer.listed.pkg.name))
 
-pub is_highest-from : (pairs : List Pair) (pair : Pair)
-    → ((other : Pair) → Contains pairs other → other.pkg.name ≡ pair.pkg.name
-    → version_cmp pair.pkg.version other.pkg.version ≡ Less → ⊥)
-    → is_highest pairs pair ≡ true
-is_highest-from pairs pair none = elim (cases_Bool (list_any (is_higher pair) pairs)) [
-  | inl some ↦ absurd (Any-elim (λ (other : Pair). is_higher pair other ≡ true) pairs ⊥
-      (λ other within higher.
-      let both = and_parts (bytes_eq other.pkg.name pair.pkg.name) (is_lt (version_cmp pair.pkg.version other.pkg.version)) higher in
-      none other within (bytes_eq-true other.pkg.name pair.pkg.name both.0)
-      (is_lt-Less (version_cmp pair.pkg.version other.pkg.version) both.1))
-      (Any-from_list_any (is_higher pair) pairs some))
-  | inr fails ↦ not_from_false (list_any (is_higher pair) pairs) fails
-]
+-- the best offer of a name is to be chosen before all others
+pub best_first : (indices : List Index) (best : List Offer) → AreBest (offers_of indices) best → (offer : Offer)
+    → Contains best offer → IsFirst indices offer
+unfolding IsBeaten
+best_first indices best are offer within other there named =
+    Any-elim (IsBeaten other) best (IsUpTo other.listed.pkg.version other.priority offer.listed.pkg.version offer.priority)
+    (λ top at beaten.
+    let same : top ≡ offer = one_of_name best are.ascending top offer at within (beaten.0 ∙ named) in
+    subst (λ (o : Offer). IsUpTo other.listed.pkg.version other.priority o.listed.pkg.version o.priority) same beaten.1)
+    (are.greatest other there)
 
--- than the highest pair of a name no listed version is higher
-NoneHigher-highest : (indices : List Index) (pairs : List Pair) → IsOrdered (all_listed indices) pairs → (pair : Pair)
-    → (name version : List ℕ) → IsOf name version pair.pkg → is_highest pairs pair ≡ true → NoneHigher indices name version
-NoneHigher-highest indices pairs ordered pair name version of highest other found is above =
-    let there = pair_found (all_listed indices) pairs ordered name other found is in
-    is_highest-none pairs pair highest (listed_pair found) there.0 (there.1.0 ∙ sym of.0)
-    (version_cmp-same_left pair.pkg.version version found.pkg.version of.1
-    ∙ version_cmp-same_right version found.pkg.version other there.1.1
-    ∙ version_cmp-antisymm version other ∙ ap ordering_reverse above)
+-- the best offer is the candidate
+pub candidate_of_best : (indices : List Index) (goals : List Goal) (best : List Offer) → AreBest (offers_of indices) best
+    → (offer : Offer) → Contains best offer → (name version : List ℕ) → IsOf name version offer.listed.pkg
+    → IsCandidate (inputs_of indices goals) name version offer.priority
+candidate_of_best indices goals best are offer within name version of =
+    IsCandidate-from indices goals name version offer (are.drawn offer within) (best_first indices best are offer within) of
 
-highest-NoneHigher : (indices : List Index) (pairs : List Pair) → IsOrdered (all_listed indices) pairs → (pair : Pair)
-    → (name version : List ℕ) → IsOf name version pair.pkg → NoneHigher indices name version → is_highest pairs pair ≡ true
-highest-NoneHigher indices pairs ordered pair name version of none = is_highest-from pairs pair (λ other within named below.
-    let there = stanza_found (all_listed indices) pairs ordered other within name other.pkg.version
-    (named ∙ of.0, SameVersion-refl other.pkg.version) in
-    none other.pkg.version there.0 there.1
-    (sym (version_cmp-same_right other.pkg.version pair.pkg.version version of.1)
-    ∙ version_cmp-antisymm other.pkg.version pair.pkg.version ∙ ap ordering_reverse below))
+-- the candidate is the best offer
+pub best_of_candidate : (indices : List Index) (goals : List Goal) (best : List Offer) → AreBest (offers_of indices) best
+    → (name version : List ℕ) (priority : ℤ) → IsCandidate (inputs_of indices goals) name version priority
+    → (offer : Offer) × Contains best offer × IsOf name version offer.listed.pkg
+unfolding IsBeaten
+best_of_candidate indices goals best are name version priority candidate =
+    let given = IsCandidate-is indices goals name version priority candidate in
+    Any-elim (IsBeaten given.0) best ((offer : Offer) × Contains best offer × IsOf name version offer.listed.pkg)
+    (λ top at beaten.
+    let named : top.listed.pkg.name ≡ name = beaten.0 ∙ given.2.0 in
+    let own = candidate_of_best indices goals best are top at name top.listed.pkg.version (named, SameVersion-refl top.listed.pkg.version) in (
+      top,
+      at,
+      (named, one_candidate (inputs_of indices goals) name top.listed.pkg.version version top.priority priority own candidate),
+    ))
+    (are.greatest given.0 given.1)
 
--- the pair is of its own name and version
-pub of_itself : (pair : Pair) → IsOf pair.pkg.name pair.pkg.version pair.pkg
-of_itself pair = (refl, SameVersion-refl pair.pkg.version)
+-- the stanza is one that is kept
+abbrev pub is_kept : List Offer → List Goal → Listed → Bool
+is_kept best goals found = is_sought (best_exacts best) found || is_sought (exacts_of goals) found
 
--- the highest pair of a name is its candidate
-pub candidate_of_highest : (indices : List Index) (goals : List Goal) → AreUsual indices → (pairs : List Pair)
-    → IsOrdered (all_listed indices) pairs → (pair : Pair) → Contains pairs pair → is_highest pairs pair ≡ true
-    → (name version : List ℕ) → IsOf name version pair.pkg
-    → IsCandidate (inputs_of indices goals) name version (pos 500)
-candidate_of_highest indices goals usual pairs ordered pair within highest name version of =
-    let there = stanza_found (all_listed indices) pairs ordered pair within name version of in
-    IsCandidate-usual indices goals name version usual there.0 there.1
-    (NoneHigher-highest indices pairs ordered pair name version of highest)
+-- a stanza of the best offer's version is sought
+sought_best : (best : List Offer) (offer : Offer) → Contains best offer → (found : Listed)
+    → IsOf offer.listed.pkg.name offer.listed.pkg.version found.pkg → is_sought (best_exacts best) found ≡ true
+sought_best best offer within found of = list_any-from_contains (λ (exact : Exact). is_of exact.name exact.version found.pkg)
+    (best_exacts best) (exact_at offer.listed) (Contains-map_intro (λ (offer : Offer). exact_at offer.listed) best offer within)
+    (is_of-from offer.listed.pkg.name offer.listed.pkg.version found.pkg of)
 
--- the candidate of a name is its highest pair
-pub highest_of_candidate : (indices : List Index) (goals : List Goal) → AreUsual indices → (pairs : List Pair)
-    → IsOrdered (all_listed indices) pairs → (name version : List ℕ) (priority : ℤ)
-    → IsCandidate (inputs_of indices goals) name version priority
-    → (pair : Pair) × Contains pairs pair × (is_highest pairs pair ≡ true) × IsOf name version pair.pkg
-highest_of_candidate indices goals usual pairs ordered name version priority candidate =
-    let is = IsCandidate-is indices goals name version usual priority candidate in
-    let there = pair_found (all_listed indices) pairs ordered name version is.0 is.1 in
-    (listed_pair is.0, there.0, highest-NoneHigher indices pairs ordered (listed_pair is.0) name version there.1 is.2, there.1)
+best_sought : (best : List Offer) (found : Listed) → is_sought (best_exacts best) found ≡ true
+    → (offer : Offer) × Contains best offer × IsOf offer.listed.pkg.name offer.listed.pkg.version found.pkg
+best_sought best found passes = Any-elim (λ (exact : Exact). is_of exact.name exact.version found.pkg ≡ true) (best_exacts best)
+    ((offer : Offer) × Contains best offer × IsOf offer.listed.pkg.name offer.listed.pkg.version found.pkg)
+    (λ exact within is.
+    let from = Contains-map (λ (offer : Offer). exact_at offer.listed) best exact within in (
+      from.0,
+      from.1,
+      is_of-parts from.0.listed.pkg.name from.0.listed.pkg.version found.pkg
+          (ap (λ (e : Exact). is_of e.name e.version found.pkg) from.2 ∙ is),
+    ))
+    (Any-from_list_any (λ (exact : Exact). is_of exact.name exact.version found.pkg) (best_exacts best) passes)
 
--- a version that is available is a pair
-pub pair_of_available : (indices : List Index) (goals : List Goal) (pairs : List Pair)
-    → IsOrdered (all_listed indices) pairs → (name version : List ℕ) → IsAvailable (inputs_of indices goals) name version
-    → (pair : Pair) × Contains pairs pair × IsOf name version pair.pkg
-pair_of_available indices goals pairs ordered name version available = at (index_package indices name version) refl available
+-- a version that is available stands in order
+available_stanza : (indices : List Index) (goals : List Goal) (ordered : List Listed) → IsOrdered (all_listed indices) ordered
+    → (name version : List ℕ) → IsAvailable (inputs_of indices goals) name version
+    → (found : Listed) × Contains ordered found × IsOf name version found.pkg
+available_stanza indices goals ordered is name version available = at (index_package indices name version) refl available
   where
     at : (o : Option Listed) → index_package indices name version ≡ o → IsSome (option_map (λ (found : Listed). found.pkg) o)
-        → (pair : Pair) × Contains pairs pair × IsOf name version pair.pkg
-    at None is some = absurd (let e : false ≡ true = some in cc)
-    at (Some found) is some =
-        let there = pair_found (all_listed indices) pairs ordered name version found is in
-        (listed_pair found, there.0, there.1)
+        → (found : Listed) × Contains ordered found × IsOf name version found.pkg
+    at None found some = absurd (let e : false ≡ true = some in cc)
+    at (Some first) found some =
+        let there = ordered_found (all_listed indices) ordered is name version first found in
+        (first, there.0, there.1)
 
-pub available_of_pair : (indices : List Index) (goals : List Goal) (pairs : List Pair)
-    → IsOrdered (all_listed indices) pairs → (pair : Pair) → Contains pairs pair → (name version : List ℕ)
-    → IsOf name version pair.pkg → IsAvailable (inputs_of indices goals) name version
-available_of_pair indices goals pairs ordered pair within name version of =
-    let there = stanza_found (all_listed indices) pairs ordered pair within name version of in
-    subst (λ (o : Option Listed). IsSome (option_map (λ (found : Listed). found.pkg) o)) (sym there.1) refl
+-- a version that is offered stands in order and is kept
+pub kept_of_offered : (indices : List Index) (goals : List Goal) (ordered : List Listed) (best : List Offer)
+    → IsOrdered (all_listed indices) ordered → AreBest (offers_of indices) best → (name version : List ℕ)
+    → IsOffered (inputs_of indices goals) name version
+    → (found : Listed) × Contains ordered found × (is_kept best goals found ≡ true) × IsOf name version found.pkg
+unfolding IsOffered
+kept_of_offered indices goals ordered best is are name version (inl candidate) =
+    let top = best_of_candidate indices goals best are name version candidate.0 candidate.1 in
+    let there = ordered_stanza (all_listed indices) ordered is top.0.listed (offered_listed indices top.0 (are.drawn top.0 top.1)) name version top.2 in (
+      there.0,
+      there.1,
+      or_left (is_sought (best_exacts best) there.0) (is_sought (exacts_of goals) there.0)
+          (sought_best best top.0 top.1 there.0 (same_pair name version there.0 top.0.listed there.2 top.2)),
+      there.2,
+    )
+kept_of_offered indices goals ordered best is are name version (inr asked) =
+    let there = available_stanza indices goals ordered is name version asked.0 in (
+      there.0,
+      there.1,
+      or_right (is_sought (best_exacts best) there.0) (is_sought (exacts_of goals) there.0)
+          (is_sought-from goals there.0 name version there.2 asked.1),
+      there.2,
+    )
+
+-- a stanza in order that is kept is offered
+pub offered_of_kept : (indices : List Index) (goals : List Goal) (ordered : List Listed) (best : List Offer)
+    → IsOrdered (all_listed indices) ordered → AreBest (offers_of indices) best → (found : Listed) → Contains ordered found
+    → is_kept best goals found ≡ true → (name version : List ℕ) → IsOf name version found.pkg
+    → IsOffered (inputs_of indices goals) name version
+unfolding IsOffered
+offered_of_kept indices goals ordered best is are found within kept name version of =
+    elim (or_cases (is_sought (best_exacts best) found) (is_sought (exacts_of goals) found) kept) [
+      | inl chosen ↦
+          let top = best_sought best found chosen in
+          inl (
+            top.0.priority,
+            candidate_of_best indices goals best are top.0 top.1 name version (
+              sym top.2.0 ∙ of.0,
+              SameVersion-trans top.0.listed.pkg.version found.pkg.version version
+                  (SameVersion-symm found.pkg.version top.0.listed.pkg.version top.2.1) of.1,
+            ),
+          )
+      | inr asked ↦ inr (
+        subst (λ (o : Option Listed). IsSome (option_map (λ (first : Listed). first.pkg) o))
+            (sym (found_ordered (all_listed indices) ordered is found within name version of)) refl,
+        is_sought-names goals found asked name version of,
+      )
+    ]

@@ -4,15 +4,16 @@ use Rattle.std.specs.List.{Any, Contains, cons_option, filter_map}
 use Rattle.std.proofs.lemmas.Option.{same_Some}
 use Rattle.rules.specs.Available.{is_of}
 use Rattle.rules.specs.ElementLaws.{Any-elim, Any-from_list_any, Any-intro, Contains-cons, Contains-head, Contains-nil, Contains-rest, list_any-from_contains}
-use Rattle.rules.specs.Universe.{IsOf, NamesExactly, Pair}
+use Rattle.rules.specs.Step.{Listed}
+use Rattle.rules.specs.Universe.{IsOf, NamesExactly}
 use Rattle.rules.specs.Version.{SameVersion}
 use Rattle.rules.specs.VersionOrderLaws.{SameVersion-symm, SameVersion-trans}
 use Rattle.rules.specs.declared.goal.Goal.{Goal}
 use Rattle.rules.specs.declared.goal.Goal.TheVariants as goal
 use Rattle.rules.specs.declared.op.Op.{Op}
 use Rattle.rules.specs.declared.op.Op.TheVariants as operator
-use Rattle.universe.specs.Choice.{Exact, exact_of, exacts_of, is_asked, is_exactly}
-use Rattle.universe.proofs.PairOrder.{is_of-from, is_of-parts}
+use Rattle.universe.specs.Choice.{Exact, exact_of, exacts_of, is_sought, is_exactly}
+use Rattle.universe.proofs.StanzaOrder.{is_of-from, is_of-parts}
 use mathlib.Core.Logic.{inl, inr}
 
 -- what is left by a filter that changes comes from an element
@@ -95,27 +96,27 @@ NamesExactly-is name version (goal.Upgrade own) names = absurd names
 NamesExactly-is name version goal.UpgradeAll names = absurd names
 NamesExactly-is name version goal.NoRemove names = absurd names
 
--- a pair that is asked for is named by a goal, as is each text of its version
-pub is_asked-names : (goals : List Goal) (pair : Pair) → is_asked (exacts_of goals) pair ≡ true
-    → (name version : List ℕ) → IsOf name version pair.pkg → Any (NamesExactly name version) goals
-is_asked-names goals pair passes name version of = Any-elim
-    (λ (exact : Exact). is_of exact.name exact.version pair.pkg ≡ true) (exacts_of goals) (Any (NamesExactly name version) goals)
-    (λ exact within found.
+-- a stanza that is asked for is named by a goal, as is each text of its version
+pub is_sought-names : (goals : List Goal) (found : Listed) → is_sought (exacts_of goals) found ≡ true
+    → (name version : List ℕ) → IsOf name version found.pkg → Any (NamesExactly name version) goals
+is_sought-names goals found passes name version of = Any-elim
+    (λ (exact : Exact). is_of exact.name exact.version found.pkg ≡ true) (exacts_of goals) (Any (NamesExactly name version) goals)
+    (λ exact within is.
     let asked = Contains-filter_map exact_of goals exact within in
-    let own : IsOf exact.name exact.version pair.pkg = is_of-parts exact.name exact.version pair.pkg found in
+    let own : IsOf exact.name exact.version found.pkg = is_of-parts exact.name exact.version found.pkg is in
     Any-intro (NamesExactly name version) goals asked.0 asked.1
     (NamesExactly-from name version asked.0 exact asked.2 (sym own.0 ∙ of.0)
-    (SameVersion-trans version pair.pkg.version exact.version (SameVersion-symm pair.pkg.version version of.1) own.1)))
-    (Any-from_list_any (λ (exact : Exact). is_of exact.name exact.version pair.pkg) (exacts_of goals) passes)
+    (SameVersion-trans version found.pkg.version exact.version (SameVersion-symm found.pkg.version version of.1) own.1)))
+    (Any-from_list_any (λ (exact : Exact). is_of exact.name exact.version found.pkg) (exacts_of goals) passes)
 
--- a pair that a goal names is asked for
-pub is_asked-from : (goals : List Goal) (pair : Pair) (name version : List ℕ) → IsOf name version pair.pkg
-    → Any (NamesExactly name version) goals → is_asked (exacts_of goals) pair ≡ true
-is_asked-from goals pair name version of some = Any-elim (NamesExactly name version) goals (is_asked (exacts_of goals) pair ≡ true)
+-- a stanza that a goal names is asked for
+pub is_sought-from : (goals : List Goal) (found : Listed) (name version : List ℕ) → IsOf name version found.pkg
+    → Any (NamesExactly name version) goals → is_sought (exacts_of goals) found ≡ true
+is_sought-from goals found name version of some = Any-elim (NamesExactly name version) goals (is_sought (exacts_of goals) found ≡ true)
     (λ asked within names.
     let exact = NamesExactly-is name version asked names in
-    list_any-from_contains (λ (e : Exact). is_of e.name e.version pair.pkg) (exacts_of goals) exact.0
+    list_any-from_contains (λ (e : Exact). is_of e.name e.version found.pkg) (exacts_of goals) exact.0
     (Contains-filter_map_intro exact_of goals asked exact.0 within exact.1)
-    (is_of-from exact.0.name exact.0.version pair.pkg
-    (of.0 ∙ sym exact.2, SameVersion-trans pair.pkg.version version exact.0.version of.1 exact.3)))
+    (is_of-from exact.0.name exact.0.version found.pkg
+    (of.0 ∙ sym exact.2, SameVersion-trans found.pkg.version version exact.0.version of.1 exact.3)))
     some

@@ -1,12 +1,13 @@
 -- What `find` finds in lists that are mapped, filtered, freed of repetitions and sorted.
-use Rattle.std.proofs.Common.{◌≡◌, Bool, true, false, cond, List, [], ◌∷◌, map, Option, Some, None, ◌⊎◌, refl, sym, subst, ◌∙◌}
+use Rattle.std.proofs.Common.{◌≡◌, Bool, true, false, cond, List, [], ◌∷◌, map, Option, Some, None, ◌⊎◌, refl, sym, subst, ◌∙◌, arith}
 use Rattle.std.specs.Cmp.{IsTotalOrder, tied_back}
-use Rattle.std.specs.List.{Contains, dedup, dedup_from, filter, find}
+use Rattle.std.specs.List.{AllPairs, Contains, dedup, dedup_from, filter, find}
 use Rattle.std.specs.List.Sorted.{IsStrictlySortedBy}
 use Rattle.std.specs.Option.{option_map}
 use Rattle.std.specs.declared.cmp.Ordering.{Ordering}
 use Rattle.std.specs.declared.cmp.Ordering.TheVariants.{Less, Equal}
 use Rattle.std.proofs.lemmas.List.Elements.{All-contains}
+use Rattle.std.proofs.lemmas.List.Kept.{AllPairs-cons}
 use Rattle.std.proofs.lemmas.Map.Keys.{sorted_tail}
 use Rattle.std.proofs.lemmas.Map.Views.{All-after_first}
 use Rattle.std.proofs.lemmas.Option.{same_Some}
@@ -118,3 +119,10 @@ sorted-one {X} {R} o (z ∷ zs) sorted x y one other tied =
     at (inr first) (inl second) rest =
         absurd (let e : R z x ≡ Less = below x first in let f : R z x ≡ Equal = subst (λ (w : X). R w x ≡ Equal) (sym second) (tied_back o x y tied) in cc)
     at (inr first) (inr second) rest = rest first second tied
+
+-- each element of a sorted list is before all that follow
+pub AllPairs-rising : {X : Type 0} (R : X → X → Ordering) (xs : List X) → IsStrictlySortedBy R xs
+    → AllPairs (λ earlier later. R earlier later ≡ Less) xs
+AllPairs-rising R [] sorted = λ i j d before within. absurd (omega arith)
+AllPairs-rising {X} R (x ∷ xs) sorted = AllPairs-cons (λ (earlier : X) (later : X). R earlier later ≡ Less) x xs
+    (All-after_first R x xs sorted) (AllPairs-rising R xs (sorted_tail R x xs sorted))

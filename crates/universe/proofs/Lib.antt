@@ -1,10 +1,9 @@
 pub mod Admitted
 pub mod Asked
-pub mod Chosen
+pub mod Best
 pub mod Finding
 pub mod Fresh
 pub mod Made
-pub mod Neighbours
 pub mod OneUniverse
-pub mod PairOrder
 pub mod Searching
+pub mod StanzaOrder

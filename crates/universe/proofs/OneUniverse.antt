@@ -12,16 +12,12 @@ use Rattle.rules.specs.Available.{Index, Inputs, all_listed, counting_package, i
 use Rattle.rules.specs.Database.{Record, pkg_of, stands}
 use Rattle.rules.specs.ElementLaws.{Any-elim, Any-intro, Contains-cons, Contains-head, Contains-nil, Contains-rest}
 use Rattle.rules.specs.Package.{Pkg}
-use Rattle.rules.specs.Priority.{default_priority}
 use Rattle.rules.specs.Step.{Listed, is_named}
 use Rattle.rules.specs.Universe.{IsOf, IsUniverse, Pair, Universe, pair_cmp}
 use Rattle.rules.specs.Version.{SameVersion}
 use Rattle.rules.specs.VersionOrderLaws.{version_cmp-same_right}
-use Rattle.rules.specs.declared.goal.Goal.{Goal}
-use Rattle.rules.specs.declared.release.Release.{Release}
-use Rattle.universe.specs.Build.{HaveStanzas, IsUniverseOf, inputs_of}
-use Rattle.universe.specs.PairLaws.{pair_cmp_total}
-use Rattle.universe.proofs.Admitted.{of_itself}
+use Rattle.universe.specs.ChoiceLaws.{pair_cmp_total}
+use Rattle.universe.proofs.StanzaOrder.{of_itself}
 use Rattle.universe.proofs.Searching.{find-agree}
 use mathlib.Core.Logic.{inl, inr}
 
@@ -136,41 +132,9 @@ pair_within inputs u v of_u of_v pair within = Any-elim (λ (other : Pair). IsOf
     let same : other ≡ pair = same_parts other pair pkgs stanzas in
     subst (Contains v.pairs) same there)
     ((of_v.admitted pair.pkg.name pair.pkg.version).0 ((of_u.admitted pair.pkg.name pair.pkg.version).1
-    (Any-intro (λ (other : Pair). IsOf pair.pkg.name pair.pkg.version other.pkg) u.pairs pair within (of_itself pair))))
+    (Any-intro (λ (other : Pair). IsOf pair.pkg.name pair.pkg.version other.pkg) u.pairs pair within (of_itself pair.pkg))))
 
 -- the universes of the same inputs have the same pairs
 pub one_list : (inputs : Inputs) (u v : Universe) → IsUniverse inputs u → IsUniverse inputs v → u.pairs ≡ v.pairs
 one_list inputs u v of_u of_v = same_rising pair_cmp pair_cmp_total u.pairs v.pairs of_u.ascending of_v.ascending
     (pair_within inputs u v of_u of_v) (pair_within inputs v u of_v of_u)
-
--- a release without keys
-abbrev plain_release : Release
-plain_release = record {
-  archive = None;
-  suite = None;
-  codename = None;
-  version = None;
-  component = None;
-  origin = None;
-  label = None;
-  host = [];
-  not_automatic = false;
-  but_automatic_upgrades = false;
-}
-
--- one index with the stanzas
-abbrev plain_index : List Listed → Index
-plain_index listed = record { release = plain_release; listed = listed }
-
-plain_stanzas : (listed : List Listed) → HaveStanzas (plain_index listed ∷ []) listed
-plain_stanzas listed = record {
-  stanzas = append-nil listed;
-  usual = All-cons (λ (index : Index). default_priority index.release ≡ pos 500) (plain_index listed) [] refl
-      (All-nil (λ (index : Index). default_priority index.release ≡ pos 500));
-}
-
--- the universes of the same goals over the same stanzas have the same pairs
-pub one_list_of_pairs : (listed : List Listed) (goals : List Goal) (u v : Universe)
-    → IsUniverseOf listed goals u → IsUniverseOf listed goals v → u.pairs ≡ v.pairs
-one_list_of_pairs listed goals u v of_u of_v = one_list (inputs_of (plain_index listed ∷ []) goals) u v
-    (of_u (plain_index listed ∷ []) (plain_stanzas listed)) (of_v (plain_index listed ∷ []) (plain_stanzas listed))

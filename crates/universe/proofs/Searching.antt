@@ -1,4 +1,4 @@
--- What a binary search in a sorted list finds, and that the pairs in order have the names of the stanzas.
+-- What a binary search in a sorted list finds, and that the stanzas in order have the names of all.
 use Rattle.std.proofs.Common.{◌≡◌, ℕ, ◌+◌, ◌<◌, ◌≤◌, Bool, true, false, not, ◌&&◌, List, [], ◌∷◌, length, get_or, Result, Ok, Err, Option, Some, None, refl, sym, ap, ◌∙◌, arith, bytes_eq}
 use Rattle.std.specs.Prelude.{is_ok}
 use Rattle.std.specs.Cmp.Lexicographic.{nat_list_cmp_total}
@@ -16,18 +16,15 @@ use Rattle.rules.specs.Available.{is_of, same_version}
 use Rattle.rules.specs.ElementLaws.{Any-elim, Any-from_list_any, list_any-from_contains}
 use Rattle.rules.specs.Name.{name_cmp}
 use Rattle.rules.specs.Step.{Listed}
-use Rattle.rules.specs.Universe.{Pair, pair_cmp}
 use Rattle.rules.specs.Version.{version_cmp}
-use Rattle.rules.specs.VersionOrderLaws.{SameVersion-refl}
 use Rattle.rules.specs.declared.goal.Goal.{Goal}
 use Rattle.rules.specs.declared.goal.GoalLine.{GoalLine}
-use Rattle.universe.specs.Build.{first_unknown, first_unknown_by, has_name, is_unknown, named_by}
-use Rattle.universe.specs.Choice.{Exact, IsOrdered, exact_at, exact_cmp, has_pair, is_asked, listed_pair}
-use Rattle.universe.specs.PairLaws.{exact_cmp_total}
-use Rattle.universe.proofs.Admitted.{pair_found, stanza_found, of_itself}
-use Rattle.universe.proofs.Finding.{find-exists, find-some}
-use Rattle.universe.proofs.Made.{AllPairs-sorted}
-use Rattle.universe.proofs.PairOrder.{is_eq-then, is_of-from}
+use Rattle.universe.specs.Build.{first_unknown, has_name, is_unknown, named_by}
+use Rattle.universe.specs.Choice.{Exact, IsOrdered, exact_at, exact_cmp, is_sought, listed_cmp}
+use Rattle.universe.specs.ChoiceLaws.{exact_cmp_total}
+use Rattle.universe.proofs.Admitted.{found_ordered, ordered_stanza}
+use Rattle.universe.proofs.Finding.{AllPairs-rising, find-some}
+use Rattle.universe.proofs.StanzaOrder.{is_eq-then, of_itself}
 use mathlib.Core.Logic.{inl, inr}
 
 -- a binary search tells whether an element passes, where just those that are found equal pass
@@ -65,24 +62,24 @@ not_before Less v first = refl
 not_before Equal v first = refl
 not_before Greater v first = absurd (let e : Greater ≡ Less = first in cc)
 
--- pairs in order are in the order of their names
-sorted_names : (pairs : List Pair) → IsStrictlySortedBy pair_cmp pairs
-    → IsSortedBy (λ a b. is_lt (name_cmp a.pkg.name b.pkg.name)) pairs
-sorted_names pairs ascending k d low high =
-    let first : Pair = get_or pairs k d in
-    let next : Pair = get_or pairs (k + 1) d in
-    let below : pair_cmp first next ≡ Less = AllPairs-sorted pair_cmp pairs ascending k (k + 1) d (omega arith) high in
+-- stanzas in order are in the order of their names
+sorted_names : (ordered : List Listed) → IsStrictlySortedBy listed_cmp ordered
+    → IsSortedBy (λ a b. is_lt (name_cmp a.pkg.name b.pkg.name)) ordered
+sorted_names ordered ascending k d low high =
+    let first : Listed = get_or ordered k d in
+    let next : Listed = get_or ordered (k + 1) d in
+    let below : listed_cmp first next ≡ Less = AllPairs-rising listed_cmp ordered ascending k (k + 1) d (omega arith) high in
     ap is_lt (nat_list_cmp_total.antisymm next.pkg.name first.pkg.name)
     ∙ not_before (name_cmp first.pkg.name next.pkg.name) (version_cmp first.pkg.version next.pkg.version) below
 
--- a binary search among pairs in order tells whether a pair has the name
-pub searched_pair : (pairs : List Pair) (name : List ℕ) (r : Result ℕ ℕ) → IsStrictlySortedBy pair_cmp pairs
-    → IsSearchInRange r (length pairs) → IsBinarySearchResult (λ pair. name_cmp pair.pkg.name name) pairs r
-    → is_ok r ≡ has_pair pairs name
-searched_pair pairs name r ascending within found =
-    searched_any (λ (pair : Pair). bytes_eq pair.pkg.name name) (λ (pair : Pair). name_cmp pair.pkg.name name) pairs r
-    (λ pair. is_eq-slice_cmp pair.pkg.name name)
-    (searchable_from_sorted nat_list_cmp_total (λ (pair : Pair). pair.pkg.name) pairs name (sorted_names pairs ascending))
+-- a binary search among stanzas in order tells whether one has the name
+pub searched_name : (ordered : List Listed) (name : List ℕ) (r : Result ℕ ℕ) → IsStrictlySortedBy listed_cmp ordered
+    → IsSearchInRange r (length ordered) → IsBinarySearchResult (λ found. name_cmp found.pkg.name name) ordered r
+    → is_ok r ≡ has_name ordered name
+searched_name ordered name r ascending within found =
+    searched_any (λ (found : Listed). bytes_eq found.pkg.name name) (λ (found : Listed). name_cmp found.pkg.name name) ordered r
+    (λ found. is_eq-slice_cmp found.pkg.name name)
+    (searchable_from_sorted nat_list_cmp_total (λ (found : Listed). found.pkg.name) ordered name (sorted_names ordered ascending))
     within found
 
 -- tied either way round
@@ -91,22 +88,22 @@ is_eq-reverse Less = refl
 is_eq-reverse Equal = refl
 is_eq-reverse Greater = refl
 
--- what is asked for ties with just the pairs of that name and version
-exact_ties : (exact : Exact) (pair : Pair)
-    → is_eq (exact_cmp exact (exact_at pair)) ≡ is_of exact.name exact.version pair.pkg
-exact_ties exact pair = ap is_eq (exact_cmp_total.antisymm exact (exact_at pair))
-    ∙ is_eq-reverse (exact_cmp (exact_at pair) exact)
-    ∙ is_eq-then (name_cmp pair.pkg.name exact.name) (version_cmp pair.pkg.version exact.version)
-    ∙ ap (λ (b : Bool). b && same_version pair.pkg.version exact.version) (is_eq-slice_cmp pair.pkg.name exact.name)
+-- what is sought ties with just the stanzas of that name and version
+exact_ties : (exact : Exact) (found : Listed)
+    → is_eq (exact_cmp exact (exact_at found)) ≡ is_of exact.name exact.version found.pkg
+exact_ties exact found = ap is_eq (exact_cmp_total.antisymm exact (exact_at found))
+    ∙ is_eq-reverse (exact_cmp (exact_at found) exact)
+    ∙ is_eq-then (name_cmp found.pkg.name exact.name) (version_cmp found.pkg.version exact.version)
+    ∙ ap (λ (b : Bool). b && same_version found.pkg.version exact.version) (is_eq-slice_cmp found.pkg.name exact.name)
 
--- a binary search in what is asked for tells whether the pair is asked for
-pub searched_exact : (exacts : List Exact) (pair : Pair) (r : Result ℕ ℕ) → IsSorted exact_cmp exacts
-    → IsSearchInRange r (length exacts) → IsBinarySearchResult (λ exact. exact_cmp exact (exact_at pair)) exacts r
-    → is_ok r ≡ is_asked exacts pair
-searched_exact exacts pair r ascending within found =
-    searched_any (λ (exact : Exact). is_of exact.name exact.version pair.pkg) (λ (exact : Exact). exact_cmp exact (exact_at pair))
-    exacts r (λ exact. exact_ties exact pair)
-    (searchable_from_sorted exact_cmp_total (λ (exact : Exact). exact) exacts (exact_at pair) ascending) within found
+-- a binary search in what is sought tells whether the stanza is one
+pub searched_exact : (exacts : List Exact) (found : Listed) (r : Result ℕ ℕ) → IsSorted exact_cmp exacts
+    → IsSearchInRange r (length exacts) → IsBinarySearchResult (λ exact. exact_cmp exact (exact_at found)) exacts r
+    → is_ok r ≡ is_sought exacts found
+searched_exact exacts found r ascending within at =
+    searched_any (λ (exact : Exact). is_of exact.name exact.version found.pkg) (λ (exact : Exact). exact_cmp exact (exact_at found))
+    exacts r (λ exact. exact_ties exact found)
+    (searchable_from_sorted exact_cmp_total (λ (exact : Exact). exact) exacts (exact_at found) ascending) within at
 
 -- one test passes where the other does
 same_tests : (a b : Bool) → (a ≡ true → b ≡ true) → (b ≡ true → a ≡ true) → a ≡ b
@@ -114,25 +111,27 @@ same_tests true b to back = sym (to refl)
 same_tests false true to back = back refl
 same_tests false false to back = refl
 
--- the pairs in order have the names of the stanzas
-has_pair-names : (listed : List Listed) (pairs : List Pair) → IsOrdered listed pairs → (name : List ℕ)
-    → has_pair pairs name ≡ has_name listed name
-has_pair-names listed pairs ordered name = same_tests (has_pair pairs name) (has_name listed name)
-    (λ some. Any-elim (λ (pair : Pair). bytes_eq pair.pkg.name name ≡ true) pairs (has_name listed name ≡ true)
-    (λ pair within named.
-    let there = stanza_found listed pairs ordered pair within pair.pkg.name pair.pkg.version (of_itself pair) in
-    let at = find-some (λ (found : Listed). is_of pair.pkg.name pair.pkg.version found.pkg) listed there.0 there.1 in
-    list_any-from_contains (λ (found : Listed). bytes_eq found.pkg.name name) listed there.0 at.0
-    (ap (λ (p : Pair). bytes_eq p.pkg.name name) there.2 ∙ named))
-    (Any-from_list_any (λ (pair : Pair). bytes_eq pair.pkg.name name) pairs some))
-    (λ some. Any-elim (λ (found : Listed). bytes_eq found.pkg.name name ≡ true) listed (has_pair pairs name ≡ true)
-    (λ found within named.
-    let first = find-exists (λ (other : Listed). is_of found.pkg.name found.pkg.version other.pkg) listed found within
-    (is_of-from found.pkg.name found.pkg.version found.pkg (refl, SameVersion-refl found.pkg.version)) in
-    let there = pair_found listed pairs ordered found.pkg.name found.pkg.version first.0 first.1 in
-    list_any-from_contains (λ (pair : Pair). bytes_eq pair.pkg.name name) pairs (listed_pair first.0) there.0
-    (ap (λ (n : List ℕ). bytes_eq n name) there.1.0 ∙ named))
-    (Any-from_list_any (λ (found : Listed). bytes_eq found.pkg.name name) listed some))
+-- the stanzas in order have the names of all stanzas
+has_name-ordered : (listed ordered : List Listed) → IsOrdered listed ordered → (name : List ℕ)
+    → has_name ordered name ≡ has_name listed name
+has_name-ordered listed ordered is name = same_tests (has_name ordered name) (has_name listed name)
+    (λ some. Any-elim named ordered (has_name listed name ≡ true)
+    (λ found within passes.
+    let at = find-some (λ (other : Listed). is_of found.pkg.name found.pkg.version other.pkg) listed found
+    (found_ordered listed ordered is found within found.pkg.name found.pkg.version (of_itself found.pkg)) in
+    list_any-from_contains has listed found at.0 passes)
+    (Any-from_list_any has ordered some))
+    (λ some. Any-elim named listed (has_name ordered name ≡ true)
+    (λ found within passes.
+    let there = ordered_stanza listed ordered is found within found.pkg.name found.pkg.version (of_itself found.pkg) in
+    list_any-from_contains has ordered there.0 there.1 (ap (λ (n : List ℕ). bytes_eq n name) there.2.0 ∙ passes))
+    (Any-from_list_any has listed some))
+  where
+    has : Listed → Bool
+    has found = bytes_eq found.pkg.name name
+
+    named : Listed → Type 0
+    named found = has found ≡ true
 
 -- two tests that agree find the same
 pub find-agree : {X : Type 0} (p q : X → Bool) → ((x : X) → p x ≡ q x) → (xs : List X) → find p xs ≡ find q xs
@@ -142,27 +141,19 @@ find-agree p q same (x ∷ xs) =
     let rest : find p xs ≡ find q xs = find-agree p q same xs in
     cc
 
--- names that agree are unknown alike
-is_unknown-agree : (has has' : List ℕ → Bool) → ((name : List ℕ) → has name ≡ has' name) → (asked : Goal)
-    → is_unknown has asked ≡ is_unknown has' asked
-is_unknown-agree has has' same asked = at (named_by asked)
+-- among stanzas of the same names a goal is unknown alike
+is_unknown-agree : (listed other : List Listed) → ((name : List ℕ) → has_name listed name ≡ has_name other name) → (asked : Goal)
+    → is_unknown listed asked ≡ is_unknown other asked
+is_unknown-agree listed other same asked = at (named_by asked)
   where
-    at : (o : Option (List ℕ)) → option_map_or (λ name. not (has name)) o false ≡ option_map_or (λ name. not (has' name)) o false
+    at : (o : Option (List ℕ))
+        → option_map_or (λ name. not (has_name listed name)) o false ≡ option_map_or (λ name. not (has_name other name)) o false
     at None = refl
     at (Some name) = ap not (same name)
 
--- among the pairs in order the first unknown name is that among the stanzas
-pub first_unknown-ordered : (listed : List Listed) (pairs : List Pair) → IsOrdered listed pairs → (lines : List GoalLine)
-    → first_unknown_by (has_pair pairs) lines ≡ first_unknown listed lines
-first_unknown-ordered listed pairs ordered lines = ap (option_map (λ (asked : GoalLine). asked.line))
-    (find-agree (λ (asked : GoalLine). is_unknown (has_pair pairs) asked.goal) (λ (asked : GoalLine). is_unknown (has_name listed) asked.goal)
-    (λ asked. is_unknown-agree (has_pair pairs) (has_name listed) (has_pair-names listed pairs ordered) asked.goal) lines)
-
--- the same of other values that are equal
-pub first_unknown-among : (listed : List Listed) (pairs among : List Pair) (lines asked : List GoalLine)
-    → IsOrdered listed pairs → among ≡ pairs → asked ≡ lines
-    → first_unknown listed lines ≡ first_unknown_by (has_pair among) asked
-first_unknown-among listed pairs among lines asked ordered same alike =
-    sym (ap (λ (p : List Pair). first_unknown_by (has_pair p) asked) same
-    ∙ ap (λ (l : List GoalLine). first_unknown_by (has_pair pairs) l) alike
-    ∙ first_unknown-ordered listed pairs ordered lines)
+-- among the stanzas in order the first unknown name is that among all
+pub first_unknown-ordered : (listed ordered : List Listed) → IsOrdered listed ordered → (lines : List GoalLine)
+    → first_unknown ordered lines ≡ first_unknown listed lines
+first_unknown-ordered listed ordered is lines = ap (option_map (λ (asked : GoalLine). asked.line))
+    (find-agree (λ (asked : GoalLine). is_unknown ordered asked.goal) (λ (asked : GoalLine). is_unknown listed asked.goal)
+    (λ asked. is_unknown-agree ordered listed (has_name-ordered listed ordered is) asked.goal) lines)

@@ -35,14 +35,10 @@ named_by goal.NoRemove = None
 abbrev pub has_name : List Listed → List ℕ → Bool
 has_name listed name = list_any (λ found. bytes_eq found.pkg.name name) listed
 
--- the goal names a package, and it isn't one of these names
-abbrev pub is_unknown : (List ℕ → Bool) → Goal → Bool
-is_unknown has asked = option_map_or (λ name. not (has name)) (named_by asked) false
-
--- the line of the first goal that names a package which isn't one of these names
-abbrev pub first_unknown_by : (List ℕ → Bool) → List GoalLine → Option ℕ
-first_unknown_by has lines = option_map (λ asked. asked.line) (find (λ asked. is_unknown has asked.goal) lines)
+-- the goal names a package, and no stanza has the name
+abbrev pub is_unknown : List Listed → Goal → Bool
+is_unknown listed asked = option_map_or (λ name. not (has_name listed name)) (named_by asked) false
 
 -- the line of the first goal that names a package that no stanza has
 abbrev pub first_unknown : List Listed → List GoalLine → Option ℕ
-first_unknown listed lines = first_unknown_by (has_name listed) lines
+first_unknown listed lines = option_map (λ asked. asked.line) (find (λ asked. is_unknown listed asked.goal) lines)

@@ -1,14 +1,15 @@
--- Which of the pairs of the indices are admitted where nothing is installed (this project's own, after apt-get(8)).
-use Rattle.std.specs.Prelude.{◌≡◌, ℕ, Bool, true, false, not, List, map, ◌||◌, ◌&&◌, Option, Some, None, if◌then◌else◌, bytes_eq}
-use Rattle.std.specs.List.{list_any, filter, filter_map, find}
+-- Which stanzas of the indices are admitted where nothing is installed, and which of them are candidates (this project's
+-- own, after apt-get(8) and apt_preferences(5)).
+use Rattle.std.specs.Prelude.{◌≡◌, ℕ, ℤ, Bool, false, true, List, map, ◌||◌, Option, Some, None, if◌then◌else◌}
+use Rattle.std.specs.List.{Any, Contains, list_any, filter, filter_map, find, flat_map}
 use Rattle.std.specs.List.Sorted.{IsPermutation, IsSorted, IsStrictlySortedBy}
-use Rattle.std.specs.Option.{option_map, option_map_or}
-use Rattle.std.specs.Ordering.{is_lt, on, then_cmp}
+use Rattle.std.specs.Ordering.{flip_args, int_cmp, on, then_cmp}
 use Rattle.std.specs.declared.cmp.Ordering.{Ordering}
-use Rattle.rules.specs.Available.{is_of}
+use Rattle.rules.specs.Available.{Index, is_of}
 use Rattle.rules.specs.Name.{name_cmp}
+use Rattle.rules.specs.Priority.{IsUpTo, default_priority}
 use Rattle.rules.specs.Step.{Listed}
-use Rattle.rules.specs.Universe.{Candidate, Pair, pair_cmp}
+use Rattle.rules.specs.Universe.{Candidate, Pair}
 use Rattle.rules.specs.Version.{version_cmp}
 use Rattle.rules.specs.declared.goal.Goal.{Goal}
 use Rattle.rules.specs.declared.goal.Goal.TheVariants as goal
@@ -20,32 +21,72 @@ use Rattle.rules.specs.declared.op.Op.TheVariants as op
 abbrev pub listed_pair : Listed → Pair
 listed_pair found = record { pkg = found.pkg; listed = Some found }
 
+-- the order of stanzas: by name and then by version
+abbrev pub listed_cmp : Listed → Listed → Ordering
+listed_cmp = then_cmp (on (λ found. found.pkg.name) name_cmp) (on (λ found. found.pkg.version) version_cmp)
+
 -- the earliest stanza of this version of the name
 abbrev pub stanza_of : List Listed → List ℕ → List ℕ → Option Listed
 stanza_of listed name version = find (λ found. is_of name version found.pkg) listed
 
--- a pair has the name
-abbrev pub has_pair : List Pair → List ℕ → Bool
-has_pair pairs name = list_any (λ pair. bytes_eq pair.pkg.name name) pairs
+-- the stanzas in their order, and of those of one version of a name the earliest alone
+pub record IsOrdered (listed ordered : List Listed) : Type 0 where
+  pub ascending : IsStrictlySortedBy listed_cmp ordered
+  pub earliest : (name version : List ℕ) → stanza_of ordered name version ≡ stanza_of listed name version
 
--- the pairs are those of the stanzas in the order of pairs, and of equal ones the earliest stanza counts
-pub record IsOrdered (listed : List Listed) (pairs : List Pair) : Type 0 where
-  pub ascending : IsStrictlySortedBy pair_cmp pairs
-  pub earliest : (name version : List ℕ) → find (λ pair. is_of name version pair.pkg) pairs
-      ≡ option_map listed_pair (stanza_of listed name version)
+-- a stanza, and the priority that its index gives
+pub record Offer : Type 0 where
+  pub listed : Listed
+  pub priority : ℤ
 
--- a version of a name that an install goal asks for with `=`
+-- a stanza with a priority
+abbrev pub offer_at : ℤ → Listed → Offer
+offer_at priority listed = record { listed = listed; priority = priority }
+
+-- the stanzas of an index with its default priority
+abbrev pub offers_in : Index → List Offer
+offers_in index = map (offer_at (default_priority index.release)) index.listed
+
+-- the stanzas of the indices with their default priorities
+abbrev pub offers_of : List Index → List Offer
+offers_of indices = flat_map offers_in indices
+
+-- the order of offers of one name, the one to choose first: the greater priority, and of one priority the higher version
+abbrev pub choice_cmp : Offer → Offer → Ordering
+choice_cmp =
+    flip_args (then_cmp (on (λ offer. offer.priority) int_cmp) (on (λ offer. offer.listed.pkg.version) version_cmp))
+
+-- the order of names of offers
+abbrev pub offer_name_cmp : Offer → Offer → Ordering
+offer_name_cmp = on (λ offer. offer.listed.pkg.name) name_cmp
+
+-- the order of offers: by name, and of one name the one to choose first
+abbrev pub offer_cmp : Offer → Offer → Ordering
+offer_cmp = then_cmp offer_name_cmp choice_cmp
+
+-- the other offer is of the same name, and this one isn't to be chosen before it
+unfoldable pub IsBeaten : Offer → Offer → Type 0
+IsBeaten offer other = (other.listed.pkg.name ≡ offer.listed.pkg.name)
+    × IsUpTo offer.listed.pkg.version offer.priority other.listed.pkg.version other.priority
+
+-- the offer of each name that is to be chosen first, in the order of names
+pub record AreBest (offers best : List Offer) : Type 0 where
+  pub ascending : IsStrictlySortedBy offer_name_cmp best
+  pub drawn : (offer : Offer) → Contains best offer → Contains offers offer
+  pub greatest : (offer : Offer) → Contains offers offer → Any (IsBeaten offer) best
+
+-- a version of a name that is sought
 pub record Exact : Type 0 where
   pub name : List ℕ
   pub version : List ℕ
 
--- the order of what is asked for: by name and then by version
+-- the order of what is sought: by name and then by version
 abbrev pub exact_cmp : Exact → Exact → Ordering
 exact_cmp = then_cmp (on (λ exact. exact.name) name_cmp) (on (λ exact. exact.version) version_cmp)
 
--- the version of a pair, as it is asked for with `=`
-abbrev pub exact_at : Pair → Exact
-exact_at pair = record { name = pair.pkg.name; version = pair.pkg.version }
+-- the version of a stanza, as it is sought
+abbrev pub exact_at : Listed → Exact
+exact_at found = record { name = found.pkg.name; version = found.pkg.version }
 
 -- the operator is `=`
 abbrev pub is_exactly : Op → Bool
@@ -74,41 +115,24 @@ exact_of goal.NoRemove = None
 abbrev pub exacts_of : List Goal → List Exact
 exacts_of goals = filter_map exact_of goals
 
--- what is asked for, in order
-pub record AreExacts (asked exacts : List Exact) : Type 0 where
+-- what is sought, in order
+pub record AreExacts (sought exacts : List Exact) : Type 0 where
   pub ascending : IsSorted exact_cmp exacts
-  pub same : IsPermutation asked exacts
+  pub same : IsPermutation sought exacts
 
--- the pair is one that is asked for with `=`
-abbrev pub is_asked : List Exact → Pair → Bool
-is_asked exacts pair = list_any (λ exact. is_of exact.name exact.version pair.pkg) exacts
+-- the stanza is one that is sought
+abbrev pub is_sought : List Exact → Listed → Bool
+is_sought exacts found = list_any (λ exact. is_of exact.name exact.version found.pkg) exacts
 
--- the other pair is a higher version of the same name
-abbrev pub is_higher : Pair → Pair → Bool
-is_higher pair other =
-    bytes_eq other.pkg.name pair.pkg.name && is_lt (version_cmp pair.pkg.version other.pkg.version)
+-- the versions of the best offers
+abbrev pub best_exacts : List Offer → List Exact
+best_exacts best = map (λ offer. exact_at offer.listed) best
 
--- no pair is a higher version of the same name
-abbrev pub is_highest : List Pair → Pair → Bool
-is_highest pairs pair = not (list_any (is_higher pair) pairs)
+-- the stanzas of the best offers' versions, and those that are asked for
+abbrev pub admitted_among : List Offer → List Exact → List Listed → List Listed
+admitted_among best exacts ordered =
+    filter (λ found. is_sought (best_exacts best) found || is_sought exacts found) ordered
 
--- the pairs that are the highest of their name or asked for with `=`
-abbrev pub admitted_among : List Exact → List Pair → List Pair
-admitted_among exacts pairs = filter (λ pair. is_highest pairs pair || is_asked exacts pair) pairs
-
--- the pair as its name's candidate
-abbrev pub candidate_at : Pair → Candidate
-candidate_at pair = record { name = pair.pkg.name; version = pair.pkg.version }
-
--- the highest pair of each name as its candidate
-abbrev pub candidates_among : List Pair → List Candidate
-candidates_among pairs = map candidate_at (filter (is_highest pairs) pairs)
-
--- what is chosen of the pairs: the admitted ones, and the candidates
-pub record IsChosen (exacts : List Exact) (pairs admitted : List Pair) (candidates : List Candidate) : Type 0 where
-  pub admitted_ones : admitted ≡ admitted_among exacts pairs
-  pub candidate_ones : candidates ≡ candidates_among pairs
-
--- the name is another than this one, or there is none to compare
-abbrev pub differs : Option (List ℕ) → List ℕ → Bool
-differs above name = option_map_or (λ other. not (bytes_eq other name)) above true
+-- the version of the offer as its name's candidate
+abbrev pub candidate_at : Offer → Candidate
+candidate_at offer = record { name = offer.listed.pkg.name; version = offer.listed.pkg.version }

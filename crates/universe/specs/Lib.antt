@@ -1,7 +1,7 @@
 pub mod Build
 pub mod Choice
+pub mod ChoiceLaws
 pub mod Error
 pub mod Pair
-pub mod PairLaws
 pub mod Universe
 pub mod UniverseLaws

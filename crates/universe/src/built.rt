@@ -1,17 +1,17 @@
 // The universe of a request where nothing is installed at the start.
 
-ghost use Rattle.std.specs.Prelude.{◌≡◌, IfOk, IfErr};
-ghost use Rattle.std.specs.List.Sorted.{IsStrictlySortedBy};
+ghost use Rattle.std.specs.Prelude.{◌≡◌, ◌||◌, IfOk, IfErr, map};
+ghost use Rattle.std.specs.List.{filter};
+ghost use Rattle.std.specs.List.Sorted.{IsSorted, IsStrictlySortedBy};
 ghost use Rattle.std.specs.Option.{option_copied};
-ghost use Rattle.rules.specs.Universe.{pair_cmp};
-ghost use Rattle.universe.specs.Build.{first_unknown_by, goals_of, indices_of, is_unknown, named_by};
-ghost use Rattle.universe.specs.Choice.{IsChosen, exacts_of, has_pair};
+ghost use Rattle.universe.specs.Build.{first_unknown, goals_of, indices_of, is_unknown, named_by};
+ghost use Rattle.universe.specs.Choice.{admitted_among, exact_cmp, exacts_of, is_sought, listed_cmp, listed_pair};
 ghost use Rattle.universe.specs.Error.{IsBuilt, IsUniverseFault};
 
-use crate::choice::{Chosen, choose};
 use crate::error::UniverseError;
-use crate::exact::exacts_of;
-use crate::order::in_order;
+use crate::exact::{Exact, best_exacts, exacts_of, is_sought};
+use crate::offer::{Offer, best_of, candidates_of, offers_of};
+use crate::order::{Found, has_name, in_order};
 use crate::pair::Pair;
 use crate::pairs::Pairs;
 use crate::universe::Universe;
@@ -30,33 +30,23 @@ fn named_by(goal: &Goal) -> Option<&[u8]>
     }
 }
 
-// Whether a pair has the name, by a binary search.
-fn has_name(pairs: &[Pair<'_>], name: &[u8]) -> bool
-    requires { IsStrictlySortedBy pair_cmp pairs.now }
-    ensures { result ≡ has_pair pairs.now name.now }
-{
-    pairs
-        .binary_search_by(|pair| pair.pkg().name().cmp(name))
-        .is_ok()
-}
-
-fn is_unknown(pairs: &[Pair<'_>], goal: &Goal) -> bool
-    requires { IsStrictlySortedBy pair_cmp pairs.now }
-    ensures { result ≡ is_unknown (has_pair pairs.now) goal.now }
+fn is_unknown(ordered: &[Found<'_, '_>], goal: &Goal) -> bool
+    requires { IsStrictlySortedBy listed_cmp ordered.now }
+    ensures { result ≡ is_unknown ordered.now goal.now }
 {
     match named_by(goal) {
         None => false,
-        Some(name) => !has_name(pairs, name),
+        Some(name) => !has_name(ordered, name),
     }
 }
 
-fn first_unknown(pairs: &[Pair<'_>], lines: &[GoalLine]) -> Option<usize>
-    requires { IsStrictlySortedBy pair_cmp pairs.now }
-    ensures { result ≡ first_unknown_by (has_pair pairs.now) lines.now }
+fn first_unknown(ordered: &[Found<'_, '_>], lines: &[GoalLine]) -> Option<usize>
+    requires { IsStrictlySortedBy listed_cmp ordered.now }
+    ensures { result ≡ first_unknown ordered.now lines.now }
 {
     lines
         .iter()
-        .find(|asked| is_unknown(pairs, &asked.goal))
+        .find(|asked| is_unknown(ordered, &asked.goal))
         .map(|asked| asked.line)
 }
 
@@ -66,22 +56,60 @@ fn goals_of(alloc: Global, lines: Vec<GoalLine>) -> Result<Vec<Goal>, AllocError
     lines.into_iter().map(|asked| asked.goal).collect(alloc)
 }
 
-// The pairs and the candidates of the universe, of pairs in their order.
-fn choose_among<'a>(
-    alloc: Global,
-    pairs: Vec<Pair<'a>>,
-    lines: &[GoalLine],
-) -> Result<Chosen<'a>, AllocError>
-    requires { IsStrictlySortedBy pair_cmp pairs.items }
-    ensures { IfOk result (λ chosen. IsChosen (exacts_of (goals_of lines.now)) pairs.entry.items chosen.pairs.items
-        chosen.candidates.items) }
+// Whether the stanza is of a version that is chosen or asked for.
+fn is_kept(chosen: &[Exact<'_>], asked: &[Exact<'_>], found: &Found<'_, '_>) -> bool
+    requires chosen { IsSorted exact_cmp chosen.now }
+    requires asked { IsSorted exact_cmp asked.now }
+    ensures { result ≡ (is_sought chosen.now found.now || is_sought asked.now found.now) }
 {
-    let exacts = exacts_of(alloc, lines)?;
-    choose(alloc, exacts.as_slice(), pairs)
+    is_sought(chosen, found) || is_sought(asked, found)
 }
 
-/// The universe of a request over these stanzas, those of the earlier index first, where nothing is installed, no
-/// record of preferences is given, and every index has the priority 500 (apt_preferences(5)).
+// Of stanzas in their order those that are kept.
+fn kept_of<'p, 'a>(
+    chosen: &[Exact<'_>],
+    asked: &[Exact<'_>],
+    ordered: Vec<Found<'p, 'a>>,
+) -> Vec<Found<'p, 'a>>
+    requires chosen { IsSorted exact_cmp chosen.now }
+    requires asked { IsSorted exact_cmp asked.now }
+    ensures { result.items ≡ filter (λ found. is_sought chosen.now found || is_sought asked.now found) ordered.entry.items }
+{
+    let mut kept = ordered;
+    kept.retain(|found| is_kept(chosen, asked, found));
+    kept
+}
+
+// The stanzas of the best offers' versions, and those that the goals ask for with `=`.
+fn admitted<'p, 'a>(
+    alloc: Global,
+    ordered: Vec<Found<'p, 'a>>,
+    best: &[Offer<'p, 'a>],
+    lines: &[GoalLine],
+) -> Result<Vec<Found<'p, 'a>>, AllocError>
+    ensures { IfOk result (λ kept. kept.items ≡ admitted_among best.now (exacts_of (goals_of lines.now)) ordered.entry.items) }
+{
+    let chosen = best_exacts(alloc, best)?;
+    let asked = exacts_of(alloc, lines)?;
+    Ok(kept_of(chosen.as_slice(), asked.as_slice(), ordered))
+}
+
+// The pairs of the stanzas, whose relations are read here.
+fn pairs_of<'a>(alloc: Global, kept: &[Found<'_, 'a>]) -> Result<Vec<Pair<'a>>, AllocError>
+    ensures { IfOk result (λ pairs. pairs.items ≡ map listed_pair kept.now) }
+{
+    let mut pairs = Vec::new(alloc);
+    for found in kept {
+        let listed = found.listed(alloc)?;
+        pairs.push(Pair::listed_alone(listed))?;
+    }
+    Ok(pairs)
+}
+
+/// The universe of the goals over the indices, where nothing is installed at the start, no record of preferences is given
+/// and no release is the target. The priority of a version is the greatest that an index with it gives by default: 500, or
+/// of a NotAutomatic index 100 with ButAutomaticUpgrades and 1 without (apt_preferences(5)). Of equal versions the stanza of
+/// the earlier index counts, and then the earlier stanza. The relations of the admitted pairs alone are read.
 ///
 /// It refuses the first goal that names a package that no stanza has, then more than 1,000,000 admitted pairs, and
 /// growths that are refused. About n log n comparisons of n stanzas, and for m goals about m log n and n log m more.
@@ -93,15 +121,18 @@ pub fn build<'a>(
     ensures ok { IfOk result (λ u. IsBuilt (indices_of indices.now) goals.items u) }
     ensures err { IfErr result (λ e. IsUniverseFault (indices_of indices.now) goals.items e) }
 {
-    let pairs = in_order(alloc, listed)?;
-    if let Some(line) = first_unknown(pairs.as_slice(), goals.as_slice()) {
+    let offers = offers_of(alloc, indices)?;
+    let ordered = in_order(alloc, offers.as_slice())?;
+    if let Some(line) = first_unknown(ordered.as_slice(), goals.as_slice()) {
         return Err(UniverseError::UnknownName(line));
     }
-    let chosen = choose_among(alloc, pairs, goals.as_slice())?;
-    if chosen.pairs.len() > PAIRS {
+    let best = best_of(offers)?;
+    let kept = admitted(alloc, ordered, best.as_slice(), goals.as_slice())?;
+    if kept.len() > PAIRS {
         return Err(UniverseError::TooLarge);
     }
+    let pairs = pairs_of(alloc, kept.as_slice())?;
+    let candidates = candidates_of(alloc, best.as_slice())?;
     let goals = goals_of(alloc, goals)?;
-    let pairs = Pairs::new(chosen.pairs);
-    Ok(Universe::new(pairs, goals, Vec::new(alloc), chosen.candidates))
+    Ok(Universe::new(Pairs::new(pairs), goals, Vec::new(alloc), candidates))
 }

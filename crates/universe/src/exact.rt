@@ -1,21 +1,22 @@
-// What install goals ask for with `=`.
+// The versions of names that are admitted: those of the best offers, and those that install goals ask for with `=`.
 
 ghost use Rattle.std.specs.Prelude.{◌≡◌, IfOk, refl};
 ghost use Rattle.std.specs.Cmp.{eq_by_cmp_equiv, partial_equiv_from_equiv, po};
 ghost use Rattle.std.specs.List.{filter_map};
 ghost use Rattle.std.specs.List.Sorted.{IsSorted};
 ghost use Rattle.std.specs.Ordering.{as_partial_cmp, eq_by_cmp};
-ghost use Rattle.universe.specs.Choice.{AreExacts, exact_at, exact_by, exact_cmp, exact_of, is_asked, is_exactly};
-ghost use Rattle.universe.specs.PairLaws.{exact_cmp_total};
+ghost use Rattle.universe.specs.Choice.{AreExacts, best_exacts, exact_at, exact_by, exact_cmp, exact_of, is_exactly, is_sought};
+ghost use Rattle.universe.specs.ChoiceLaws.{exact_cmp_total};
 
-use crate::pair::Pair;
+use crate::offer::Offer;
+use crate::order::Found;
 use debversion::Version;
 use rules::{Goal, GoalLine, Name, Op, Restriction};
 use std::alloc::{AllocError, Global};
 use std::cmp::Ordering;
 use std::marker::Model;
 
-/// A version of a name that an install goal asks for with `=`, over the texts of the goal.
+/// A version of a name that is sought, over the texts of a goal or of an index.
 #[derive(Drop)]
 pub struct Exact<'g> {
     name: &'g [u8],
@@ -94,23 +95,47 @@ pub fn exacts_of<'g>(alloc: Global, lines: &'g [GoalLine]) -> Result<Vec<Exact<'
     Ok(exacts)
 }
 
-// How what is asked for compares with a pair.
-fn order_to(exact: &Exact<'_>, pair: &Pair<'_>) -> Ordering
-    ensures { result ≡ exact_cmp exact.now (exact_at pair.now) }
+fn exact_at<'a>(offer: &Offer<'_, 'a>) -> Exact<'a>
+    ensures { result ≡ exact_at offer.now.listed }
 {
-    match exact.name.cmp(pair.pkg().name()) {
-        Ordering::Equal => exact.version.cmp(pair.pkg().version()),
+    Exact {
+        name: offer.entry().name(),
+        version: offer.entry().version().again(),
+    }
+}
+
+fn versions_of<'a>(alloc: Global, best: &[Offer<'_, 'a>]) -> Result<Vec<Exact<'a>>, AllocError>
+    ensures { IfOk result (λ exacts. exacts.items ≡ best_exacts best.now) }
+{
+    best.iter().map(|offer| exact_at(offer)).collect(alloc)
+}
+
+/// The versions of the best offers, in order. About n log n comparisons of n offers.
+pub fn best_exacts<'a>(alloc: Global, best: &[Offer<'_, 'a>]) -> Result<Vec<Exact<'a>>, AllocError>
+    ensures { IfOk result (λ exacts. AreExacts (best_exacts best.now) exacts.items) }
+{
+    let mut exacts = versions_of(alloc, best)?;
+    exacts.sort()?;
+    Ok(exacts)
+}
+
+// How what is sought compares with a stanza.
+fn order_to(exact: &Exact<'_>, found: &Found<'_, '_>) -> Ordering
+    ensures { result ≡ exact_cmp exact.now (exact_at found.now) }
+{
+    match exact.name.cmp(found.name()) {
+        Ordering::Equal => exact.version.cmp(found.version()),
         decided => decided,
     }
 }
 
-/// Whether the pair is one that is asked for, by a binary search.
-pub fn is_asked(exacts: &[Exact<'_>], pair: &Pair<'_>) -> bool
+/// Whether the stanza is one that is sought, by a binary search.
+pub fn is_sought(exacts: &[Exact<'_>], found: &Found<'_, '_>) -> bool
     requires { IsSorted exact_cmp exacts.now }
-    ensures { result ≡ is_asked exacts.now pair.now }
+    ensures { result ≡ is_sought exacts.now found.now }
 {
     exacts
-        .binary_search_by(|exact| order_to(exact, pair))
+        .binary_search_by(|exact| order_to(exact, found))
         .is_ok()
 }
 

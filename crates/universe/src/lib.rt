@@ -5,10 +5,10 @@
 
 mod built;
 mod candidate;
-mod choice;
 mod error;
 mod exact;
 mod laws;
+mod offer;
 mod order;
 mod pair;
 mod pairs;

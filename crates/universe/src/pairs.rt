@@ -51,15 +51,15 @@ impl<'a> Pairs<'a> {
         Pairs { pairs }
     }
 
-    /// The pairs in order.
-    pub fn as_slice(&self) -> &[Pair<'a>]
+    // The pairs in order.
+    pub(crate) fn as_slice(&self) -> &[Pair<'a>]
         ensures { result.now ≡ self.now }
     {
         self.pairs.as_slice()
     }
 
-    /// The stanza of this version of the name, if the pair is admitted and in an index. Linear in the pairs.
-    pub fn listed_of(&self, name: &[u8], version: &Version<'_>) -> Option<&Listed<'a>>
+    // The stanza of this version of the name, if the pair is admitted and in an index. Linear in the pairs.
+    pub(crate) fn listed_of(&self, name: &[u8], version: &Version<'_>) -> Option<&Listed<'a>>
         ensures { option_copied result ≡ listed_among self.now name.now version.now }
     {
         match pair_of(self.pairs.as_slice(), name, version) {

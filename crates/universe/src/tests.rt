@@ -1,15 +1,15 @@
 // Universes of small indices, with the pairs, candidates and refusals that are wanted counted by hand
-// (deb-version(7) for the order of versions).
+// (deb-version(7) for the order of versions, apt_preferences(5) for the priorities).
 
 use crate::{Universe, UniverseError, build};
 use debversion::Version;
-use index::Listed;
-use relation::Pkg;
-use rules::{Goal, GoalLine, Name, Op, Restriction, VersionText, is_name};
-use stanza::Stanzas;
+use index::Index;
+use rules::{Goal, GoalLine, Name, Op, Release, Restriction, Text, VersionText, is_name};
 use std::alloc::Global;
 use std::str;
 use std::test::Fail;
+
+// Each row's value, or nothing where memory is refused or the row is wrong.
 
 fn name(alloc: Global, text: &str) -> Option<Name> {
     if !is_name(text.as_bytes()) {
@@ -24,82 +24,39 @@ fn restriction(alloc: Global, op: Op, text: &str) -> Option<Restriction> {
     Some(Restriction { op, version })
 }
 
-fn op(word: &str) -> Option<Op> {
-    if word == "<<" {
-        return Some(Op::StrictlyEarlier);
-    }
-    if word == ">=" {
-        return Some(Op::LaterOrEqual);
-    }
-    if word == "=" {
-        return Some(Op::ExactlyEqual);
-    }
-    None
-}
-
-fn install(alloc: Global, asked: &str, word: Option<&str>, version: Option<&str>) -> Option<Goal> {
-    let name = name(alloc, asked)?;
-    match (word, version) {
-        (Some(word), Some(version)) => {
-            let restriction = restriction(alloc, op(word)?, version)?;
-            Some(Goal::Install(name, Some(restriction)))
-        }
-        _ => Some(Goal::Install(name, None)),
-    }
-}
-
-// The goal of a line such as `install a = 1`.
-fn goal(alloc: Global, line: &str) -> Option<Goal> {
-    let mut words = line.split(' ');
-    let verb = words.next()?;
-    if verb == "upgrade-all" {
-        return Some(Goal::UpgradeAll);
-    }
-    if verb == "no-remove" {
-        return Some(Goal::NoRemove);
-    }
-    let asked = words.next()?;
-    if verb == "remove" {
-        return Some(Goal::Remove(name(alloc, asked)?));
-    }
-    if verb == "purge" {
-        return Some(Goal::Purge(name(alloc, asked)?));
-    }
-    if verb == "upgrade" {
-        return Some(Goal::Upgrade(name(alloc, asked)?));
-    }
-    install(alloc, asked, words.next(), words.next())
-}
-
-// The goals of the lines that aren't empty, or nothing where memory is refused or a row is wrong.
-fn goals(alloc: Global, text: &str) -> Option<Vec<GoalLine>> {
+// The goal of line 1 that asks for `a`, if one does.
+fn goals(alloc: Global, asked: Option<(Op, &str)>) -> Option<Vec<GoalLine>> {
     let mut goals = Vec::new(alloc);
-    for (place, line) in text.lines().enumerate() {
-        if !line.is_empty() {
-            let goal = goal(alloc, line)?;
-            let line = place.checked_add(1)?;
-            goals.push(GoalLine { line, goal }).ok()?;
-        }
+    if let Some((op, version)) = asked {
+        let restriction = restriction(alloc, op, version)?;
+        let goal = Goal::Install(name(alloc, "a")?, Some(restriction));
+        goals.push(GoalLine { line: 1, goal }).ok()?;
     }
     Some(goals)
 }
 
-// The stanzas of a text, or nothing where memory is refused or a row is wrong.
-fn listed<'a>(alloc: Global, text: &'a str) -> Option<Vec<Listed<'a>>> {
-    let mut listed = Vec::new(alloc);
-    for item in Stanzas::new(text.as_bytes()) {
-        let stanza = item.ok()?;
-        let pkg = Pkg::from_stanza(alloc, &stanza, b"amd64").ok()?;
-        listed.push(Listed::new(pkg, false, stanza)).ok()?;
-    }
-    Some(listed)
+// The index of a text, NotAutomatic and ButAutomaticUpgrades.
+fn index<'a>(alloc: Global, row: (&'a str, bool, bool)) -> Option<Index<'a>> {
+    let (text, not_automatic, but_automatic_upgrades) = row;
+    let release = Release {
+        archive: None,
+        suite: None,
+        codename: None,
+        version: None,
+        component: None,
+        origin: None,
+        label: None,
+        host: Text::copied_from(alloc, b"").ok()?,
+        not_automatic,
+        but_automatic_upgrades,
+    };
+    Index::read(alloc, text.as_bytes(), release, b"amd64", 0).ok()
 }
 
 fn write_pair(shown: &mut String, name: &[u8], version: &Version<'_>) -> Result<(), Fail> {
-    shown.push_str(str::from_utf8(name)?)?;
-    shown.push_str("=")?;
-    shown.push_str(str::from_utf8(version.text())?)?;
-    shown.push_str(" ")?;
+    let name = str::from_utf8(name)?;
+    let version = str::from_utf8(version.text())?;
+    write!(shown, "{name}={version} ")?;
     Ok(())
 }
 
@@ -116,78 +73,94 @@ fn shown(alloc: Global, u: &Universe<'_>) -> Result<String, Fail> {
     Ok(shown)
 }
 
-fn answer(alloc: Global, text: &str, asks: &str) -> Result<String, Fail> {
-    let listed = listed(alloc, text).ok_or("no stanzas")?;
-    let goals = goals(alloc, asks).ok_or("no goals")?;
-    match build(alloc, listed, goals) {
-        Ok(u) => shown(alloc, &u),
-        Err(error) => Ok(error.to_string(alloc)?),
-    }
-}
+const ONE: &str = "Package: a\nVersion: 1.0\nArchitecture: all\n";
 
-const TWO: &str = "Package: a\nVersion: 1\n\nPackage: a\nVersion: 2\n";
+const EQUAL: &str = "Package: a\nVersion: 1.00\nArchitecture: all\n";
 
-const EQUAL: &str = "Package: a\nVersion: 1.0\n\nPackage: a\nVersion: 1.00\n";
+const TWO: &str =
+    "Package: b\nVersion: 3\nArchitecture: amd64\n\nPackage: a\nVersion: 2\nArchitecture: all\n";
 
-const TURNED: &str = "Package: a\nVersion: 1.00\n\nPackage: a\nVersion: 1.0\n";
-
-const THREE: &str = "Package: c\nVersion: 1\n\nPackage: a\nVersion: 1\n\nPackage: b\nVersion: 1\n";
-
-const MIXED: &str =
-    "Package: b\nVersion: 1.10\n\nPackage: a\nVersion: 2\n\nPackage: b\nVersion: 1.9\n\nPackage: a\nVersion: 1:1\n\nPackage: b\nVersion: 1.10~\n";
+const NONE: (&str, bool, bool) = ("", false, false);
 
 #[test]
-fn the_highest_and_what_is_asked_for_are_admitted(rt: HostRuntime) -> Result<(), Fail> {
+fn the_candidate_has_the_greatest_priority_and_then_version(rt: HostRuntime) -> Result<(), Fail> {
+    let exactly = Some((Op::ExactlyEqual, "2"));
+    let later = Some((Op::StrictlyLater, "1"));
     let rows = [
-        ("", "", "| "),
-        (TWO, "", "a=2 | a=2 "),
-        (TWO, "install a", "a=2 | a=2 "),
-        (TWO, "install a = 1", "a=1 a=2 | a=2 "),
-        (TWO, "install a >= 1", "a=2 | a=2 "),
-        (TWO, "install a << 2", "a=2 | a=2 "),
-        (TWO, "install a = 3", "a=2 | a=2 "),
-        (TWO, "install a = 0:1-0", "a=1 a=2 | a=2 "),
-        (EQUAL, "", "a=1.0 | a=1.0 "),
-        (TURNED, "", "a=1.00 | a=1.00 "),
-        (EQUAL, "install a = 1.00", "a=1.0 | a=1.0 "),
-        (THREE, "", "a=1 b=1 c=1 | a=1 b=1 c=1 "),
+        (NONE, NONE, None, "| "),
         (
-            THREE,
-            "upgrade-all\nno-remove\nremove a\npurge b\nupgrade c",
-            "a=1 b=1 c=1 | a=1 b=1 c=1 ",
+            (ONE, false, false),
+            (TWO, false, false),
+            None,
+            "a=2 b=3 | a=2 b=3 ",
         ),
-        (MIXED, "", "a=1:1 b=1.10 | a=1:1 b=1.10 "),
         (
-            MIXED,
-            "install b = 1.10~\ninstall b = 1.9\ninstall a = 2",
-            "a=2 a=1:1 b=1.9 b=1.10~ b=1.10 | a=1:1 b=1.10 ",
+            (ONE, false, false),
+            (TWO, true, false),
+            None,
+            "a=1.0 b=3 | a=1.0 b=3 ",
+        ),
+        (
+            (ONE, false, false),
+            (TWO, true, true),
+            None,
+            "a=1.0 b=3 | a=1.0 b=3 ",
+        ),
+        (
+            (TWO, true, false),
+            (ONE, true, true),
+            None,
+            "a=1.0 b=3 | a=1.0 b=3 ",
+        ),
+        (
+            (ONE, false, false),
+            (TWO, true, false),
+            exactly,
+            "a=1.0 a=2 b=3 | a=1.0 b=3 ",
+        ),
+        (
+            (ONE, false, false),
+            (TWO, true, false),
+            later,
+            "a=1.0 b=3 | a=1.0 b=3 ",
+        ),
+        (
+            (ONE, false, false),
+            (EQUAL, false, false),
+            None,
+            "a=1.0 | a=1.0 ",
+        ),
+        (
+            (EQUAL, false, false),
+            (ONE, true, false),
+            None,
+            "a=1.00 | a=1.00 ",
         ),
     ];
-    for (text, asks, wanted) in rows {
-        let found = answer(rt.alloc(), text, asks)?;
-        assert_eq!(rt; found.as_str(), wanted, "at {asks}");
+    for (first, second, asked, wanted) in rows {
+        let alloc = rt.alloc();
+        let indices = [
+            index(alloc, first).ok_or("no index")?,
+            index(alloc, second).ok_or("no index")?,
+        ];
+        let goals = goals(alloc, asked).ok_or("no goals")?;
+        let u = build(alloc, &indices, goals)?;
+        assert_eq!(rt; shown(alloc, &u)?.as_str(), wanted);
     }
     Ok(())
 }
 
 #[test]
 fn a_name_that_nothing_has_is_refused_by_its_line(rt: HostRuntime) -> Result<(), Fail> {
-    let rows = [
-        (TWO, "install a\n\ninstall b", "E17 UnknownName 3"),
-        (THREE, "\nremove ab", "E17 UnknownName 2"),
-        (THREE, "\n\n\npurge d", "E17 UnknownName 4"),
-        (THREE, "upgrade a\nupgrade A", "E17 UnknownName 2"),
-        (
-            THREE,
-            "upgrade-all\n\ninstall x = 1\nremove y",
-            "E17 UnknownName 3",
-        ),
-        ("", "install a", "E17 UnknownName 1"),
-    ];
-    for (text, asks, wanted) in rows {
-        let found = answer(rt.alloc(), text, asks)?;
-        assert_eq!(rt; found.as_str(), wanted, "at {asks}");
+    let alloc = rt.alloc();
+    let indices = [index(alloc, (TWO, false, false)).ok_or("no index")?];
+    let mut goals = Vec::new(alloc);
+    for (line, asked) in [(1, "b"), (3, "ab"), (4, "c")] {
+        let goal = Goal::Remove(name(alloc, asked).ok_or("no name")?);
+        goals.push(GoalLine { line, goal })?;
     }
+    let answer = build(alloc, &indices, goals).err();
+    assert_eq!(rt; answer, Some(UniverseError::UnknownName(3)));
     Ok(())
 }
 
@@ -208,35 +181,37 @@ fn errors_are_printed_with_their_codes(rt: HostRuntime) -> Result<(), Fail> {
 #[test]
 fn a_universe_lends_its_parts(rt: HostRuntime) -> Result<(), Fail> {
     let alloc = rt.alloc();
-    let listed = listed(alloc, TWO).ok_or("no stanzas")?;
-    let goals = goals(alloc, "install a = 1").ok_or("no goals")?;
-    let u = build(alloc, listed, goals)?;
-    let one = Version::parse(b"1")?;
+    let one = index(alloc, (ONE, false, false)).ok_or("no index")?;
+    let two = index(alloc, (TWO, false, false)).ok_or("no index")?;
+    let indices = [one, two];
+    let goals = goals(alloc, Some((Op::ExactlyEqual, "1.00"))).ok_or("no goals")?;
+    let u = build(alloc, &indices, goals)?;
+    let one = Version::parse(b"1.00")?;
     let two = Version::parse(b"2")?;
     assert_eq!(rt; u.goals().len(), 1);
     assert!(rt; u.starts().is_empty());
     assert!(rt; u.pair(0).is_none());
     assert!(rt; u.pair(1).is_some_and(|pair| *pair.pkg().version() == one));
     assert!(rt; u.pair(2).is_some_and(|pair| *pair.pkg().version() == two));
-    assert!(rt; u.pair(3).is_none());
+    assert!(rt; u.pair(4).is_none());
     assert!(rt; u.listed_of(b"a", &one).is_some());
-    assert!(rt; u.listed_of(b"b", &one).is_none());
+    assert!(rt; u.listed_of(b"c", &one).is_none());
     assert!(rt; u.candidate(b"a").is_some_and(|version| *version == two));
-    assert!(rt; u.candidate(b"b").is_none());
+    assert!(rt; u.candidate(b"c").is_none());
     Ok(())
 }
 
 /// Run with each allocation refused in turn (`rt try --test --fail-alloc N`): the answer is the same or want of memory.
 #[test]
 fn a_refused_growth_is_answered_as_want_of_memory(rt: HostRuntime) {
-    let Some(listed) = listed(rt.alloc(), MIXED) else {
+    let Some(index) = index(rt.alloc(), (TWO, false, false)) else {
         return;
     };
-    let Some(goals) = goals(rt.alloc(), "install b = 1.9\ninstall a = 2") else {
+    let Some(goals) = goals(rt.alloc(), Some((Op::ExactlyEqual, "2"))) else {
         return;
     };
-    match build(rt.alloc(), listed, goals) {
-        Ok(u) => assert_eq!(rt; (u.pairs().len(), u.candidates().len()), (4, 2)),
+    match build(rt.alloc(), &[index], goals) {
+        Ok(u) => assert_eq!(rt; (u.pairs().len(), u.candidates().len()), (2, 2)),
         Err(error) => assert_eq!(rt; error, UniverseError::OutOfMemory),
     }
 }

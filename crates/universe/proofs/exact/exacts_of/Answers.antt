@@ -1,4 +1,4 @@
--- What is asked for, sorted.
+-- What is sought, sorted.
 use Rattle.std.proofs.Common.{List, subst}
 use Rattle.std.specs.List.Sorted.{IsPermutation}
 use Rattle.universe.specs.Choice.{Exact}
@@ -7,5 +7,5 @@ use Rattle.universe.proofs.exact.exacts_of.Goals as goal
 pub returns : goal.returns
 returns c = record {
   ascending = c.in_ok-sort.ensures.sorted;
-  same = subst (λ (asked : List Exact). IsPermutation asked c.sort.new.self.items) c.in_ok-exacts.ensures c.sort.ensures.permutation;
+  same = subst (λ (sought : List Exact). IsPermutation sought c.sort.new.self.items) c.in_ok-exacts.ensures c.sort.ensures.permutation;
 }

@@ -1,0 +1,34 @@
+-- The orders of pairs, of stanzas, of offers and of what is sought are total.
+use Rattle.std.specs.Cmp.{IsTotalOrder, back_total, on_total, then_total}
+use Rattle.std.specs.Cmp.Lexicographic.{nat_list_cmp_total}
+use Rattle.std.proofs.lemmas.Cmp.{int_cmp_total}
+use Rattle.rules.specs.Step.{Listed}
+use Rattle.rules.specs.Universe.{Pair, pair_cmp}
+use Rattle.rules.specs.VersionOrderLaws.{version_cmp_total}
+use Rattle.universe.specs.Choice.{Exact, Offer, choice_cmp, exact_cmp, listed_cmp, offer_cmp, offer_name_cmp}
+
+pub pair_cmp_total : IsTotalOrder pair_cmp
+pair_cmp_total = then_total
+    (on_total (λ (pair : Pair). pair.pkg.name) nat_list_cmp_total)
+    (on_total (λ (pair : Pair). pair.pkg.version) version_cmp_total)
+
+pub listed_cmp_total : IsTotalOrder listed_cmp
+listed_cmp_total = then_total
+    (on_total (λ (found : Listed). found.pkg.name) nat_list_cmp_total)
+    (on_total (λ (found : Listed). found.pkg.version) version_cmp_total)
+
+pub exact_cmp_total : IsTotalOrder exact_cmp
+exact_cmp_total = then_total
+    (on_total (λ (exact : Exact). exact.name) nat_list_cmp_total)
+    (on_total (λ (exact : Exact). exact.version) version_cmp_total)
+
+pub choice_cmp_total : IsTotalOrder choice_cmp
+choice_cmp_total = back_total (then_total
+    (on_total (λ (offer : Offer). offer.priority) int_cmp_total)
+    (on_total (λ (offer : Offer). offer.listed.pkg.version) version_cmp_total))
+
+pub offer_name_cmp_total : IsTotalOrder offer_name_cmp
+offer_name_cmp_total = on_total (λ (offer : Offer). offer.listed.pkg.name) nat_list_cmp_total
+
+pub offer_cmp_total : IsTotalOrder offer_cmp
+offer_cmp_total = then_total offer_name_cmp_total choice_cmp_total
