@@ -47,7 +47,15 @@ fn outcome_of_words<H: Host>(
         return outcome_of_usage(alloc, &mistake(alloc, "an argument isn't UTF-8"));
     };
     match call_of(alloc, texts.as_slice()) {
-        Ok(Call::Compare(Comparison { version, relation, other })) => {
+        Ok(
+            Call::Compare(
+                Comparison {
+                    version,
+                    relation,
+                    other,
+                },
+            ),
+        ) => {
             let answer = compare(version.as_bytes(), relation, other.as_bytes());
             outcome_of_comparison(alloc, &answer)
         }

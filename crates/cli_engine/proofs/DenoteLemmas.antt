@@ -63,9 +63,12 @@ index_place arch number before (source ∷ sources) (text ∷ texts) refused sam
         → index_then number read (λ count. indices_from arch (number + 1) (before + count) sources texts) ≡ Err refused
         → ((count : ℕ) → indices_from arch (number + 1) (before + count) sources texts ≡ Err refused → IsAtAnIndex refused)
         → IsAtAnIndex refused
-    here (Err found) same later = (number, ap (λ (r : Refusal). r.place)
-        (err-same (record { place = place.Index number; fault = fault.Index found }) refused
-        (Err (record { place = place.Index number; fault = fault.Index found })) refl same))
+    here (Err found) same later = (
+      number,
+      ap (λ (r : Refusal). r.place)
+          (err-same (record { place = place.Index number; fault = fault.Index found }) refused
+          (Err (record { place = place.Index number; fault = fault.Index found })) refl same),
+    )
     here (Ok read) same later = later (length read.index.listed) (behind (read.index ∷ [])
         (indices_from arch (number + 1) (before + length read.index.listed) sources texts) refused same)
 

@@ -44,8 +44,8 @@ step : (arch : List ℕ) (number before i : ℕ) (all : List Index) (source : So
     (texts : List (Bor (List ℕ))) (d : Bor (List ℕ)) (read : ReadIndex) → i < length texts
     → read_index arch source.release before (get_or texts i d).now ≡ Ok read
     → with_indices all (indices_from arch number before (source ∷ sources) (bytes_of (drop i texts)))
-      ≡ with_indices (all ++ read.index ∷ [])
-          (indices_from arch (number + 1) (before + length read.index.listed) sources (bytes_of (drop (i + 1) texts)))
+    ≡ with_indices (all ++ read.index ∷ [])
+    (indices_from arch (number + 1) (before + length read.index.listed) sources (bytes_of (drop (i + 1) texts)))
 step arch number before i all source sources texts d read within is =
     ap (λ rest. with_indices all (indices_from arch number before (source ∷ sources) rest)) (bytes_more texts i d within)
     ∙ ap (λ r. with_indices all (index_then number r (λ count. indices_from arch (number + 1) (before + count) sources (bytes_of (drop (i + 1) texts))))) is
@@ -63,14 +63,14 @@ pub goes_on : (arch : List ℕ) (number before i : ℕ) (some more : List ReadIn
     → i < length texts → left ≡ source ∷ sources → release ≡ source.release
     → read_index arch release before (get_or texts i d).now ≡ Ok read → listed ≡ read.index.listed → more ≡ some ++ read ∷ []
     → with_indices (indices_of some) (indices_from arch number before left (bytes_of (drop i texts)))
-      ≡ with_indices (indices_of more)
-          (indices_from arch (number + 1) (before + length listed) sources (bytes_of (drop (i + 1) texts)))
+    ≡ with_indices (indices_of more)
+    (indices_from arch (number + 1) (before + length listed) sources (bytes_of (drop (i + 1) texts)))
 goes_on arch number before i some more left source sources texts d release read listed within next keys is those put =
     ap (λ named. with_indices (indices_of some) (indices_from arch number before named (bytes_of (drop i texts)))) next
     ∙ step arch number before i (indices_of some) source sources texts d read within
-      (ap (λ r. read_index arch r before (get_or texts i d).now) (sym keys) ∙ is)
+    (ap (λ r. read_index arch r before (get_or texts i d).now) (sym keys) ∙ is)
     ∙ ap (λ all. with_indices all (indices_from arch (number + 1) (before + length read.index.listed) sources (bytes_of (drop (i + 1) texts))))
-      (put_behind some more read put)
+    (put_behind some more read put)
     ∙ ap (λ found. with_indices (indices_of more) (indices_from arch (number + 1) (before + length found) sources (bytes_of (drop (i + 1) texts)))) (sym those)
 
 -- an index that is refused is the first refusal, where all that there is comes to what is left
@@ -79,17 +79,17 @@ pub is_refused : (arch : List ℕ) (number before i : ℕ) (all : List Index) (l
     → i < length texts → left ≡ source ∷ sources → release ≡ source.release
     → whole ≡ with_indices all (indices_from arch number before left (bytes_of (drop i texts)))
     → ((later : ℕ → Result (List Index) Refusal) → (refused ≡ out_of_memory)
-      ⊎ (index_then number (read_index arch release before (get_or texts i d).now) later ≡ Err refused))
+    ⊎ (index_then number (read_index arch release before (get_or texts i d).now) later ≡ Err refused))
     → (refused ≡ out_of_memory) ⊎ (whole ≡ Err refused)
 is_refused arch number before i all left source sources texts d release refused whole within next keys same is =
     elim (is (λ count. indices_from arch (number + 1) (before + count) sources (bytes_of (drop (i + 1) texts)))) [
-    | inl wanting ↦ inl wanting
-    | inr found ↦ inr (same
-        ∙ ap (λ named. with_indices all (indices_from arch number before named (bytes_of (drop i texts)))) next
-        ∙ ap (λ rest. with_indices all (indices_from arch number before (source ∷ sources) rest)) (bytes_more texts i d within)
-        ∙ ap (λ r. with_indices all (index_then number (read_index arch r before (get_or texts i d).now)
-            (λ count. indices_from arch (number + 1) (before + count) sources (bytes_of (drop (i + 1) texts))))) (sym keys)
-        ∙ ap (with_indices all) found)
+      | inl wanting ↦ inl wanting
+      | inr found ↦ inr (same
+          ∙ ap (λ named. with_indices all (indices_from arch number before named (bytes_of (drop i texts)))) next
+          ∙ ap (λ rest. with_indices all (indices_from arch number before (source ∷ sources) rest)) (bytes_more texts i d within)
+          ∙ ap (λ r. with_indices all (index_then number (read_index arch r before (get_or texts i d).now)
+          (λ count. indices_from arch (number + 1) (before + count) sources (bytes_of (drop (i + 1) texts))))) (sym keys)
+          ∙ ap (with_indices all) found)
     ]
 
 -- How many packages there are

@@ -1,22 +1,21 @@
 -- Texts have one meaning, and a meaning and a refusal exclude each other.
-use Rattle.std.proofs.Common.{◌≡◌, ℕ, ◌<◌, ◌≤◌, List, [], ◌∷◌, length, map, ◌⊎◌, Option, Some, None, Result, Ok, Err, refl, sym, ap, subst, ◌∙◌, arith}
+use Rattle.std.proofs.Common.{◌≡◌, ℕ, List, length, ◌⊎◌, Some, None, Result, Ok, Err, refl, sym, ap, subst, ◌∙◌, arith}
 use Rattle.rules.specs.Available.{Index, all_listed}
 use Rattle.rules.specs.Database.{Record}
 use Rattle.rules.specs.Universe.{IsUniverse, Universe}
 use Rattle.rules.specs.declared.goal.GoalLine.{GoalLine}
 use Rattle.universe.specs.Build.{first_unknown, goals_of, inputs_of}
-use Rattle.universe.specs.Error.{IsTooLarge, most_pairs}
+use Rattle.universe.specs.Error.{IsTooLarge}
 use Rattle.universe.specs.UniverseLaws.{OneListOfPairs}
 use Rattle.universe_request.specs.Request.{read_request}
-use Rattle.cli_engine.specs.Answer.{AreRead, Denotes, IsFault, IsFirstRefusal, IsRequestFault, IsRequested}
+use Rattle.cli_engine.specs.Answer.{AreRead, Denotes, IsFault, IsRequestFault, IsRequested}
 use Rattle.cli_engine.specs.Indices.{read_indices}
-use Rattle.cli_engine.specs.Meaning.{AreAlike, HasOneMeaning, MeaningIsNotRefused}
+use Rattle.cli_engine.specs.Meaning.{HasOneMeaning, MeaningIsNotRefused}
 use Rattle.cli_engine.specs.Texts.{Texts, first_later_goal, sources_of}
 use Rattle.cli_engine.specs.declared.refusal.Fault.{Fault}
 use Rattle.cli_engine.specs.declared.refusal.Fault.TheVariants as fault
 use Rattle.cli_engine.specs.declared.refusal.Place.{Place}
 use Rattle.cli_engine.specs.declared.refusal.Place.TheVariants as place
-use Rattle.cli_engine.specs.declared.refusal.Refusal.{Refusal}
 use mathlib.Core.Logic.{inl, inr}
 
 -- a result has one value
@@ -90,7 +89,7 @@ not_refused one texts u start plan place.Sources found is refused =
 not_refused one texts u start plan (place.Index number) found is refused =
     let same = ok-same is.read.sources refused.sources (sources_of texts.sources) is.read.sources_are refused.sources_are in
     absurd (let e : Ok is.indices ≡ Err (record { place = place.Index number; fault = found }) =
-        sym is.read.indices_are ∙ ap (λ named. read_indices texts.arch named texts.indices) same ∙ refused.refused in cc)
+    sym is.read.indices_are ∙ ap (λ named. read_indices texts.arch named texts.indices) same ∙ refused.refused in cc)
 not_refused one texts u start plan place.Request found is refused =
     absurd (not_requested one texts.arch texts.request is.indices is.lines u found is.requested
     (subst (λ indices. IsRequestFault texts.arch texts.request indices found)

@@ -1,5 +1,5 @@
 -- What the texts denote, what is refused of them, and what is answered of a plan.
-use Rattle.std.specs.Prelude.{◌≡◌, ℕ, ◌+◌, List, [], ◌∷◌, map, length, Option, Some, None, Result, Ok, Err, ⊤, false}
+use Rattle.std.specs.Prelude.{◌≡◌, ℕ, List, [], length, Some, None, Result, Ok, Err, ⊤, false}
 use Rattle.index.specs.Sources.{SourceText}
 use Rattle.rules.specs.Available.{Index, all_listed}
 use Rattle.rules.specs.Database.{Record}

@@ -1,5 +1,5 @@
 -- Two versions compared by their texts (Policy 5.6.12, deb-version(7)).
-use Rattle.std.specs.Prelude.{ℕ, Bool, not, List, Option, None, Some}
+use Rattle.std.specs.Prelude.{ℕ, Bool, not, List, Option}
 use Rattle.std.specs.Option.{option_map, option_or}
 use Rattle.std.specs.Ordering.{is_lt, is_le, is_eq, is_ge, is_gt}
 use Rattle.std.specs.declared.cmp.Ordering.{Ordering}

@@ -60,7 +60,7 @@ fn version_of(number: usize, text: &[u8]) -> Result<Version<'_>, Refusal>
 pub fn compare(version: &[u8], relation: Relation, other: &[u8]) -> Result<bool, Refusal>
     ensures { MatchResult result
         (λ answer. (comparison_refusal version.now other.now ≡ None)
-            × (answer ≡ holds relation (version_cmp version.now other.now)))
+        × (answer ≡ holds relation (version_cmp version.now other.now)))
         (λ refused. comparison_refusal version.now other.now ≡ Some refused) }
 {
     let version = version_of(1, version)?;

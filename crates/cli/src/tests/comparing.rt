@@ -31,10 +31,30 @@ fn versions_stand_as_deb_version_has_it(rt: HostRuntime) {
         ("debplan compare 1.0 ne 1.0", "no\n", "", 1),
         ("debplan compare 1.0 ge 1.0", "yes\n", "", 0),
         ("debplan compare 1.1 le 1.0", "no\n", "", 1),
-        ("debplan compare 1.0- eq 1", "", "debplan: version 1: E6 BadVersion EmptyRevision\n", 3),
-        ("debplan compare 1 eq a:1", "", "debplan: version 2: E6 BadVersion BadEpoch\n", 3),
-        ("debplan compare 1: eq ", "", "debplan: version 1: E6 BadVersion EmptyUpstream\n", 3),
-        ("debplan compare  eq 1", "", "debplan: version 1: E6 BadVersion Empty\n", 3),
+        (
+            "debplan compare 1.0- eq 1",
+            "",
+            "debplan: version 1: E6 BadVersion EmptyRevision\n",
+            3,
+        ),
+        (
+            "debplan compare 1 eq a:1",
+            "",
+            "debplan: version 2: E6 BadVersion BadEpoch\n",
+            3,
+        ),
+        (
+            "debplan compare 1: eq ",
+            "",
+            "debplan: version 1: E6 BadVersion EmptyUpstream\n",
+            3,
+        ),
+        (
+            "debplan compare  eq 1",
+            "",
+            "debplan: version 1: E6 BadVersion Empty\n",
+            3,
+        ),
     ];
     assert_eq!(rt; right_rows(rt.alloc(), &rows), rows.len());
 }
@@ -45,6 +65,13 @@ fn a_comparison_is_printed_as_an_answer(rt: HostRuntime) {
     assert!(rt; compare(b"1", Relation::Later, b"0") == Ok(true));
     assert!(rt; Relation::NotEqual.holds(Ordering::Less));
     assert!(rt; exit_of_comparison(false) == Exit::No);
-    assert!(rt; matches!(comparison_line(alloc, true), Ok(line) if line.as_slice() == b"yes\n".as_slice()));
-    assert!(rt; matches!(outcome_of_comparison(alloc, &Ok(true)), Ok(Outcome::Answer(_, Exit::Success))));
+    assert!(rt;
+        matches!(comparison_line(alloc, true), Ok(line) if line.as_slice() == b"yes\n".as_slice())
+    );
+    assert!(rt;
+        matches!(
+            outcome_of_comparison(alloc, &Ok(true)),
+            Ok(Outcome::Answer(_, Exit::Success))
+        )
+    );
 }

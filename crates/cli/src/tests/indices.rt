@@ -7,6 +7,7 @@ const BOTH: &str = "File: index1\n\nFile: index2\n";
 
 // The mail is provided by `x` without a version and by `y` as 2, and `z` is of another architecture.
 const APP: &str = "Package: app\nVersion: 1\nArchitecture: all\nDepends: mail (>= 2)\n";
+
 const MAIL: &str = "Package: x\nVersion: 1\nArchitecture: all\nProvides: mail\n\n\
     Package: y\nVersion: 1\nArchitecture: all\nProvides: mail (= 2)\n\n\
     Package: z\nVersion: 1\nArchitecture: i386\n";
@@ -19,10 +20,28 @@ fn a_package_of_one_index_meets_a_relation_of_another(rt: HostRuntime) {
     let foreign = "plan 1\nunpack z 1\n";
     let unknown = "debplan: request: E17 UnknownName 1\n";
     let rows = [
-        row_of(BOTH, [APP, MAIL], request, by_x, No("no step 4 F4 Depends\n")),
+        row_of(
+            BOTH,
+            [APP, MAIL],
+            request,
+            by_x,
+            No("no step 4 F4 Depends\n"),
+        ),
         row_of(BOTH, [APP, MAIL], request, by_y, Yes),
-        row_of(BOTH, [APP, MAIL], request, foreign, No("no step 1 F10 NotAdmitted\n")),
-        row_of(BOTH, [APP, MAIL], "install z\n", "plan 1\n", Refused(unknown)),
+        row_of(
+            BOTH,
+            [APP, MAIL],
+            request,
+            foreign,
+            No("no step 1 F10 NotAdmitted\n"),
+        ),
+        row_of(
+            BOTH,
+            [APP, MAIL],
+            "install z\n",
+            "plan 1\n",
+            Refused(unknown),
+        ),
     ];
     assert_eq!(rt; right_rows(rt.alloc(), &rows), rows.len());
 }

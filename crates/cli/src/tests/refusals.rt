@@ -92,8 +92,20 @@ fn sources_and_later_indices_are_refused_at_their_place(rt: HostRuntime) {
     let bad = "Package: b\nVersion: 1\nArchitecture: all\n\n\
         Package: c\nVersion: 1\nArchitecture: all\nDepends: a (= )\n";
     let rows = [
-        row_of(both, [A, bad], "", "", Refused("debplan: index 2: E7 BadRelation 8 5\n")),
-        row_of(both, [bad, "x\n"], "", "", Refused("debplan: index 1: E7 BadRelation 8 5\n")),
+        row_of(
+            both,
+            [A, bad],
+            "",
+            "",
+            Refused("debplan: index 2: E7 BadRelation 8 5\n"),
+        ),
+        row_of(
+            both,
+            [bad, "x\n"],
+            "",
+            "",
+            Refused("debplan: index 1: E7 BadRelation 8 5\n"),
+        ),
         row_of(
             "File: index1\n\nSuite: stable\n",
             [bad, ""],
@@ -123,13 +135,25 @@ fn a_plan_is_refused_at_its_first_bad_line(rt: HostRuntime) {
 #[test]
 fn what_is_not_judged_yet_is_named(rt: HostRuntime) {
     let rows = [
-        goal_row("install a\nremove a\npurge a\n", "debplan: request: E27 NotYet remove\n"),
+        goal_row(
+            "install a\nremove a\npurge a\n",
+            "debplan: request: E27 NotYet remove\n",
+        ),
         goal_row("purge a\n", "debplan: request: E27 NotYet purge\n"),
         goal_row("upgrade a\n", "debplan: request: E27 NotYet upgrade\n"),
-        goal_row("upgrade-all\n", "debplan: request: E27 NotYet upgrade-all\n"),
+        goal_row(
+            "upgrade-all\n",
+            "debplan: request: E27 NotYet upgrade-all\n",
+        ),
         goal_row("no-remove\n", "debplan: request: E27 NotYet no-remove\n"),
-        step_row("plan 1\ndeconfigure a\npurge a\n", "debplan: plan: E27 NotYet deconfigure\n"),
-        step_row("plan 1\nconfigure a b\n", "debplan: plan: E27 NotYet configure\n"),
+        step_row(
+            "plan 1\ndeconfigure a\npurge a\n",
+            "debplan: plan: E27 NotYet deconfigure\n",
+        ),
+        step_row(
+            "plan 1\nconfigure a b\n",
+            "debplan: plan: E27 NotYet configure\n",
+        ),
         step_row("plan 1\nremove a\n", "debplan: plan: E27 NotYet remove\n"),
         step_row("plan 1\npurge a\n", "debplan: plan: E27 NotYet purge\n"),
     ];

@@ -13,6 +13,6 @@ invariant-loop-source l = record {
   bounded : l.before ≤ PACKAGES;
   same : indices_from l.arch 1 0 l.fn.sources.items (map (λ (text : Bor (List ℕ)). text.now) l.texts)
       ≡ with_indices (indices_of l.indices.items)
-          (indices_from l.arch (l.number + 1) l.before (into_iter_items l.source-iterator)
-          (map (λ (text : Bor (List ℕ)). text.now) (drop l.number l.texts)));
+      (indices_from l.arch (l.number + 1) l.before (into_iter_items l.source-iterator)
+      (map (λ (text : Bor (List ℕ)). text.now) (drop l.number l.texts)));
 }
