@@ -1,5 +1,5 @@
--- What is printed of a verdict (this project's own form).
-use Rattle.std.specs.Prelude.{ℕ, List, ◌++◌, codes, decimal}
+-- What is printed of a verdict and of a comparison (this project's own form).
+use Rattle.std.specs.Prelude.{ℕ, Bool, List, ◌++◌, codes, decimal, if◌then◌else◌}
 use Rattle.rules.specs.declared.step.Reason.{Reason}
 use Rattle.rules.specs.declared.step.Reason.TheVariants as reason
 use Rattle.rules.specs.declared.step.Rule.{Rule}
@@ -39,3 +39,7 @@ verdict_words (verdict.End found) = codes "no end F11 " ++ reason_words found
 -- the line that is printed of a verdict
 abbrev pub verdict_line : Verdict → List ℕ
 verdict_line answer = verdict_words answer ++ codes "\n"
+
+-- the line that is printed of a comparison
+abbrev pub comparison_line : Bool → List ℕ
+comparison_line answer = codes (if answer then "yes\n" else "no\n")

@@ -1,5 +1,5 @@
 -- With which status the program ends: 0 yes, 1 no, 3 refused, 4 wrong words, 5 device or memory (this project's own).
-use Rattle.std.specs.Prelude.{ℕ}
+use Rattle.std.specs.Prelude.{ℕ, Bool, if◌then◌else◌}
 use Rattle.cli.specs.declared.exit.Exit.{Exit}
 use Rattle.cli.specs.declared.exit.Exit.TheVariants as exit
 use Rattle.cli_engine.specs.declared.refusal.Fault.{Fault}
@@ -22,10 +22,15 @@ exit_of_verdict verdict.Start = exit.No
 exit_of_verdict (verdict.Step number rule) = exit.No
 exit_of_verdict (verdict.End reason) = exit.No
 
+-- success for a yes, and no for a no
+abbrev pub exit_of_comparison : Bool → Exit
+exit_of_comparison answer = if answer then exit.Success else exit.No
+
 -- the device's for want of memory (E1) and a file that can't be read (E5), and refused for every other fault
 abbrev pub exit_of_fault : Fault → Exit
 exit_of_fault fault.OutOfMemory = exit.Device
 exit_of_fault fault.Read = exit.Device
+exit_of_fault (fault.Version kind) = exit.Refused
 exit_of_fault (fault.Stanza refused) = exit.Refused
 exit_of_fault (fault.Sources refused) = exit.Refused
 exit_of_fault (fault.Index refused) = exit.Refused

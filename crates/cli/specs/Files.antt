@@ -1,7 +1,7 @@
 -- The files of a host, and the texts that a plan is judged by where all of them can be read.
 use Rattle.std.specs.Prelude.{◌≡◌, ℕ, List, map, Option, Some, None, Ok}
 use Rattle.cli.specs.declared.arguments.Arguments.{Arguments}
-use Rattle.cli_engine.specs.Texts.{Texts, read_early_sources}
+use Rattle.cli_engine.specs.Texts.{Texts, sources_of}
 use Rattle.index.specs.Sources.{SourceText}
 
 -- what there is at a path, and nothing where none can be read
@@ -19,7 +19,7 @@ AreIndices files named texts = map (λ source. files source.file) named ≡ map 
 -- where reading hasn't stopped, the sources are read, and the texts are those of the indices that they name
 abbrev pub AreIndicesUnless : {A : Type 0} → Option A → Files → List ℕ → List (List ℕ) → Type 0
 AreIndicesUnless stopped files sources texts =
-    stopped ≡ None → (named : List SourceText) × (read_early_sources sources ≡ Ok named) × AreIndices files named texts
+    stopped ≡ None → (named : List SourceText) × (sources_of sources ≡ Ok named) × AreIndices files named texts
 
 -- the texts and the plan are what the files have at the paths of the arguments
 pub record AreTextsOf (files : Files) (arguments : Arguments) (texts : Texts) (plan : List ℕ) : Type 0 where
@@ -27,7 +27,7 @@ pub record AreTextsOf (files : Files) (arguments : Arguments) (texts : Texts) (p
   pub arch : texts.arch ≡ arguments.arch.now
   pub status : files arguments.status.now ≡ Some texts.status
   pub sources : files arguments.sources.now ≡ Some texts.sources
-  pub sources_are : read_early_sources texts.sources ≡ Ok named
+  pub sources_are : sources_of texts.sources ≡ Ok named
   pub indices : AreIndices files named texts.indices
   pub request : files arguments.request.now ≡ Some texts.request
   pub plan_is : files arguments.plan.now ≡ Some plan

@@ -1,8 +1,8 @@
 -- What the program prints, and how it ends, by its answer.
-use Rattle.std.specs.Prelude.{◌≡◌, ◌⊎◌, ℕ, List, ◌++◌, codes, Option, Result, Ok, Err}
+use Rattle.std.specs.Prelude.{◌≡◌, ◌⊎◌, ℕ, Bool, List, ◌++◌, codes, Option, Result, Ok, Err}
 use Rattle.std.specs.Io.KnownBytes.{Appends}
-use Rattle.cli.specs.Answer.{verdict_line}
-use Rattle.cli.specs.Exit.{code_of, exit_of_verdict, exit_of_fault}
+use Rattle.cli.specs.Answer.{comparison_line, verdict_line}
+use Rattle.cli.specs.Exit.{code_of, exit_of_comparison, exit_of_verdict, exit_of_fault}
 use Rattle.cli.specs.declared.exit.Exit.TheVariants as exit
 use Rattle.cli.specs.declared.outcome.Outcome.{Outcome}
 use Rattle.cli.specs.declared.outcome.Outcome.TheVariants as outcome
@@ -13,11 +13,20 @@ use Rattle.rules.specs.declared.step.Verdict.{Verdict}
 abbrev pub IsComplaint : List ℕ → Type 0
 IsComplaint line = (said : List ℕ) × (line ≡ codes "debplan: " ++ (said ++ codes "\n"))
 
+-- the outcome is that of the refusal: its line on standard error
+abbrev pub IsOutcomeOfRefusal : Refusal → Outcome → Type 0
+IsOutcomeOfRefusal refusal found =
+    (line : List ℕ) × (found ≡ outcome.Complaint line (exit_of_fault refusal.fault)) × IsComplaint line
+
 -- the outcome is that of the answer: a verdict's line on standard output, a refusal's on standard error
 abbrev pub IsOutcomeOf : Result Verdict Refusal → Outcome → Type 0
 IsOutcomeOf (Ok verdict) found = found ≡ outcome.Answer (verdict_line verdict) (exit_of_verdict verdict)
-IsOutcomeOf (Err refusal) found =
-    (line : List ℕ) × (found ≡ outcome.Complaint line (exit_of_fault refusal.fault)) × IsComplaint line
+IsOutcomeOf (Err refusal) found = IsOutcomeOfRefusal refusal found
+
+-- the outcome is that of the comparison: its line on standard output, a refusal's on standard error
+abbrev pub IsOutcomeOfComparison : Result Bool Refusal → Outcome → Type 0
+IsOutcomeOfComparison (Ok answer) found = found ≡ outcome.Answer (comparison_line answer) (exit_of_comparison answer)
+IsOutcomeOfComparison (Err refusal) found = IsOutcomeOfRefusal refusal found
 
 -- the outcome is written, by what standard output held and holds: an answer stands there behind the rest, or the
 -- program ends as where a device fails; of a complaint nothing stands there

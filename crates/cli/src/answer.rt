@@ -1,4 +1,4 @@
-// A verdict as the line that is printed of it (this project's own form).
+// A verdict and the answer of a comparison as the line that is printed of it (this project's own form).
 ghost use Rattle.std.specs.Prelude.{◌≡◌, ◌++◌, IfOk, codes, decimal};
 ghost use Rattle.cli.specs.Answer as Spec;
 
@@ -15,6 +15,17 @@ pub fn verdict_line(alloc: Global, verdict: &Verdict) -> Result<Vec<u8>, AllocEr
         Verdict::Start => b"no start F0 StartConflict\n".to_vec(alloc),
         Verdict::Step(number, rule) => step_line(alloc, *number, *rule),
         Verdict::End(reason) => end_line(alloc, reason),
+    }
+}
+
+/// The line that is printed of a comparison: `yes` or `no`. Memory alone can fail.
+pub fn comparison_line(alloc: Global, answer: bool) -> Result<Vec<u8>, AllocError>
+    ensures { IfOk result (λ line. line.items ≡ Spec.comparison_line answer) }
+{
+    if answer {
+        b"yes\n".to_vec(alloc)
+    } else {
+        b"no\n".to_vec(alloc)
     }
 }
 

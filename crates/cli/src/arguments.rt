@@ -3,6 +3,7 @@
 use crate::declare::program;
 use clap::error::ErrorKind;
 use clap::{ArgMatches, Error};
+use cli_engine::Relation;
 use std::alloc::{AllocError, Global};
 
 /// What a plan is to be judged by: the architecture that packages are for, and the paths of the files.
@@ -20,6 +21,26 @@ pub struct Arguments<'a> {
     pub plan: &'a str,
 }
 
+/// What two versions are to be compared as.
+#[derive(Clone, Copy, Debug)]
+pub(crate) struct Comparison<'a> {
+    /// The version.
+    pub(crate) version: &'a str,
+    /// How it is to stand to the other.
+    pub(crate) relation: Relation,
+    /// The other version.
+    pub(crate) other: &'a str,
+}
+
+/// What a command line asks for.
+#[derive(Clone, Copy, Debug)]
+pub(crate) enum Call<'a> {
+    /// To compare two versions.
+    Compare(Comparison<'a>),
+    /// To judge a plan.
+    CheckPlan(Arguments<'a>),
+}
+
 /// The words as text, unless one of them isn't UTF-8. Memory alone can fail.
 pub(crate) fn texts_of(alloc: Global, words: &[Vec<u8>]) -> Result<Option<Vec<&str>>, AllocError> {
     let mut texts = Vec::new(alloc);
@@ -32,29 +53,48 @@ pub(crate) fn texts_of(alloc: Global, words: &[Vec<u8>]) -> Result<Option<Vec<&s
     Ok(Some(texts))
 }
 
-/// The arguments that the words spell, or what is to be said of the words: help, or how they are wrong.
-pub(crate) fn arguments_of<'a>(
-    alloc: Global,
-    words: &'a [&'a str],
-) -> Result<Arguments<'a>, Error> {
+/// The call that the words spell, or what is to be said of the words: help, or how they are wrong.
+pub(crate) fn call_of<'a>(alloc: Global, words: &'a [&'a str]) -> Result<Call<'a>, Error> {
     let matches = program(alloc)?.try_get_matches_from(words)?;
-    let Some((_, options)) = matches.subcommand() else {
+    let Some((command, values)) = matches.subcommand() else {
         return Err(mistake(alloc, "a command is missing"));
     };
-    let Some(arguments) = found_in(options) else {
-        return Err(mistake(alloc, "an option is missing"));
+    let call = if command == "compare" {
+        comparison_in(values)
+    } else {
+        arguments_in(values)
     };
-    Ok(arguments)
+    call.ok_or_else(|| mistake(alloc, "a word is missing"))
 }
 
-fn found_in<'a>(options: &ArgMatches<'a>) -> Option<Arguments<'a>> {
-    Some(Arguments {
+fn comparison_in<'a>(values: &ArgMatches<'a>) -> Option<Call<'a>> {
+    Some(Call::Compare(Comparison {
+        version: values.get_str("version")?,
+        relation: relation_of(values.get_str("relation")?)?,
+        other: values.get_str("other")?,
+    }))
+}
+
+fn relation_of(word: &str) -> Option<Relation> {
+    match word {
+        "lt" => Some(Relation::Earlier),
+        "le" => Some(Relation::EarlierOrEqual),
+        "eq" => Some(Relation::Equal),
+        "ne" => Some(Relation::NotEqual),
+        "ge" => Some(Relation::LaterOrEqual),
+        "gt" => Some(Relation::Later),
+        _ => None,
+    }
+}
+
+fn arguments_in<'a>(options: &ArgMatches<'a>) -> Option<Call<'a>> {
+    Some(Call::CheckPlan(Arguments {
         arch: options.get_str("arch")?,
         status: options.get_str("status")?,
         sources: options.get_str("sources")?,
         request: options.get_str("request")?,
         plan: options.get_str("plan")?,
-    })
+    }))
 }
 
 /// What is to be said of words that are wrong as this text says.

@@ -45,6 +45,13 @@ pub fn exit_of_verdict(verdict: &Verdict) -> Exit
     }
 }
 
+/// How the program ends with this answer of a comparison.
+pub fn exit_of_comparison(answer: bool) -> Exit
+    ensures { result ≡ Spec.exit_of_comparison answer }
+{
+    if answer { Exit::Success } else { Exit::No }
+}
+
 /// How the program ends with this refusal: files and memory (E1, E5) have a status of their own.
 pub fn exit_of_refusal(refusal: &Refusal) -> Exit
     ensures { result ≡ Spec.exit_of_fault refusal.now.fault }

@@ -2,7 +2,7 @@
 ghost use Rattle.std.specs.Prelude.{◌≡◌, IfOk, List, None, Ok, Option, Some, length, map, ℕ};
 ghost use Rattle.cli.specs.Files.{AreTextsOf, Files};
 ghost use Rattle.cli_engine.specs.Answer.{HasItsIndices, IsAnswer};
-ghost use Rattle.cli_engine.specs.Texts.{Texts as TextsOf, read_early_sources};
+ghost use Rattle.cli_engine.specs.Texts.{Texts as TextsOf, sources_of};
 
 use crate::arguments::Arguments;
 use crate::host::Host;
@@ -35,7 +35,7 @@ pub fn check_plan<H: Host>(
 
 // What is answered of these texts.
 fn judged<'a>(alloc: Global, arch: &'a [u8], texts: &'a Texts) -> Result<Verdict, Refusal>
-    requires { HasItsIndices (read_early_sources texts.now.sources.items) (map (λ text. text.items) texts.now.indices.items) }
+    requires { HasItsIndices (sources_of texts.now.sources.items) (map (λ text. text.items) texts.now.indices.items) }
     ensures read { IfOk result (λ _. texts.now.stopped_at ≡ None) }
     ensures answer { IfOk result (λ verdict. IsAnswer (record {
       arch = arch.now;

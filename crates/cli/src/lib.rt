@@ -15,11 +15,11 @@ mod read;
 #[cfg(test)]
 mod tests;
 
-pub use answer::verdict_line;
+pub use answer::{comparison_line, verdict_line};
 pub use arguments::Arguments;
-pub use cli_engine::{Fault, Inputs, Later, Place, Refusal, check_plan_bytes};
-pub use exit::{Exit, exit_of_refusal, exit_of_verdict};
+pub use cli_engine::{Fault, Inputs, Later, Place, Refusal, Relation, check_plan_bytes, compare};
+pub use exit::{Exit, exit_of_comparison, exit_of_refusal, exit_of_verdict};
 pub use host::{Host, ReadError};
 pub use judge::check_plan;
-pub use outcome::{Outcome, outcome_of_answer};
+pub use outcome::{Outcome, outcome_of_answer, outcome_of_comparison};
 pub use program::{refuse_for_memory, run};

@@ -1,9 +1,9 @@
 // What the program prints, and on which stream.
 ghost use Rattle.std.specs.Prelude.{◌≡◌, IfOk};
-ghost use Rattle.cli.specs.Outcome.{IsComplaint, IsOutcomeOf};
+ghost use Rattle.cli.specs.Outcome.{IsComplaint, IsOutcomeOf, IsOutcomeOfComparison, IsOutcomeOfRefusal};
 
-use crate::answer::verdict_line;
-use crate::exit::{Exit, exit_of_refusal, exit_of_verdict};
+use crate::answer::{comparison_line, verdict_line};
+use crate::exit::{Exit, exit_of_comparison, exit_of_refusal, exit_of_verdict};
 use clap::Error;
 use clap::error::ErrorKind;
 use cli_engine::Refusal;
@@ -32,11 +32,33 @@ pub fn outcome_of_answer(
             let line = Items::new(verdict_line(alloc, verdict)?);
             Ok(Outcome::Answer(line, exit_of_verdict(verdict)))
         }
-        Err(refusal) => {
-            let line = Items::new(refusal_line(alloc, refusal)?);
-            Ok(Outcome::Complaint(line, exit_of_refusal(refusal)))
-        }
+        Err(refusal) => outcome_of_refusal(alloc, refusal),
     }
+}
+
+/// What is printed of a comparison: its line on standard output, or a refusal's on standard error. Memory alone can
+/// fail.
+pub fn outcome_of_comparison(
+    alloc: Global,
+    answer: &Result<bool, Refusal>,
+) -> Result<Outcome, AllocError>
+    ensures { IfOk result (λ outcome. IsOutcomeOfComparison answer.now outcome) }
+{
+    match answer {
+        Ok(answer) => {
+            let line = Items::new(comparison_line(alloc, *answer)?);
+            Ok(Outcome::Answer(line, exit_of_comparison(*answer)))
+        }
+        Err(refusal) => outcome_of_refusal(alloc, refusal),
+    }
+}
+
+// What is printed of a refusal.
+fn outcome_of_refusal(alloc: Global, refusal: &Refusal) -> Result<Outcome, AllocError>
+    ensures { IfOk result (λ outcome. IsOutcomeOfRefusal refusal.now outcome) }
+{
+    let line = Items::new(refusal_line(alloc, refusal)?);
+    Ok(Outcome::Complaint(line, exit_of_refusal(refusal)))
 }
 
 // The line that is printed of a refusal.

@@ -3,12 +3,13 @@ ghost use Rattle.std.specs.Prelude.{◌≡◌};
 ghost use Rattle.cli.specs.Outcome.{IsWritten};
 ghost use Rattle.cli.specs.declared.outcome.Outcome.{Outcome as Found};
 
-use crate::arguments::{arguments_of, mistake, texts_of};
+use crate::arguments::{Call, Comparison, call_of, mistake, texts_of};
 use crate::exit::Exit;
 use crate::host::Host;
 use crate::judge::check_plan;
-use crate::outcome::{Outcome, outcome_of_answer, outcome_of_usage};
+use crate::outcome::{Outcome, outcome_of_answer, outcome_of_comparison, outcome_of_usage};
 use crate::print::{complain, print};
+use cli_engine::compare;
 use std::alloc::{AllocError, Global};
 use std::io::Write;
 
@@ -45,8 +46,22 @@ fn outcome_of_words<H: Host>(
     let Some(texts) = texts_of(alloc, words)? else {
         return outcome_of_usage(alloc, &mistake(alloc, "an argument isn't UTF-8"));
     };
-    match arguments_of(alloc, texts.as_slice()) {
-        Ok(arguments) => outcome_of_answer(alloc, &check_plan(alloc, host, &arguments)),
+    match call_of(alloc, texts.as_slice()) {
+        Ok(
+            Call::Compare(
+                Comparison {
+                    version,
+                    relation,
+                    other,
+                },
+            ),
+        ) => {
+            let answer = compare(version.as_bytes(), relation, other.as_bytes());
+            outcome_of_comparison(alloc, &answer)
+        }
+        Ok(Call::CheckPlan(arguments)) => {
+            outcome_of_answer(alloc, &check_plan(alloc, host, &arguments))
+        }
         Err(error) => outcome_of_usage(alloc, &error),
     }
 }

@@ -2,11 +2,11 @@
 ghost use Rattle.std.specs.Prelude.{◌≡◌, IfOk, None, Some, length, map};
 ghost use Rattle.cli.specs.Files.{AreIndices, AreIndicesUnless, Files, IsFoundUnless};
 ghost use Rattle.cli_engine.specs.Answer.{HasItsIndices};
-ghost use Rattle.cli_engine.specs.Texts.{read_early_sources};
+ghost use Rattle.cli_engine.specs.Texts.{sources_of};
 
 use crate::arguments::Arguments;
 use crate::host::{Host, ReadError};
-use cli_engine::{Fault, Place, read_early_sources};
+use cli_engine::{Fault, Place, read_sources};
 use index::Source;
 use std::alloc::{AllocError, Global};
 
@@ -31,7 +31,7 @@ pub(crate) fn read_texts<H: Host>(
     arguments: &Arguments<'_>,
 ) -> Result<Texts, AllocError>
     ensures indices { IfOk result (λ texts.
-        HasItsIndices (read_early_sources texts.sources.items) (map (λ text. text.items) texts.indices.items)) }
+        HasItsIndices (sources_of texts.sources.items) (map (λ text. text.items) texts.indices.items)) }
     ensures status { (at : Files) → H.files host.old ≡ Some at → IfOk result (λ texts.
         IsFoundUnless texts.stopped_at (at arguments.now.status.now) texts.status.items) }
     ensures sources { (at : Files) → H.files host.old ≡ Some at → IfOk result (λ texts.
@@ -110,13 +110,13 @@ fn read_indices<H: Host>(
     stopped_at: &mut Option<Place>,
     sources: &[u8],
 ) -> Result<Vec<Vec<u8>>, AllocError>
-    ensures count { IfOk result (λ texts. HasItsIndices (read_early_sources sources.now) (map (λ text. text.items) texts.items)) }
+    ensures count { IfOk result (λ texts. HasItsIndices (sources_of sources.now) (map (λ text. text.items) texts.items)) }
     ensures texts { (at : Files) → H.files host.old ≡ Some at → IfOk result (λ texts.
         AreIndicesUnless stopped_at.new at sources.now (map (λ text. text.items) texts.items)) }
     ensures stays { stopped_at.new ≡ None → stopped_at.old ≡ None }
     ensures unchanged { H.files host.new ≡ H.files host.old }
 {
-    match read_early_sources(alloc, sources) {
+    match read_sources(alloc, sources) {
         Ok(named) => {
             let texts = read_each(alloc, host, stopped_at, named.as_slice())?;
             Ok(texts)

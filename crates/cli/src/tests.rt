@@ -1,4 +1,6 @@
 mod answers;
+mod comparing;
+mod indices;
 mod judging;
 mod opening;
 mod refusals;

@@ -1,74 +1,85 @@
 -- What texts that are read denote, and the refusal of an index as that of all texts.
-use Rattle.std.proofs.Common.{◌≡◌, ℕ, ◌+◌, ◌⊎◌, List, [], ◌∷◌, length, Option, Some, None, Result, Ok, Err, refl, sym, ap, subst, ◌∙◌, arith}
-use Rattle.std.specs.Option.{option_or}
-use Rattle.index.specs.Index.{IndexValue}
+use Rattle.std.proofs.Common.{◌≡◌, ℕ, ◌+◌, ◌⊎◌, List, [], ◌∷◌, length, None, Result, Ok, Err, refl, sym, ap, subst, ◌∙◌, arith}
+use Rattle.index.specs.Index.{ReadIndex, read_index}
 use Rattle.index.specs.Sources.{SourceText}
-use Rattle.rules.specs.Database.{Record, HasDistinctNames}
-use Rattle.rules.specs.Step.{Listed}
+use Rattle.index.specs.declared.error.IndexFault.{IndexFault}
+use Rattle.rules.specs.Available.{Index}
+use Rattle.rules.specs.Database.{HasDistinctNames}
 use Rattle.rules.specs.Universe.{Universe}
 use Rattle.rules.specs.Verdict.{IsBuiltOn, UniverseIsBuilt}
 use Rattle.rules.specs.declared.goal.GoalLine.{GoalLine}
 use Rattle.universe.specs.Build.{goals_of, inputs_of}
-use Rattle.cli_engine.specs.Answer.{AreRead, Denotes, HasItsIndices, IsFirstRefusal, IsRequested, indices_of, indices_refusal, listed_in}
-use Rattle.cli_engine.specs.Reading.{out_of_memory, refusal_at}
-use Rattle.cli_engine.specs.Texts.{Texts, read_early_index, read_early_sources, status_fault}
-use Rattle.cli_engine.specs.declared.refusal.Fault.{Fault}
+use Rattle.cli_engine.specs.Answer.{AreRead, Denotes, IsFirstRefusal, IsRequested}
+use Rattle.cli_engine.specs.Indices.{index_then, indices_from, read_indices, with_indices}
+use Rattle.cli_engine.specs.Reading.{out_of_memory}
+use Rattle.cli_engine.specs.Texts.{Texts, sources_of, status_fault}
+use Rattle.cli_engine.specs.declared.refusal.Fault.TheVariants as fault
 use Rattle.cli_engine.specs.declared.refusal.Place.TheVariants as place
 use Rattle.cli_engine.specs.declared.refusal.Refusal.{Refusal}
-use Rattle.cli_engine.proofs.SourcesLemmas.{early_indices_usual, early_sources_usual, indices_stanzas}
 use Rattle.cli_engine.proofs.StatusLemmas.{no_stanzas}
 use mathlib.Core.Logic.{inl, inr}
 
 -- texts that are read, with a request that is answered, denote its universe
-pub denotes : (texts : Texts) (u : Universe) (listed : List Listed) → ((sources : List SourceText) × AreRead texts sources)
-    → listed ≡ listed_in texts.arch texts.indices
-    → ((lines : List GoalLine) × IsRequested texts.arch texts.request listed lines u)
-    → HasItsIndices (read_early_sources texts.sources) texts.indices → Denotes texts u []
-denotes texts u listed read same requested its = record {
-  sources = read.0;
+pub denotes : (texts : Texts) (u : Universe) (indices : List Index) → AreRead texts indices
+    → ((lines : List GoalLine) × IsRequested texts.arch texts.request indices lines u) → Denotes texts u []
+denotes texts u indices read requested = record {
+  indices = indices;
   lines = requested.0;
-  read = read.1;
-  nothing_installed = no_stanzas texts.status read.1.status;
+  read = read;
+  nothing_installed = no_stanzas texts.status read.status;
   from_nothing = refl;
-  requested = subst (λ (l : List Listed). IsRequested texts.arch texts.request l requested.0 u) same requested.1;
-  universe = requested.1.built.universe (indices_of texts.arch read.0 texts.indices) (record {
-    stanzas = indices_stanzas texts.arch read.0 texts.indices
-        (subst (λ r. HasItsIndices r texts.indices) read.1.sources_are its) ∙ sym same;
-    usual = early_indices_usual texts.arch read.0 texts.indices (early_sources_usual texts.sources read.0 read.1.sources_are);
-  });
+  requested = requested.1;
 }
 
 -- a universe that texts denote is built on the empty start
 pub built_on_nothing : UniverseIsBuilt → (texts : Texts) (u : Universe) → Denotes texts u [] → IsBuiltOn [] u
 unfolding HasDistinctNames
 built_on_nothing law texts u denoted =
-    law (inputs_of (indices_of texts.arch denoted.sources texts.indices) (goals_of denoted.lines)) u
-    (λ i j d before within. absurd (omega (arith, within))) denoted.universe
+    law (inputs_of denoted.indices (goals_of denoted.lines)) u
+    (λ i j d before within. absurd (omega (arith, within))) denoted.requested.built.universe
 
--- the refusal of an index is at the place of an index
-index_place : (arch : List ℕ) (number : ℕ) (texts : List (List ℕ)) (refused : Refusal) → indices_refusal arch number texts ≡ Some refused
-    → (at : ℕ) × (refused.place ≡ place.Index at)
-index_place arch number [] refused found = absurd (let e = found in cc)
-index_place arch number (text ∷ texts) refused found =
-    here (read_early_index arch text) found (index_place arch (number + 1) texts refused)
+-- there is a number such that the refusal is at the index of this number
+abbrev IsAtAnIndex : Refusal → Type 0
+IsAtAnIndex refused = (at : ℕ) × (refused.place ≡ place.Index at)
+
+-- a refusal behind indices that are read is one of what follows them
+behind : (some : List Index) (later : Result (List Index) Refusal) (refused : Refusal) → with_indices some later ≡ Err refused
+    → later ≡ Err refused
+behind some (Ok indices) refused same = absurd (let e = same in cc)
+behind some (Err found) refused same = same
+
+-- the refusal of indices is at the place of one
+index_place : (arch : List ℕ) (number before : ℕ) (sources : List SourceText) (texts : List (List ℕ)) (refused : Refusal)
+    → indices_from arch number before sources texts ≡ Err refused → IsAtAnIndex refused
+index_place arch number before [] texts refused same = absurd (let e = same in cc)
+index_place arch number before (source ∷ sources) [] refused same = absurd (let e = same in cc)
+index_place arch number before (source ∷ sources) (text ∷ texts) refused same = here (read_index arch source.release before text) same
+    (λ count. index_place arch (number + 1) (before + count) sources texts refused)
   where
-    some-same : (one other : Refusal) → Some one ≡ Some other → other ≡ one
-    some-same one other same = cc
+    err-same : (one other : Refusal) (made : Result (List Index) Refusal) → made ≡ Err one → made ≡ Err other → other ≡ one
+    err-same one other made first second = let e = sym first ∙ second in cc
 
-    here : (read : Result IndexValue Fault)
-        → option_or (refusal_at (place.Index number) read) (indices_refusal arch (number + 1) texts) ≡ Some refused
-        → (indices_refusal arch (number + 1) texts ≡ Some refused → (at : ℕ) × (refused.place ≡ place.Index at))
-        → (at : ℕ) × (refused.place ≡ place.Index at)
-    here (Ok index) same later = later same
-    here (Err fault) same later = (number, ap (λ (r : Refusal). r.place) (some-same (record { place = place.Index number; fault = fault }) refused same))
+    here : (read : Result ReadIndex IndexFault)
+        → index_then number read (λ count. indices_from arch (number + 1) (before + count) sources texts) ≡ Err refused
+        → ((count : ℕ) → indices_from arch (number + 1) (before + count) sources texts ≡ Err refused → IsAtAnIndex refused)
+        → IsAtAnIndex refused
+    here (Err found) same later = (
+      number,
+      ap (λ (r : Refusal). r.place)
+          (err-same (record { place = place.Index number; fault = fault.Index found }) refused
+          (Err (record { place = place.Index number; fault = fault.Index found })) refl same),
+    )
+    here (Ok read) same later = later (length read.index.listed) (behind (read.index ∷ [])
+        (indices_from arch (number + 1) (before + length read.index.listed) sources texts) refused same)
 
 -- the first refusal of the indices is that of all texts, where those before them are read
 pub index_refused : (texts : Texts) (plan : List ℕ) (sources : List SourceText) (refused : Refusal) → status_fault texts.status ≡ None
-    → read_early_sources texts.sources ≡ Ok sources
-    → (refused ≡ out_of_memory) ⊎ (indices_refusal texts.arch 1 texts.indices ≡ Some refused) → IsFirstRefusal texts plan refused
+    → sources_of texts.sources ≡ Ok sources
+    → (refused ≡ out_of_memory) ⊎ (read_indices texts.arch sources texts.indices ≡ Err refused) → IsFirstRefusal texts plan refused
+unfolding read_indices
 index_refused texts plan sources refused status read (inl wanting) = subst (IsFirstRefusal texts plan) (sym wanting) refl
 index_refused texts plan sources refused status read (inr found) =
-    let at = index_place texts.arch 1 texts.indices refused found in
+    let at = index_place texts.arch 1 0 sources texts.indices refused found in
     let is : refused ≡ record { place = place.Index at.0; fault = refused.fault } = ap (λ p. record { place = p; fault = refused.fault }) at.1 in
     subst (IsFirstRefusal texts plan) (sym is)
-    (record { sources = sources; status = status; sources_are = read; refused = found ∙ ap Some is })
+    (record { sources = sources; status = status; sources_are = read; refused = found ∙ ap Err is })

@@ -3,5 +3,4 @@ pub mod IndicesLemmas
 pub mod MeaningLemmas
 pub mod PlacedLemmas
 pub mod SingleLemmas
-pub mod SourcesLemmas
 pub mod StatusLemmas

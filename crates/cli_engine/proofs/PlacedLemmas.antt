@@ -1,10 +1,9 @@
 -- A fault of the text at a place, as a refusal, is the first one.
-use Rattle.std.proofs.Common.{◌≡◌, ◌≢◌, ℕ, ◌⊎◌, List, refl, sym, subst}
+use Rattle.std.proofs.Common.{ℕ, List, refl, sym, subst}
 use Rattle.cli_engine.specs.Answer.{IsFault, IsFirstRefusal}
-use Rattle.cli_engine.specs.Reading.{IsPlaced, OrMemory, out_of_memory}
+use Rattle.cli_engine.specs.Reading.{IsPlaced, OrMemory}
 use Rattle.cli_engine.specs.Texts.{Texts}
 use Rattle.cli_engine.specs.declared.refusal.Fault.{Fault}
-use Rattle.cli_engine.specs.declared.refusal.Fault.TheVariants as fault
 use Rattle.cli_engine.specs.declared.refusal.Place.{Place}
 use Rattle.cli_engine.specs.declared.refusal.Refusal.{Refusal}
 use mathlib.Core.Logic.{inl, inr}

@@ -2,7 +2,7 @@
 use Rattle.std.specs.Prelude.{◌≡◌, map, None}
 use Rattle.std.specs.Option.{option_map}
 use Rattle.cli_engine.specs.Answer.{HasItsIndices}
-use Rattle.cli_engine.specs.Texts.{Texts, read_early_sources}
+use Rattle.cli_engine.specs.Texts.{Texts, sources_of}
 use Rattle.cli_engine.specs.declared.inputs.Inputs.{Inputs}
 
 -- the texts of the inputs
@@ -19,6 +19,6 @@ texts_of inputs = record {
 
 -- the texts are those that are judged today: one of an index for each of the sources, no preferences and no target
 pub record AreJudged (texts : Texts) : Type 0 where
-  pub indices : HasItsIndices (read_early_sources texts.sources) texts.indices
+  pub indices : HasItsIndices (sources_of texts.sources) texts.indices
   pub preferences : texts.preferences ≡ None
   pub target : texts.target ≡ None

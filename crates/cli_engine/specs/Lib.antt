@@ -1,4 +1,6 @@
 pub mod Answer
+pub mod Comparison
+pub mod Indices
 pub mod Inputs
 pub mod Meaning
 pub mod Reading

@@ -1,5 +1,5 @@
 -- Readings of a text, and what is refused for having something that isn't judged yet.
-use Rattle.std.specs.Prelude.{◌≡◌, ◌≢◌, ◌⊎◌, ℕ, List, Option, Some, None, Result, Ok, Err}
+use Rattle.std.specs.Prelude.{◌≡◌, ◌≢◌, ◌⊎◌, Option, Some, None, Result, Ok, Err}
 use Rattle.cli_engine.specs.declared.refusal.Fault.{Fault}
 use Rattle.cli_engine.specs.declared.refusal.Fault.TheVariants as fault
 use Rattle.cli_engine.specs.declared.refusal.Later.{Later}
@@ -34,8 +34,3 @@ out_of_memory = record { place = place.Memory; fault = fault.OutOfMemory }
 abbrev pub IsPlaced : Place → Fault → Refusal → Type 0
 IsPlaced where_ found refused = ((found ≡ fault.OutOfMemory) × (refused ≡ out_of_memory))
     ⊎ ((found ≢ fault.OutOfMemory) × (refused ≡ record { place = where_; fault = found }))
-
--- the refusal of a reading of the text at this place, if it is refused
-abbrev pub refusal_at : {A : Type 0} → Place → Result A Fault → Option Refusal
-refusal_at where_ (Ok read) = None
-refusal_at where_ (Err refused) = Some (record { place = where_; fault = refused })

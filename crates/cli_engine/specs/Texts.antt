@@ -1,11 +1,7 @@
--- The texts that a request is answered from, and what each is read as: today a status file without a stanza, sources
--- without release keys, of the relation fields Depends alone, `install` goals, and the unpacking and the configuring
--- of one package.
-use Rattle.std.specs.Prelude.{ℕ, ◌+◌, ◌==◌, Bool, not, List, [], ◌∷◌, ◌++◌, length, nat_lt, false, Option, Some, None, Result, Ok, Err, if◌then◌else◌}
-use Rattle.std.specs.List.{flat_map}
+-- The texts that a request is answered from, and what each is read as: today a status file without a stanza, `install`
+-- goals, and the unpacking and the configuring of one package.
+use Rattle.std.specs.Prelude.{ℕ, ◌==◌, List, [], ◌∷◌, length, nat_lt, false, Option, Some, None, Result, Ok, Err, if◌then◌else◌}
 use Rattle.std.specs.Option.{option_map, option_or}
-use Rattle.index.specs.Index.{IndexValue, read_index}
-use Rattle.index.specs.Later.{has_later_keys, later_field}
 use Rattle.index.specs.Sources.{SourceText, read_sources}
 use Rattle.plantext.specs.Plan.{read_plan}
 use Rattle.rules.specs.declared.goal.Goal.{Goal}
@@ -54,20 +50,9 @@ status_fault text =
 
 -- The sources
 
--- release keys and a second stanza aren't judged yet
-abbrev pub later_sources : List ℕ → Option Later
-later_sources text = if has_later_keys text then Some later.Sources else None
-
 -- what the sources are read as
-unfoldable pub read_early_sources : List ℕ → Result (List SourceText) Fault
-read_early_sources text = unless_later (later_sources text) (with_fault fault.Sources (read_sources text))
-
--- The indices
-
--- what an index is read as
-unfoldable pub read_early_index : List ℕ → List ℕ → Result IndexValue Fault
-read_early_index arch text =
-    unless_later (option_map later.Field (later_field text)) (with_fault fault.Index (read_index arch text))
+abbrev pub sources_of : List ℕ → Result (List SourceText) Fault
+sources_of text = with_fault fault.Sources (read_sources text)
 
 -- The request
 

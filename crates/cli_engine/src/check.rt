@@ -1,8 +1,8 @@
 // A plan judged by texts, read in the order status, sources, indices, request and plan.
 
-ghost use Rattle.std.specs.Prelude.{◌≡◌, ℕ, [], IfErr, IfOk, List};
-ghost use Rattle.index.specs.Sources.{SourceText};
-ghost use Rattle.cli_engine.specs.Answer.{AreRead, Denotes, IsAnswer, IsFirstRefusal, listed_in};
+ghost use Rattle.std.specs.Prelude.{ℕ, [], IfErr, IfOk, List};
+ghost use Rattle.universe.specs.Build.{indices_of};
+ghost use Rattle.cli_engine.specs.Answer.{AreRead, Denotes, IsAnswer, IsFirstRefusal};
 ghost use Rattle.cli_engine.specs.Inputs.{AreJudged, texts_of};
 
 use crate::indices::read_indices;
@@ -10,28 +10,29 @@ use crate::inputs::Inputs;
 use crate::plan::read_early_plan;
 use crate::refusal::{Place, Refusal, refused_at};
 use crate::request::read_request;
-use crate::sources::read_early_sources;
+use crate::sources::read_sources;
 use crate::status_text::check_status;
-use index::Listed;
+use index::Index;
 use plancheck::check_plan;
 use rules::{Verdict, universe_is_built};
 use std::alloc::Global;
 use universe::Universe;
 
-// The stanzas of the indices, once the status file and the sources are read.
-fn read_stanzas<'a>(alloc: Global, inputs: &Inputs<'_, 'a>) -> Result<Vec<Listed<'a>>, Refusal>
-    ensures read { IfOk result (λ _. (sources : List SourceText) × AreRead (texts_of inputs.now) sources) }
-    ensures ok { IfOk result (λ listed. listed.items ≡ listed_in inputs.now.arch.now (texts_of inputs.now).indices) }
+// The indices, once the status file and the sources are read.
+fn indices_in<'a>(alloc: Global, inputs: &Inputs<'_, 'a>) -> Result<Vec<Index<'a>>, Refusal>
+    requires { AreJudged (texts_of inputs.now) }
+    ensures ok { IfOk result (λ indices. AreRead (texts_of inputs.now) (indices_of indices.items)) }
     ensures err { (plan : List ℕ) → IfErr result (λ refused. IsFirstRefusal (texts_of inputs.now) plan refused) }
 {
     if let Err(fault) = check_status(inputs.status) {
         return Err(refused_at(Place::Status, fault));
     }
-    if let Err(fault) = read_early_sources(alloc, inputs.sources) {
-        return Err(refused_at(Place::Sources, fault));
-    }
-    match read_indices(alloc, inputs.indices, inputs.arch) {
-        Ok(listed) => Ok(listed),
+    let sources = match read_sources(alloc, inputs.sources) {
+        Ok(sources) => sources,
+        Err(fault) => return Err(refused_at(Place::Sources, fault)),
+    };
+    match read_indices(alloc, sources, inputs.indices, inputs.arch) {
+        Ok(indices) => Ok(indices),
         Err(refused) => Err(refused),
     }
 }
@@ -42,8 +43,8 @@ fn read_inputs<'a>(alloc: Global, inputs: &Inputs<'_, 'a>) -> Result<Universe<'a
     ensures ok { IfOk result (λ u. Denotes (texts_of inputs.now) u []) }
     ensures err { (plan : List ℕ) → IfErr result (λ refused. IsFirstRefusal (texts_of inputs.now) plan refused) }
 {
-    let listed = read_stanzas(alloc, inputs)?;
-    match read_request(alloc, listed, inputs.request, inputs.arch) {
+    let indices = indices_in(alloc, inputs)?;
+    match read_request(alloc, indices.as_slice(), inputs.request, inputs.arch) {
         Ok(universe) => Ok(universe),
         Err(fault) => Err(refused_at(Place::Request, fault)),
     }

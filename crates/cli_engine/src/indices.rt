@@ -1,67 +1,68 @@
-// The indices, of whose relation fields today Depends alone is judged.
+// The indices, of which there is one for each stanza of the sources.
 
-ghost use Rattle.std.specs.Prelude.{◌≡◌, ◌⊎◌, ◌++◌, IfErr, IfOk, None, Ok, Some, map};
+ghost use Rattle.std.specs.Prelude.{◌≡◌, ◌⊎◌, Err, IfErr, IfOk, List, Ok, Result, length, map, ℕ};
 ghost use Rattle.index.specs.Index as Read;
-ghost use Rattle.cli_engine.specs.Answer.{indices_refusal, listed_in};
-ghost use Rattle.cli_engine.specs.Reading.{IsFaultOf, out_of_memory, with_fault};
-ghost use Rattle.cli_engine.specs.Texts as Spec;
-ghost use Rattle.cli_engine.specs.declared.refusal.Fault.TheVariants as fault;
+ghost use Rattle.rules.specs.Available.{Index as IndexValue};
+ghost use Rattle.universe.specs.Build.{indices_of};
+ghost use Rattle.cli_engine.specs.Indices.{index_then};
+ghost use Rattle.cli_engine.specs.Indices as Spec;
+ghost use Rattle.cli_engine.specs.Reading.{out_of_memory};
+ghost use Rattle.cli_engine.specs.declared.refusal.Refusal.{Refusal as RefusalOf};
 
-use crate::refusal::{Fault, Later, Place, Refusal, refused_at};
-use index::{IndexError, IndexText, Listed, later_field, read_index};
-use std::alloc::{AllocError, Global};
+use crate::refusal::{Fault, Place, Refusal, refused_at};
+use index::{Index, IndexError, Source};
+use rules::Release;
+use std::alloc::Global;
 
-fn index_in<'a>(alloc: Global, text: &'a [u8], arch: &[u8]) -> Result<IndexText<'a>, Fault>
-    ensures ok { IfOk result (λ index. with_fault fault.Index (Read.read_index arch.now text.now) ≡ Ok index) }
-    ensures err { IfErr result (λ f. IsFaultOf (with_fault fault.Index (Read.read_index arch.now text.now)) f) }
+// The index of this number, behind so many packages of those before it.
+fn index_at<'a>(
+    alloc: Global,
+    number: usize,
+    text: &'a [u8],
+    release: Release,
+    arch: &'a [u8],
+    before: usize,
+) -> Result<Index<'a>, Refusal>
+    ensures ok { IfOk result (λ index. Read.read_index arch.now release before text.now ≡ Ok index) }
+    ensures err { (later : ℕ → Result (List IndexValue) RefusalOf) → IfErr result (λ refused. (refused ≡ out_of_memory)
+        ⊎ (index_then number (Read.read_index arch.now release before text.now) later ≡ Err refused)) }
 {
-    match read_index(alloc, text, arch) {
+    match Index::read(alloc, text, release, arch, before) {
         Ok(index) => Ok(index),
-        Err(IndexError::Refused(refused)) => Err(Fault::Index(refused)),
-        Err(IndexError::OutOfMemory) => Err(Fault::OutOfMemory),
+        Err(IndexError::Refused(refused)) => {
+            Err(refused_at(Place::Index(number), Fault::Index(refused)))
+        }
+        Err(IndexError::OutOfMemory) => Err(refused_at(Place::Index(number), Fault::OutOfMemory)),
     }
 }
 
-// The index of a text; relation fields other than Depends are refused today, after every other refusal.
-#[tactic(auto, unfolding(crate::specs::Texts::read_early_index))]
-fn read_early_index<'a>(alloc: Global, text: &'a [u8], arch: &[u8]) -> Result<IndexText<'a>, Fault>
-    ensures ok { IfOk result (λ index. Spec.read_early_index arch.now text.now ≡ Ok index) }
-    ensures err { IfErr result (λ f. IsFaultOf (Spec.read_early_index arch.now text.now) f) }
-{
-    let index = index_in(alloc, text, arch)?;
-    match later_field(text) {
-        None => Ok(index),
-        Some(field) => Err(Fault::NotYet(Later::Field(field))),
-    }
-}
-
-// Puts the stanzas behind the others.
-fn put_behind<'a>(all: &mut Vec<Listed<'a>>, listed: Vec<Listed<'a>>) -> Result<(), AllocError>
-    ensures { IfOk result (λ _. all.new.items ≡ all.old.items ++ listed.entry.items) }
-{
-    let mut rest = listed;
-    all.append(&mut rest)
-}
-
-/// The stanzas of the indices in their order, or the first refusal. Linear in the texts.
+/// The indices that the texts of these sources are, or the first refusal: of more packages than are read too, which is
+/// that of the index that has the first one too many. Linear in the texts.
 pub(crate) fn read_indices<'a>(
     alloc: Global,
+    sources: Vec<Source<'a>>,
     texts: &[&'a [u8]],
-    arch: &[u8],
-) -> Result<Vec<Listed<'a>>, Refusal>
-    ensures accepted { IfOk result (λ _. indices_refusal arch.now 1 (map (λ text. text.now) texts.now) ≡ None) }
-    ensures ok { IfOk result (λ listed. listed.items ≡ listed_in arch.now (map (λ text. text.now) texts.now)) }
+    arch: &'a [u8],
+) -> Result<Vec<Index<'a>>, Refusal>
+    requires { length texts.now ≡ length sources.items }
+    ensures ok { IfOk result (λ indices.
+        Spec.read_indices arch.now sources.entry.items (map (λ text. text.now) texts.now) ≡ Ok (indices_of indices.items)) }
     ensures err { IfErr result (λ refused. (refused ≡ out_of_memory)
-        ⊎ (indices_refusal arch.now 1 (map (λ text. text.now) texts.now) ≡ Some refused)) }
+        ⊎ (Spec.read_indices arch.now sources.entry.items (map (λ text. text.now) texts.now) ≡ Err refused)) }
 {
-    let mut all = Vec::new(alloc);
+    let mut indices = Vec::new(alloc);
+    let mut before = 0;
     let mut number = 0;
-    for text in texts {
+    for source in sources {
+        let text = texts[number];
         number += 1;
-        match read_early_index(alloc, text, arch) {
-            Ok(index) => put_behind(&mut all, index.into_listed())?,
-            Err(fault) => return Err(refused_at(Place::Index(number), fault)),
-        }
+        let release = source.into_release();
+        let index = match index_at(alloc, number, text, release, arch, before) {
+            Ok(index) => index,
+            Err(refused) => return Err(refused),
+        };
+        before += index.packages().len();
+        indices.push(index)?;
     }
-    Ok(all)
+    Ok(indices)
 }

@@ -4,6 +4,7 @@
 #![tactic(auto)]
 
 mod check;
+mod comparison;
 mod indices;
 mod inputs;
 mod laws;
@@ -14,8 +15,9 @@ mod sources;
 mod status_text;
 
 pub use check::check_plan_bytes;
+pub use comparison::{Relation, compare};
 pub use inputs::Inputs;
 pub use laws::{a_meaning_is_not_refused, texts_have_one_meaning};
 pub use refusal::{Fault, Later, Place, Refusal};
 pub use rules::{Reason, Rule, Verdict};
-pub use sources::read_early_sources;
+pub use sources::read_sources;

@@ -3,16 +3,20 @@
 ghost use Rattle.std.specs.Prelude.{◌≡◌};
 ghost use Rattle.cli_engine.specs.Reading.{IsPlaced, out_of_memory};
 
-use index::{IndexFault, LaterField, SourcesFault};
+use index::{IndexFault, SourcesFault};
 use plantext::PlanFault;
+use rules::BadVersion;
 use stanza::StanzaError;
-use std::alloc::AllocError;
+use std::alloc::{AllocError, AllocFailed};
 use thiserror::Error;
 use universe_request::RequestFault;
 
 /// The text that is refused.
 #[derive(Clone, Copy, Debug, PartialEq, Eq, Error)]
 pub enum Place {
+    /// The version of this number among those of a comparison, counted from 1.
+    #[error("version {0}")]
+    Version(usize),
     /// The status file.
     #[error("status")]
     Status,
@@ -39,12 +43,6 @@ pub enum Later {
     /// A stanza of the status file.
     #[error("status")]
     Status,
-    /// A second stanza of the sources, or a field other than File and Explanation.
-    #[error("sources")]
-    Sources,
-    /// This relation field of an index.
-    #[error("{0}")]
-    Field(LaterField),
     /// The goal `remove`.
     #[error("remove")]
     Remove,
@@ -71,6 +69,9 @@ pub enum Later {
 /// What is wrong with a text.
 #[derive(Clone, Copy, Debug, PartialEq, Eq, Error)]
 pub enum Fault {
+    /// The version that was to be compared is none.
+    #[error("E6 BadVersion {0}")]
+    Version(BadVersion),
     /// No control text goes on so.
     #[error("{0}")]
     Stanza(StanzaError),
@@ -130,6 +131,17 @@ impl From<AllocError> for Refusal {
     ghost from_gives = { λ _ e. e ≡ out_of_memory };
 
     fn from(_e: AllocError) -> Refusal {
+        Refusal {
+            place: Place::Memory,
+            fault: Fault::OutOfMemory,
+        }
+    }
+}
+
+impl<T: Drop> From<AllocFailed<T>> for Refusal {
+    ghost from_gives = { λ _ e. e ≡ out_of_memory };
+
+    fn from(_e: AllocFailed<T>) -> Refusal {
         Refusal {
             place: Place::Memory,
             fault: Fault::OutOfMemory,

@@ -2,6 +2,7 @@
 
 ghost use Rattle.std.specs.Prelude.{◌≡◌, IfErr, IfOk, List, Ok};
 ghost use Rattle.rules.specs.declared.goal.GoalLine.{GoalLine as LineOf};
+ghost use Rattle.universe.specs.Build.{indices_of};
 ghost use Rattle.universe.specs.Error.{IsBuilt};
 ghost use Rattle.cli_engine.specs.Answer.{IsBuildFault, IsRequestFault, IsRequested};
 ghost use Rattle.cli_engine.specs.Reading.{IsFaultOf, OrMemory, with_fault};
@@ -10,7 +11,7 @@ ghost use Rattle.cli_engine.specs.declared.refusal.Fault.TheVariants as fault;
 ghost use Rattle.universe_request.specs.Request as Read;
 
 use crate::refusal::{Fault, Later};
-use index::Listed;
+use index::Index;
 use rules::{Goal, GoalLine};
 use std::alloc::Global;
 use universe::{Universe, UniverseError, build};
@@ -55,13 +56,13 @@ fn first_later_goal(lines: &[GoalLine]) -> Option<Later>
 // Builds the universe of the goals.
 fn built<'a>(
     alloc: Global,
-    listed: Vec<Listed<'a>>,
+    indices: &[Index<'a>],
     lines: Vec<GoalLine>,
 ) -> Result<Universe<'a>, Fault>
-    ensures ok { IfOk result (λ u. IsBuilt listed.entry.items lines.items u) }
-    ensures err { IfErr result (λ f. OrMemory (IsBuildFault listed.entry.items lines.items) f) }
+    ensures ok { IfOk result (λ u. IsBuilt (indices_of indices.now) lines.items u) }
+    ensures err { IfErr result (λ f. OrMemory (IsBuildFault (indices_of indices.now) lines.items) f) }
 {
-    match build(alloc, listed, lines) {
+    match build(alloc, indices, lines) {
         Ok(universe) => Ok(universe),
         Err(UniverseError::UnknownName(line)) => Err(Fault::UnknownName(line)),
         Err(UniverseError::TooLarge) => Err(Fault::TooLarge),
@@ -69,20 +70,21 @@ fn built<'a>(
     }
 }
 
-/// The universe that the request is answered from, over these stanzas of the indices; goals other than to install
-/// are refused today, after every other refusal of the text.
+/// The universe that the request is answered from, over these indices; goals other than to install are refused today,
+/// after every other refusal of the text.
 pub(crate) fn read_request<'a>(
     alloc: Global,
-    listed: Vec<Listed<'a>>,
+    indices: &[Index<'a>],
     text: &[u8],
     arch: &[u8],
 ) -> Result<Universe<'a>, Fault>
-    ensures ok { IfOk result (λ u. (lines : List LineOf) × IsRequested arch.now text.now listed.entry.items lines u) }
-    ensures err { IfErr result (λ f. OrMemory (IsRequestFault arch.now text.now listed.entry.items) f) }
+    ensures ok { IfOk result (λ u. (lines : List LineOf)
+        × IsRequested arch.now text.now (indices_of indices.now) lines u) }
+    ensures err { IfErr result (λ f. OrMemory (IsRequestFault arch.now text.now (indices_of indices.now)) f) }
 {
     let lines = goals_in(alloc, text, arch)?;
     let later = first_later_goal(lines.as_slice());
-    let universe = built(alloc, listed, lines)?;
+    let universe = built(alloc, indices, lines)?;
     match later {
         None => Ok(universe),
         Some(later) => Err(Fault::NotYet(later)),

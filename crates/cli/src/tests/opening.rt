@@ -1,158 +1,180 @@
 // In which order files are opened, and what is refused where one can't be read.
 
 use super::support::{Memory, check_plan_words, is_text, run_on};
-use std::test::Fail;
+use std::alloc::{AllocError, Global};
 
 const A: &str = "Package: a\nVersion: 1\nArchitecture: all\n";
 
-const ALL: [(&str, &str); 5] = [
+const ALL: [(&str, &str); 6] = [
     ("status", ""),
-    ("sources", "File: index1\n"),
+    ("sources", "File: index1\n\nFile: index2\n"),
     ("index1", A),
+    ("index2", "Package: b\nVersion: 1\nArchitecture: all\n"),
     ("request", "install a\n"),
     ("plan", "plan 1\nunpack a 1\nconfigure a\n"),
 ];
 
-// The files, but that one is missing, and one has this text.
-fn files_but<'a>(missing: &str, refused: &str, text: &'a str) -> [(&'a str, &'a str); 5] {
-    let [status, sources, index, request, plan] = ALL;
-    [
-        changed(status, missing, refused, text),
-        changed(sources, missing, refused, text),
-        changed(index, missing, refused, text),
-        changed(request, missing, refused, text),
-        changed(plan, missing, refused, text),
-    ]
+/// A file that is missing, one that is refused at its first line, and what is printed and opened then.
+#[derive(Clone, Copy)]
+struct Row {
+    missing: &'static str,
+    refused: &'static str,
+    out: &'static str,
+    err: &'static str,
+    status: u8,
+    opened: &'static str,
 }
 
-fn changed<'a>(
-    file: (&'a str, &'a str),
-    missing: &str,
-    refused: &str,
-    text: &'a str,
-) -> (&'a str, &'a str) {
+// The file, but that it may be missing or refused.
+fn changed<'a>(file: (&'a str, &'a str), row: &Row) -> (&'a str, &'a str) {
     let (path, kept) = file;
-    if path == missing {
+    if path == row.missing {
         ("elsewhere", kept)
-    } else if path == refused {
-        (path, text)
+    } else if path == row.refused {
+        (path, "x\n")
     } else {
         file
     }
 }
 
-#[test]
-fn each_file_is_opened_once_and_at_its_turn(rt: HostRuntime) -> Result<(), Fail> {
-    let words = check_plan_words(rt.alloc())?;
-    let mut host = Memory::new(rt.alloc(), &ALL);
-    let printed = run_on(rt.alloc(), words.as_slice(), &mut host)?;
-    assert!(rt; printed.is("yes\n", "", 0));
-    assert!(rt;
-        is_text(
-            host.order(rt.alloc())?.as_slice(),
-            "status sources index1 request plan "
-        )
-    );
-    Ok(())
+fn is_right(alloc: Global, row: &Row) -> Result<bool, AllocError> {
+    let words = check_plan_words(alloc)?;
+    let files = ALL.map(|file| changed(file, row));
+    let mut host = Memory::new(alloc, &files);
+    let printed = run_on(alloc, words.as_slice(), &mut host)?;
+    let order = host.order(alloc)?;
+    Ok(printed.is(row.out, row.err, row.status) && is_text(order.as_slice(), row.opened))
 }
 
-#[test]
-fn the_first_file_that_cannot_be_read_is_refused_and_none_is_opened_behind_it(
-    rt: HostRuntime,
-) -> Result<(), Fail> {
-    for (missing, place, order) in [
-        ("status", "status", "status "),
-        ("sources", "sources", "status sources "),
-        ("index1", "index 1", "status sources index1 "),
-        ("request", "request", "status sources index1 request "),
-        ("plan", "plan", "status sources index1 request plan "),
-    ] {
-        let words = check_plan_words(rt.alloc())?;
-        let files = files_but(missing, "none", "");
-        let mut host = Memory::new(rt.alloc(), &files);
-        let printed = run_on(rt.alloc(), words.as_slice(), &mut host)?;
-        let err = format!(in rt.alloc(); "debplan: {place}: E5 Read\n")?;
-        assert!(rt; printed.is("", err.as_str(), 5), "{missing}");
-        assert!(rt;
-            is_text(host.order(rt.alloc())?.as_slice(), order),
-            "{missing}"
-        );
+// How many rows are as they have to be, up to the first that isn't.
+fn right_rows(alloc: Global, rows: &[Row]) -> usize {
+    let mut count: usize = 0;
+    for row in rows {
+        match is_right(alloc, row) {
+            Ok(true) => count = count.saturating_add(1),
+            _ => return count,
+        }
     }
-    Ok(())
+    count
+}
+
+// A run without this file.
+fn without(missing: &'static str, err: &'static str, opened: &'static str) -> Row {
+    Row {
+        missing,
+        refused: "none",
+        out: "",
+        err,
+        status: 5,
+        opened,
+    }
 }
 
 #[test]
-fn a_refusal_of_an_earlier_text_wins_over_a_file_that_cannot_be_read(
-    rt: HostRuntime,
-) -> Result<(), Fail> {
-    for (missing, refused, text, err) in [
-        (
-            "sources",
-            "status",
-            "x\n",
-            "debplan: status: E2 BadLine 1\n",
-        ),
-        ("index1", "status", "x\n", "debplan: status: E2 BadLine 1\n"),
-        (
+fn each_file_is_opened_once_and_at_its_turn(rt: HostRuntime) {
+    let all = Row {
+        missing: "none",
+        refused: "none",
+        out: "yes\n",
+        err: "",
+        status: 0,
+        opened: "status sources index1 index2 request plan ",
+    };
+    assert_eq!(rt; right_rows(rt.alloc(), &[all]), 1);
+}
+
+#[test]
+fn the_first_file_that_cannot_be_read_is_refused_and_none_is_opened_behind_it(rt: HostRuntime) {
+    let rows = [
+        without("status", "debplan: status: E5 Read\n", "status "),
+        without("sources", "debplan: sources: E5 Read\n", "status sources "),
+        without(
             "index1",
-            "sources",
-            "x\n",
-            "debplan: sources: E2 BadLine 1\n",
+            "debplan: index 1: E5 Read\n",
+            "status sources index1 ",
         ),
-        (
+        without(
+            "index2",
+            "debplan: index 2: E5 Read\n",
+            "status sources index1 index2 ",
+        ),
+        without(
             "request",
-            "index1",
-            "x\n",
-            "debplan: index 1: E2 BadLine 1\n",
+            "debplan: request: E5 Read\n",
+            "status sources index1 index2 request ",
         ),
-        ("plan", "status", "x\n", "debplan: status: E2 BadLine 1\n"),
-        ("plan", "index1", "x\n", "debplan: index 1: E2 BadLine 1\n"),
-        (
+        without(
             "plan",
-            "request",
-            "x\n",
-            "debplan: request: E16 BadRequest 1\n",
+            "debplan: plan: E5 Read\n",
+            "status sources index1 index2 request plan ",
         ),
-    ] {
-        let words = check_plan_words(rt.alloc())?;
-        let files = files_but(missing, refused, text);
-        let mut host = Memory::new(rt.alloc(), &files);
-        let printed = run_on(rt.alloc(), words.as_slice(), &mut host)?;
-        assert!(rt; printed.is("", err, 3), "{missing} {refused}");
-    }
-    Ok(())
-}
-
-#[test]
-fn a_file_that_cannot_be_read_wins_over_refusals_of_later_texts(
-    rt: HostRuntime,
-) -> Result<(), Fail> {
-    let files = [
-        ("status", ""),
-        ("sources", "File: nowhere\n"),
-        ("request", "x\n"),
-        ("plan", "x\n"),
     ];
-    let words = check_plan_words(rt.alloc())?;
-    let mut host = Memory::new(rt.alloc(), &files);
-    let printed = run_on(rt.alloc(), words.as_slice(), &mut host)?;
-    assert!(rt; printed.is("", "debplan: index 1: E5 Read\n", 5));
-    assert!(rt;
-        is_text(
-            host.order(rt.alloc())?.as_slice(),
-            "status sources nowhere "
-        )
-    );
-    Ok(())
+    assert_eq!(rt; right_rows(rt.alloc(), &rows), rows.len());
+}
+
+// A run in which this text is refused, and a file behind it is missing.
+fn refused(
+    refused: &'static str,
+    missing: &'static str,
+    err: &'static str,
+    opened: &'static str,
+) -> Row {
+    Row {
+        missing,
+        refused,
+        out: "",
+        err,
+        status: 3,
+        opened,
+    }
 }
 
 #[test]
-fn nothing_is_opened_behind_refused_sources(rt: HostRuntime) -> Result<(), Fail> {
-    let files = [("status", ""), ("sources", "x\n")];
-    let words = check_plan_words(rt.alloc())?;
-    let mut host = Memory::new(rt.alloc(), &files);
-    let printed = run_on(rt.alloc(), words.as_slice(), &mut host)?;
-    assert!(rt; printed.is("", "debplan: sources: E2 BadLine 1\n", 3));
-    assert!(rt; is_text(host.order(rt.alloc())?.as_slice(), "status sources "));
-    Ok(())
+fn a_refusal_of_an_earlier_text_wins_over_a_file_that_cannot_be_read(rt: HostRuntime) {
+    let rows = [
+        refused(
+            "status",
+            "sources",
+            "debplan: status: E2 BadLine 1\n",
+            "status sources ",
+        ),
+        refused(
+            "sources",
+            "index1",
+            "debplan: sources: E2 BadLine 1\n",
+            "status sources ",
+        ),
+        refused(
+            "index1",
+            "index2",
+            "debplan: index 1: E2 BadLine 1\n",
+            "status sources index1 index2 ",
+        ),
+        refused(
+            "index2",
+            "plan",
+            "debplan: index 2: E2 BadLine 1\n",
+            "status sources index1 index2 request plan ",
+        ),
+        refused(
+            "request",
+            "plan",
+            "debplan: request: E16 BadRequest 1\n",
+            "status sources index1 index2 request plan ",
+        ),
+    ];
+    assert_eq!(rt; right_rows(rt.alloc(), &rows), rows.len());
+}
+
+#[test]
+fn a_file_that_cannot_be_read_wins_over_refusals_of_later_texts(rt: HostRuntime) {
+    let row = Row {
+        missing: "index1",
+        refused: "index2",
+        out: "",
+        err: "debplan: index 1: E5 Read\n",
+        status: 5,
+        opened: "status sources index1 ",
+    };
+    assert_eq!(rt; right_rows(rt.alloc(), &[row]), 1);
 }

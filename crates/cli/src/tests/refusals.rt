@@ -1,133 +1,163 @@
 // Texts that are refused: one line on standard error, and the exit status.
 
-use super::support::{check_plan, scenario};
+use super::support::Wanted::Refused;
+use super::support::{Row, check_plan, right_rows, row, row_of};
 use std::test::Fail;
 
 const A: &str = "Package: a\nVersion: 1\nArchitecture: all\n";
 
-#[test]
-fn a_version_that_is_none_is_named_by_its_line_and_kind(rt: HostRuntime) -> Result<(), Fail> {
-    for (version, kind) in [
-        ("1.0-", "EmptyRevision"),
-        (":1", "BadEpoch"),
-        ("a:1", "BadEpoch"),
-        ("2147483648:1", "EpochTooLarge"),
-        ("", "Empty"),
-        ("1:", "EmptyUpstream"),
-        ("1_0", "BadByte"),
-    ] {
-        let index = format!(in rt.alloc(); "Package: a\nArchitecture: all\nVersion: {version}\n")?;
-        let err = format!(in rt.alloc(); "debplan: index 1: E6 BadVersion 3 {kind}\n")?;
-        let printed = check_plan(rt.alloc(), &scenario(index.as_str(), "", "plan 1\n"))?;
-        assert!(rt; printed.is("", err.as_str(), 3), "{version}");
-    }
-    Ok(())
+// This index is refused so.
+fn index_row<'a>(index: &'a str, line: &'a str) -> Row<'a> {
+    row(index, "", "plan 1\n", Refused(line))
+}
+
+// This request is refused so.
+fn goal_row<'a>(request: &'a str, line: &'a str) -> Row<'a> {
+    row(A, request, "plan 1\n", Refused(line))
+}
+
+// This plan is refused so.
+fn step_row<'a>(plan: &'a str, line: &'a str) -> Row<'a> {
+    row(A, "install a\n", plan, Refused(line))
 }
 
 #[test]
-fn an_index_is_refused_at_its_first_fault(rt: HostRuntime) -> Result<(), Fail> {
-    for (index, fault) in [
-        (
+fn a_version_that_is_none_is_named_by_its_line_and_kind(rt: HostRuntime) {
+    let rows = [
+        index_row(
+            "Package: a\nArchitecture: all\nVersion: 1.0-\n",
+            "debplan: index 1: E6 BadVersion 3 EmptyRevision\n",
+        ),
+        index_row(
+            "Package: a\nArchitecture: all\nVersion: a:1\n",
+            "debplan: index 1: E6 BadVersion 3 BadEpoch\n",
+        ),
+        index_row(
+            "Package: a\nArchitecture: all\nVersion: 2147483648:1\n",
+            "debplan: index 1: E6 BadVersion 3 EpochTooLarge\n",
+        ),
+        index_row(
+            "Package: a\nArchitecture: all\nVersion: \n",
+            "debplan: index 1: E6 BadVersion 3 Empty\n",
+        ),
+        index_row(
+            "Package: a\nArchitecture: all\nVersion: 1:\n",
+            "debplan: index 1: E6 BadVersion 3 EmptyUpstream\n",
+        ),
+        index_row(
+            "Package: a\nArchitecture: all\nVersion: 1_0\n",
+            "debplan: index 1: E6 BadVersion 3 BadByte\n",
+        ),
+    ];
+    assert_eq!(rt; right_rows(rt.alloc(), &rows), rows.len());
+}
+
+#[test]
+fn an_index_is_refused_at_its_first_fault(rt: HostRuntime) {
+    let rows = [
+        index_row(
             "Package: a\n \t\nPackage: b\nConffiles:\n /etc/b 0\nX: é",
-            "E9 MissingField 1 Architecture",
+            "debplan: index 1: E9 MissingField 1 Architecture\n",
         ),
-        (
-            "Package: a\nArchitecture: all\nVersion: 1\n \t\nPackage: b\nConffiles:\n /etc/b 0\nX: é",
-            "E9 MissingField 5 Architecture",
-        ),
-        (
+        index_row(
             "Package: a\nVersion: 1\nArchitecture: all\n\nPackage: b\nArchitecture: all\n",
-            "E9 MissingField 5 Version",
+            "debplan: index 1: E9 MissingField 5 Version\n",
         ),
-        (
-            "Package: a\nVersion: 1\npackage: b\n",
-            "E4 DuplicateField 3",
-        ),
-        (
+        index_row(
             "Package: a\nVersion: 1\nArchitecture: all\n\n\nX: 1\nx: 2\n",
-            "E4 DuplicateField 7",
+            "debplan: index 1: E4 DuplicateField 7\n",
         ),
-        (" x\nPackage: a\n", "E2 BadLine 1"),
-        ("Package a\n", "E2 BadLine 1"),
-        ("#c: 1\n", "E3 BadFieldName 1"),
-        (
+        index_row(" x\nPackage: a\n", "debplan: index 1: E2 BadLine 1\n"),
+        index_row("#c: 1\n", "debplan: index 1: E3 BadFieldName 1\n"),
+        index_row(
             "Package: a\nVersion: 1\nArchitecture: all\nDepends: a | , b\n",
-            "E8 BadName 4 4",
+            "debplan: index 1: E8 BadName 4 4\n",
         ),
-        (
-            "Package: a\nVersion: 1\nArchitecture: all\nDepends: a (= )\n",
-            "E7 BadRelation 4 5",
-        ),
-        (
+        index_row(
             "Package: a\nVersion: 1\nArchitecture: all\nDepends: a (= 1\n",
-            "E7 BadRelation 4 6",
+            "debplan: index 1: E7 BadRelation 4 6\n",
         ),
-    ] {
-        let err = format!(in rt.alloc(); "debplan: index 1: {fault}\n")?;
-        let printed = check_plan(rt.alloc(), &scenario(index, "", "plan 1\n"))?;
-        assert!(rt; printed.is("", err.as_str(), 3), "{index}");
-    }
-    Ok(())
+        index_row(
+            "Package: a\nVersion: 1\nArchitecture: all\nProvides: a | b\n",
+            "debplan: index 1: E7 BadRelation 4 2\n",
+        ),
+    ];
+    assert_eq!(rt; right_rows(rt.alloc(), &rows), rows.len());
+}
+
+// The first index that is refused is named by its number.
+#[test]
+fn sources_and_later_indices_are_refused_at_their_place(rt: HostRuntime) {
+    let both = "File: index1\n\nFile: index2\n";
+    let bad = "Package: b\nVersion: 1\nArchitecture: all\n\n\
+        Package: c\nVersion: 1\nArchitecture: all\nDepends: a (= )\n";
+    let rows = [
+        row_of(
+            both,
+            [A, bad],
+            "",
+            "",
+            Refused("debplan: index 2: E7 BadRelation 8 5\n"),
+        ),
+        row_of(
+            both,
+            [bad, "x\n"],
+            "",
+            "",
+            Refused("debplan: index 1: E7 BadRelation 8 5\n"),
+        ),
+        row_of(
+            "File: index1\n\nSuite: stable\n",
+            [bad, ""],
+            "",
+            "",
+            Refused("debplan: sources: E9 MissingField 3 File\n"),
+        ),
+    ];
+    assert_eq!(rt; right_rows(rt.alloc(), &rows), rows.len());
 }
 
 #[test]
-fn a_plan_is_refused_at_its_first_bad_line(rt: HostRuntime) -> Result<(), Fail> {
-    let index = "Package: foo\nVersion: 1.0\nArchitecture: all\n";
-    for (plan, line) in [
-        ("", 1),
-        ("plan 2\n", 1),
-        ("plan 3\n", 1),
-        ("plan 1\nconfigure b a\n", 2),
-        ("plan 1\nunpack foo 1.0", 2),
-        ("plan 1\nstep\n", 2),
-    ] {
-        let err = format!(in rt.alloc(); "debplan: plan: E18 BadPlan {line}\n")?;
-        let printed = check_plan(rt.alloc(), &scenario(index, "install foo\n", plan))?;
-        assert!(rt; printed.is("", err.as_str(), 3), "{plan}");
-    }
-    Ok(())
+fn a_plan_is_refused_at_its_first_bad_line(rt: HostRuntime) {
+    let first = Refused("debplan: plan: E18 BadPlan 1\n");
+    let second = Refused("debplan: plan: E18 BadPlan 2\n");
+    let rows = [
+        row(A, "install a\n", "", first),
+        row(A, "install a\n", "plan 2\n", first),
+        row(A, "install a\n", "plan 1\nconfigure b a\n", second),
+        row(A, "install a\n", "plan 1\nunpack a 1", second),
+        row(A, "install a\n", "plan 1\nstep\n", second),
+    ];
+    assert_eq!(rt; right_rows(rt.alloc(), &rows), rows.len());
 }
 
+// The first of two goals, or of two steps, that aren't judged yet is named.
 #[test]
-fn a_goal_that_is_not_judged_yet_is_named(rt: HostRuntime) -> Result<(), Fail> {
-    for (goal, word) in [
-        ("remove a", "remove"),
-        ("purge a", "purge"),
-        ("upgrade a", "upgrade"),
-        ("upgrade-all", "upgrade-all"),
-        ("no-remove", "no-remove"),
-    ] {
-        let request = format!(in rt.alloc(); "install a\n{goal}\ninstall a\n")?;
-        let err = format!(in rt.alloc(); "debplan: request: E27 NotYet {word}\n")?;
-        let printed = check_plan(rt.alloc(), &scenario(A, request.as_str(), "plan 1\n"))?;
-        assert!(rt; printed.is("", err.as_str(), 3), "{goal}");
-    }
-    Ok(())
-}
-
-#[test]
-fn the_first_step_that_is_not_judged_yet_is_named(rt: HostRuntime) -> Result<(), Fail> {
-    for (step, word) in [
-        ("deconfigure a", "deconfigure"),
-        ("configure a b", "configure"),
-        ("remove a", "remove"),
-        ("purge a", "purge"),
-    ] {
-        let plan = format!(in rt.alloc(); "plan 1\nunpack a 1\n{step}\npurge a\n")?;
-        let err = format!(in rt.alloc(); "debplan: plan: E27 NotYet {word}\n")?;
-        let printed = check_plan(rt.alloc(), &scenario(A, "install a\n", plan.as_str()))?;
-        assert!(rt; printed.is("", err.as_str(), 3), "{step}");
-    }
-    Ok(())
-}
-
-#[test]
-fn an_index_with_what_is_not_judged_yet_is_refused_unread(rt: HostRuntime) -> Result<(), Fail> {
-    let index = "Package: b\nVersion: 1\nArchitecture: all\n\n\
-        Package: a\nVersion: 1\nArchitecture: all\nProvides: )\n";
-    let printed = check_plan(rt.alloc(), &scenario(index, "", "plan 1\n"))?;
-    assert!(rt; printed.is("", "debplan: index 1: E27 NotYet Provides\n", 3));
-    Ok(())
+fn what_is_not_judged_yet_is_named(rt: HostRuntime) {
+    let rows = [
+        goal_row(
+            "install a\nremove a\npurge a\n",
+            "debplan: request: E27 NotYet remove\n",
+        ),
+        goal_row("purge a\n", "debplan: request: E27 NotYet purge\n"),
+        goal_row("upgrade a\n", "debplan: request: E27 NotYet upgrade\n"),
+        goal_row(
+            "upgrade-all\n",
+            "debplan: request: E27 NotYet upgrade-all\n",
+        ),
+        goal_row("no-remove\n", "debplan: request: E27 NotYet no-remove\n"),
+        step_row(
+            "plan 1\ndeconfigure a\npurge a\n",
+            "debplan: plan: E27 NotYet deconfigure\n",
+        ),
+        step_row(
+            "plan 1\nconfigure a b\n",
+            "debplan: plan: E27 NotYet configure\n",
+        ),
+        step_row("plan 1\nremove a\n", "debplan: plan: E27 NotYet remove\n"),
+        step_row("plan 1\npurge a\n", "debplan: plan: E27 NotYet purge\n"),
+    ];
+    assert_eq!(rt; right_rows(rt.alloc(), &rows), rows.len());
 }
 
 #[test]
@@ -144,27 +174,5 @@ fn a_status_file_with_a_stanza_is_not_judged_yet(rt: HostRuntime) -> Result<(), 
     ];
     let printed = check_plan(rt.alloc(), &files)?;
     assert!(rt; printed.is("", "debplan: status: E27 NotYet status\n", 3));
-    Ok(())
-}
-
-#[test]
-fn sources_with_release_keys_or_two_indices_are_not_judged_yet(
-    rt: HostRuntime,
-) -> Result<(), Fail> {
-    for sources in ["File: index1\n\nFile: index2\n", "File: index1\nSuite: x\n"] {
-        let files = [
-            ("status", ""),
-            ("sources", sources),
-            ("index1", A),
-            ("index2", "Package: b\nVersion: 1\nArchitecture: all\n"),
-            ("request", ""),
-            ("plan", "plan 1\n"),
-        ];
-        let printed = check_plan(rt.alloc(), &files)?;
-        assert!(rt;
-            printed.is("", "debplan: sources: E27 NotYet sources\n", 3),
-            "{sources}"
-        );
-    }
     Ok(())
 }

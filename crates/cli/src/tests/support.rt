@@ -2,7 +2,6 @@
 
 use crate::{Host, ReadError, run};
 use std::alloc::{AllocError, Global};
-use std::test::Fail;
 
 /// Files by their paths. It notes the paths that are opened, in order.
 #[derive(Drop)]
@@ -73,33 +72,27 @@ pub(super) fn is_text(bytes: &[u8], text: &str) -> bool {
     bytes == text.as_bytes()
 }
 
-/// The words of this command line.
-pub(super) fn words_of(alloc: Global, words: &[&[u8]]) -> Result<Vec<Vec<u8>>, AllocError> {
+/// The words of a line, which spaces part.
+pub(super) fn words_in(alloc: Global, line: &str) -> Result<Vec<Vec<u8>>, AllocError> {
     let mut all = Vec::new(alloc);
-    for word in words {
-        all.push(word.to_vec(alloc)?)?;
+    for word in line.split(' ') {
+        all.push(word.as_bytes().to_vec(alloc)?)?;
     }
     Ok(all)
 }
 
 /// The words of `check-plan` with the files `status`, `sources`, `request` and `plan`.
 pub(super) fn check_plan_words(alloc: Global) -> Result<Vec<Vec<u8>>, AllocError> {
-    words_of(
+    words_in(
         alloc,
-        &[
-            b"debplan",
-            b"check-plan",
-            b"--arch",
-            b"amd64",
-            b"--status",
-            b"status",
-            b"--sources",
-            b"sources",
-            b"--request",
-            b"request",
-            b"plan",
-        ],
+        "debplan check-plan --arch amd64 --status status --sources sources --request request plan",
     )
+}
+
+/// A run on the words of this line where there is no file.
+pub(super) fn run_line(alloc: Global, line: &str) -> Result<Printed, AllocError> {
+    let words = words_in(alloc, line)?;
+    run_on(alloc, words.as_slice(), &mut Memory::new(alloc, &[]))
 }
 
 /// A run of the program on these words over this host.
@@ -120,17 +113,81 @@ pub(super) fn check_plan(alloc: Global, files: &[(&str, &str)]) -> Result<Printe
     run_on(alloc, words.as_slice(), &mut Memory::new(alloc, files))
 }
 
+/// What has to be printed: an answer on standard output, or a refusal on standard error.
+#[derive(Clone, Copy)]
+pub(super) enum Wanted<'a> {
+    Yes,
+    No(&'a str),
+    Refused(&'a str),
+}
+
+/// The files of a scenario, and what has to be printed of it.
+#[derive(Clone, Copy)]
+pub(super) struct Row<'a> {
+    pub(super) files: [(&'a str, &'a str); 6],
+    pub(super) wanted: Wanted<'a>,
+}
+
+impl Row<'_> {
+    fn is_right(&self, alloc: Global) -> bool {
+        let Ok(printed) = check_plan(alloc, &self.files) else {
+            return false;
+        };
+        match self.wanted {
+            Wanted::Yes => printed.is("yes\n", "", 0),
+            Wanted::No(line) => printed.is(line, "", 1),
+            Wanted::Refused(line) => printed.is("", line, 3),
+        }
+    }
+}
+
+/// How many rows are printed as they have to be, up to the first that isn't.
+pub(super) fn right_rows(alloc: Global, rows: &[Row<'_>]) -> usize {
+    let mut count: usize = 0;
+    for row in rows {
+        if !row.is_right(alloc) {
+            return count;
+        }
+        count = count.saturating_add(1);
+    }
+    count
+}
+
+/// A row with these sources and two indices, and an empty status file.
+pub(super) fn row_of<'a>(
+    sources: &'a str,
+    indices: [&'a str; 2],
+    request: &'a str,
+    plan: &'a str,
+    wanted: Wanted<'a>,
+) -> Row<'a> {
+    let [first, second] = indices;
+    let files = [
+        ("status", ""),
+        ("sources", sources),
+        ("index1", first),
+        ("index2", second),
+        ("request", request),
+        ("plan", plan),
+    ];
+    Row { files, wanted }
+}
+
+/// A row with one index, and an empty status file.
+pub(super) fn row<'a>(
+    index: &'a str,
+    request: &'a str,
+    plan: &'a str,
+    wanted: Wanted<'a>,
+) -> Row<'a> {
+    row_of("File: index1\n", [index, ""], request, plan, wanted)
+}
+
 /// The files of a scenario with one index and an empty status file.
 pub(super) fn scenario<'a>(
     index: &'a str,
     request: &'a str,
     plan: &'a str,
-) -> [(&'a str, &'a str); 5] {
-    [
-        ("status", ""),
-        ("sources", "File: index1\n"),
-        ("index1", index),
-        ("request", request),
-        ("plan", plan),
-    ]
+) -> [(&'a str, &'a str); 6] {
+    row(index, request, plan, Wanted::Yes).files
 }

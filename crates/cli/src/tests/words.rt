@@ -1,227 +1,111 @@
 // The words of the command line.
 
-use super::support::{Memory, Printed, run_on, words_of};
-use std::alloc::{AllocError, Global};
+use super::support::{Memory, Printed, run_line, run_on};
+use std::alloc::Global;
 use std::test::Fail;
 
-// A run on these words where there is no file.
-fn run_without_files(alloc: Global, words: &[&[u8]]) -> Result<Printed, AllocError> {
-    let words = words_of(alloc, words)?;
-    run_on(alloc, words.as_slice(), &mut Memory::new(alloc, &[]))
+// What becomes of a command line where there is no file.
+#[derive(Clone, Copy, PartialEq, Eq)]
+enum Fate {
+    /// The words are taken, and the first file is sought.
+    Taken,
+    /// The words are wrong: a text on standard error alone, and the status 4.
+    Fault,
+    /// A text on standard output alone, and the status 0.
+    Help,
 }
 
-// Whether the words are refused as wrong: a text on standard error alone, and the status 4.
-fn is_usage_fault(alloc: Global, words: &[&[u8]]) -> Result<bool, AllocError> {
-    let printed = run_without_files(alloc, words)?;
-    Ok(printed.status == 4 && printed.out.is_empty() && !printed.err.is_empty())
+fn has_fate(printed: &Printed, fate: Fate) -> bool {
+    match fate {
+        Fate::Taken => printed.is("", "debplan: status: E5 Read\n", 5),
+        Fate::Fault => printed.status == 4 && printed.out.is_empty() && !printed.err.is_empty(),
+        Fate::Help => printed.status == 0 && printed.err.is_empty() && !printed.out.is_empty(),
+    }
 }
 
-#[test]
-fn words_that_are_wrong_are_a_usage_fault(rt: HostRuntime) -> Result<(), Fail> {
-    let alloc = rt.alloc();
-    assert!(rt; is_usage_fault(alloc, &[])?);
-    assert!(rt; is_usage_fault(alloc, &[b"debplan"])?);
-    assert!(rt; is_usage_fault(alloc, &[b"debplan", b"check-plan"])?);
-    assert!(rt;
-        is_usage_fault(
-            alloc,
-            &[b"debplan", b"--arch", b"amd64", b"check-plan", b"plan"]
-        )?
-    );
-    assert!(rt; is_usage_fault(alloc, &[b"debplan", b"check-plan", b"--arch"])?);
-    Ok(())
-}
-
-#[test]
-fn an_option_is_given_once(rt: HostRuntime) -> Result<(), Fail> {
-    let alloc = rt.alloc();
-    let words: [&[u8]; 13] = [
-        b"debplan",
-        b"check-plan",
-        b"--arch",
-        b"a",
-        b"--status",
-        b"s",
-        b"--sources",
-        b"s",
-        b"--request",
-        b"r",
-        b"--arch",
-        b"a",
-        b"plan",
-    ];
-    assert!(rt; is_usage_fault(alloc, &words)?);
-    assert!(rt;
-        !is_usage_fault(
-            alloc,
-            &[
-                b"debplan",
-                b"check-plan",
-                b"--arch",
-                b"a",
-                b"--status",
-                b"s",
-                b"--sources",
-                b"s",
-                b"--request",
-                b"r",
-                b"plan",
-            ]
-        )?
-    );
-    Ok(())
-}
-
-#[test]
-fn a_word_too_many_or_an_option_too_few_is_a_usage_fault(rt: HostRuntime) -> Result<(), Fail> {
-    let alloc = rt.alloc();
-    let full: [&[u8]; 11] = [
-        b"debplan",
-        b"check-plan",
-        b"--arch",
-        b"a",
-        b"--status",
-        b"s",
-        b"--sources",
-        b"s",
-        b"--request",
-        b"r",
-        b"plan",
-    ];
-    let more: [&[u8]; 12] = [
-        b"debplan",
-        b"check-plan",
-        b"--arch",
-        b"a",
-        b"--status",
-        b"s",
-        b"--sources",
-        b"s",
-        b"--request",
-        b"r",
-        b"plan",
-        b"plan",
-    ];
-    assert!(rt; !is_usage_fault(alloc, &full)?);
-    assert!(rt; is_usage_fault(alloc, &more)?);
-    assert!(rt; is_usage_fault(alloc, full.split_at(10).0)?);
-    for cut in [2, 4, 6, 8] {
-        let mut words = Vec::new(alloc);
-        for (number, word) in full.iter().enumerate() {
-            if number != cut && number != cut + 1 {
-                words.push(*word)?;
-            }
+// How many lines have this fate, up to the first that hasn't.
+fn lines_with(alloc: Global, fate: Fate, lines: &[&str]) -> usize {
+    let mut count: usize = 0;
+    for line in lines {
+        match run_line(alloc, line) {
+            Ok(printed) if has_fate(&printed, fate) => count = count.saturating_add(1),
+            _ => return count,
         }
-        assert!(rt; is_usage_fault(alloc, words.as_slice())?, "{cut}");
     }
-    Ok(())
+    count
 }
 
 #[test]
-fn options_and_commands_that_are_not_there_are_usage_faults(rt: HostRuntime) -> Result<(), Fail> {
-    let alloc = rt.alloc();
-    let commands: [&[u8]; 6] = [
-        b"compare",
-        b"candidate",
-        b"check-refutation",
-        b"solve",
-        b"apply",
-        b"check",
+fn words_that_are_wrong_are_a_usage_fault(rt: HostRuntime) {
+    let lines = [
+        "",
+        "debplan",
+        "debplan check-plan",
+        "debplan --arch amd64 check-plan plan",
+        "debplan check-plan --arch",
+        "debplan check-plan --arch a --status s --sources s --request r --arch a plan",
+        "debplan check-plan --arch a --status s --sources s --request r plan plan",
+        "debplan check-plan --arch a --status s --sources s --request r",
+        "debplan check-plan --status s --sources s --request r plan",
+        "debplan check-plan --arch a --sources s --request r plan",
+        "debplan check-plan --arch a --status s --request r plan",
+        "debplan check-plan --arch a --status s --sources s plan",
+        "debplan compare",
+        "debplan compare 1 lt",
+        "debplan compare 1 lt 2 3",
+        "debplan compare 1 << 2",
+        "debplan compare 1 LT 2",
+        "debplan compare --arch a 1 lt 2",
     ];
-    for command in commands {
-        let words: [&[u8]; 11] = [
-            b"debplan",
-            command,
-            b"--arch",
-            b"a",
-            b"--status",
-            b"s",
-            b"--sources",
-            b"s",
-            b"--request",
-            b"r",
-            b"plan",
-        ];
-        assert!(rt; is_usage_fault(alloc, &words)?);
-        assert!(rt; is_usage_fault(alloc, words.split_at(10).0)?);
-    }
-    let options: [&[u8]; 5] = [
-        b"--preferences",
-        b"--target",
-        b"--limit",
-        b"--journal",
-        b"--output",
-    ];
-    for option in options {
-        let words: [&[u8]; 13] = [
-            b"debplan",
-            b"check-plan",
-            b"--arch",
-            b"a",
-            b"--status",
-            b"s",
-            b"--sources",
-            b"s",
-            b"--request",
-            b"r",
-            option,
-            b"x",
-            b"plan",
-        ];
-        assert!(rt; is_usage_fault(alloc, &words)?);
-    }
-    Ok(())
+    assert_eq!(rt; lines_with(rt.alloc(), Fate::Fault, &lines), lines.len());
 }
 
 #[test]
-fn an_argument_that_is_not_utf_8_is_a_usage_fault(rt: HostRuntime) -> Result<(), Fail> {
-    let alloc = rt.alloc();
-    let words: [&[u8]; 11] = [
-        b"debplan",
-        b"check-plan",
-        b"--arch",
-        b"a",
-        b"--status",
-        b"s",
-        b"--sources",
-        b"s",
-        b"--request",
-        b"r",
-        b"pl\xffan",
+fn options_and_commands_that_are_not_there_are_usage_faults(rt: HostRuntime) {
+    let lines = [
+        "debplan candidate --arch a --status s --sources s foo",
+        "debplan check-refutation --arch a --status s --sources s --request r file",
+        "debplan solve --arch a --status s --sources s --request r",
+        "debplan apply --arch a --status s --sources s --request r --journal j --output o plan",
+        "debplan check --arch a --status s --sources s --request r plan",
+        "debplan check-plan --arch a --status s --sources s --request r --preferences x plan",
+        "debplan check-plan --arch a --status s --sources s --request r --target x plan",
+        "debplan check-plan --arch a --status s --sources s --request r --limit x plan",
     ];
-    assert!(rt; is_usage_fault(alloc, &words)?);
-    Ok(())
+    assert_eq!(rt; lines_with(rt.alloc(), Fate::Fault, &lines), lines.len());
 }
 
 #[test]
-fn help_is_an_answer(rt: HostRuntime) -> Result<(), Fail> {
-    let alloc = rt.alloc();
-    let calls: [&[&[u8]]; 4] = [
-        &[b"debplan", b"--help"],
-        &[b"debplan", b"help"],
-        &[b"debplan", b"check-plan", b"--help"],
-        &[b"debplan", b"help", b"check-plan"],
+fn options_stand_in_any_order_and_may_have_an_equals_sign(rt: HostRuntime) {
+    let lines = [
+        "debplan check-plan --arch a --status s --sources s --request r plan",
+        "debplan check-plan plan --request=r --sources=s --status=s --arch=-",
     ];
-    for words in calls {
-        let printed = run_without_files(alloc, words)?;
-        assert!(rt; printed.status == 0 && printed.err.is_empty() && !printed.out.is_empty());
+    assert_eq!(rt; lines_with(rt.alloc(), Fate::Taken, &lines), lines.len());
+}
+
+#[test]
+fn help_is_an_answer(rt: HostRuntime) {
+    let lines = [
+        "debplan --help",
+        "debplan help",
+        "debplan check-plan --help",
+        "debplan help compare",
+    ];
+    assert_eq!(rt; lines_with(rt.alloc(), Fate::Help, &lines), lines.len());
+}
+
+// No words at all, and a word that isn't UTF-8.
+#[test]
+fn words_that_are_no_text_are_usage_faults(rt: HostRuntime) -> Result<(), Fail> {
+    let alloc = rt.alloc();
+    let mut words = Vec::new(alloc);
+    let none = run_on(alloc, words.as_slice(), &mut Memory::new(alloc, &[]))?;
+    assert!(rt; has_fate(&none, Fate::Fault));
+    for word in [b"debplan".as_slice(), b"compare", b"1", b"lt", b"\xff"] {
+        words.push(word.to_vec(alloc)?)?;
     }
-    Ok(())
-}
-
-#[test]
-fn an_option_may_have_its_value_behind_an_equals_sign(rt: HostRuntime) -> Result<(), Fail> {
-    let alloc = rt.alloc();
-    let words: [&[u8]; 7] = [
-        b"debplan",
-        b"check-plan",
-        b"plan",
-        b"--request=r",
-        b"--sources=s",
-        b"--status=s",
-        b"--arch=-",
-    ];
-    let printed = run_without_files(alloc, &words)?;
-    assert!(rt; printed.is("", "debplan: status: E5 Read\n", 5));
+    let printed = run_on(alloc, words.as_slice(), &mut Memory::new(alloc, &[]))?;
+    assert!(rt; has_fate(&printed, Fate::Fault));
     Ok(())
 }

@@ -1,25 +1,43 @@
--- An index that is read is followed by the others, and at the end nothing is left.
-use Rattle.std.proofs.Common.{rules, ◌≡◌, ◌++◌, List, ℕ, ◌+◌, sym, ap, ◌∙◌, arith}
-use Rattle.std.proofs.lemmas.List.{append_assoc}
-use Rattle.rules.specs.Step.{Listed}
-use Rattle.cli_engine.proofs.IndicesLemmas.{listed_at_end, listed_goes_on, refusal_goes_on}
+-- Behind an index that is read the others go on, one that is refused is the first refusal, and at the end nothing is left.
+use Rattle.std.proofs.Common.{rules, ◌≡◌, ◌+◌, ◌∷◌, length, sym, ap, ◌∙◌, arith}
+use Rattle.std.specs.Vec.Iter.{into_iter_items}
+use Rattle.universe.specs.Build.{indices_of}
+use Rattle.cli_engine.specs.Indices.{read_indices}
+use Rattle.cli_engine.proofs.IndicesLemmas.{at_end, goes_on, index_fits, is_refused}
 use Rattle.cli_engine.proofs.indices.read_indices.Goals as goal
 
--- what is put behind the others comes before the rest
-behind : (all more some whole rest : List Listed) → whole ≡ some ++ rest → more ≡ all ++ some → all ++ whole ≡ more ++ rest
-behind all more some whole rest next put =
-    ap (λ xs. all ++ xs) next ∙ sym (append_assoc all some rest) ∙ ap (λ xs. xs ++ rest) (sym put)
+pub loop-source-preserved : goal.loop-source-preserved
+loop-source-preserved c =
+    let at = c.loop-source in
+    let steps : into_iter_items at.source-iterator ≡ c.in-Some.source ∷ into_iter_items c.next.new.self = c.in-Some.ensures.steps.0 in
+    let gone = c.in-Some.ensures.steps.1 in
+    let short = ap length steps in
+    let was = at.invariant.left in
+    let count = at.invariant.count in
+    record {
+      left = omega arith;
+      count = omega arith;
+      bounded = rw c.packages.ensures (index_fits c.args.arch.now c.into_release-release.result at.before _ c.in-Ok.index c.in-Ok.ensures.ok at.invariant.bounded);
+      same = at.invariant.same
+          ∙ goes_on c.args.arch.now (at.number + 1) at.before at.number at.indices.items c.push.new.self.items
+          (into_iter_items at.source-iterator) c.in-Some.source (into_iter_items c.next.new.self) c.args.texts.now _ c.into_release-release.result
+          c.in-Ok.index c.packages.result.now (omega arith) steps c.into_release-release.ensures c.in-Ok.ensures.ok c.packages.ensures (search rules);
+    }
 
-pub loop-text-preserved : goal.loop-text-preserved
-loop-text-preserved c = record {
-  number = ap (λ n. n + 1) c.loop-text.invariant.number;
-  refusal = c.loop-text.invariant.refusal
-      ∙ refusal_goes_on c.args.arch.now c.args.texts.now c.loop-text.text-index _ c.in-Ok.index c.loop-text-test.true c.in-Ok.ensures.ok;
-  listed = c.loop-text.invariant.listed
-      ∙ behind c.loop-text.all.items c.put_behind.new.all.items c.in-Ok.index.listed _ _
-      (listed_goes_on c.args.arch.now c.args.texts.now c.loop-text.text-index _ c.in-Ok.index c.loop-text-test.true c.in-Ok.ensures.ok)
-      (search rules);
-}
+pub returns-in-Err-clause-err : goal.returns-in-Err-clause-err
+unfolding read_indices
+returns-in-Err-clause-err c =
+    let at = c.loop-source in
+    let steps : into_iter_items at.source-iterator ≡ c.in-Some.source ∷ into_iter_items c.next.new.self = c.in-Some.ensures.steps.0 in
+    let short = ap length steps in
+    let count = at.invariant.count in
+    is_refused c.args.arch.now (at.number + 1) at.before at.number (indices_of at.indices.items) (into_iter_items at.source-iterator)
+    c.in-Some.source (into_iter_items c.next.new.self) c.args.texts.now _ c.into_release-release.result c.in-Err.refused _
+    (omega arith) steps c.into_release-release.ensures at.invariant.same c.in-Err.ensures.err
 
 pub returns-clause-ok : goal.returns-clause-ok
-returns-clause-ok c = listed_at_end c.args.arch.now c.args.texts.now c.loop-text.text-index c.loop-text.all.items (search rules) c.loop-text.invariant.listed
+unfolding read_indices
+returns-clause-ok c =
+    let at = c.loop-source in
+    at.invariant.same ∙ at_end c.args.arch.now (at.number + 1) at.before (indices_of at.indices.items) (into_iter_items at.source-iterator)
+    _ (sym at.invariant.left ∙ c.in-None.ensures.steps.0)

@@ -1,5 +1,5 @@
 -- The steps that are read configure one name each.
-use Rattle.std.proofs.Common.{rules, sym, ◌∙◌}
+use Rattle.std.proofs.Common.{rules}
 use Rattle.cli_engine.proofs.SingleLemmas.{all_single}
 use Rattle.cli_engine.proofs.plan.read_early_plan.Goals as goal
 

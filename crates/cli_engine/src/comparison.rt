@@ -1,0 +1,69 @@
+// Two versions compared by their texts (Policy 5.6.12, deb-version(7)).
+
+ghost use Rattle.std.specs.Prelude.{◌≡◌, MatchResult, None, Some};
+ghost use Rattle.rules.specs.Version.{version_cmp};
+ghost use Rattle.cli_engine.specs.Comparison.{comparison_refusal, holds, version_refusal};
+
+use crate::refusal::{Fault, Place, Refusal};
+use debversion::Version;
+use std::cmp::Ordering;
+
+/// How a version may stand to another, as `dpkg --compare-versions` has it.
+#[derive(Clone, Copy, Debug, PartialEq, Eq)]
+pub enum Relation {
+    /// It is earlier: `lt`.
+    Earlier,
+    /// It is earlier or the same: `le`.
+    EarlierOrEqual,
+    /// It is the same version: `eq`.
+    Equal,
+    /// It is another version: `ne`.
+    NotEqual,
+    /// It is later or the same: `ge`.
+    LaterOrEqual,
+    /// It is later: `gt`.
+    Later,
+}
+
+impl Relation {
+    /// Whether two versions in this order stand so to each other.
+    pub fn holds(self, ordering: Ordering) -> bool
+        ensures { result ≡ holds self ordering }
+    {
+        match self {
+            Relation::Earlier => ordering.is_lt(),
+            Relation::EarlierOrEqual => ordering.is_le(),
+            Relation::Equal => ordering.is_eq(),
+            Relation::NotEqual => ordering.is_ne(),
+            Relation::LaterOrEqual => ordering.is_ge(),
+            Relation::Later => ordering.is_gt(),
+        }
+    }
+}
+
+// The version of this number.
+fn version_of(number: usize, text: &[u8]) -> Result<Version<'_>, Refusal>
+    ensures { MatchResult result (λ version. (version_refusal number text.now ≡ None) × (version ≡ text.now))
+        (λ refused. version_refusal number text.now ≡ Some refused) }
+{
+    match Version::parse(text) {
+        Ok(version) => Ok(version),
+        Err(kind) => Err(Refusal {
+            place: Place::Version(number),
+            fault: Fault::Version(kind),
+        }),
+    }
+}
+
+/// Whether the version stands so to the other; a refusal is that of the first text that is no version. One pass over
+/// both, and no memory is taken.
+pub fn compare(version: &[u8], relation: Relation, other: &[u8]) -> Result<bool, Refusal>
+    ensures { MatchResult result
+        (λ answer. (comparison_refusal version.now other.now ≡ None)
+        × (answer ≡ holds relation (version_cmp version.now other.now)))
+        (λ refused. comparison_refusal version.now other.now ≡ Some refused) }
+{
+    let version = version_of(1, version)?;
+    let other = version_of(2, other)?;
+    Ok(relation.holds(version.cmp(&other)))
+}
