@@ -1,9 +1,8 @@
--- What `find` finds in lists that are mapped, filtered, freed of repetitions and sorted.
-use Rattle.std.proofs.Common.{◌≡◌, Bool, true, false, cond, List, [], ◌∷◌, map, Option, Some, None, ◌⊎◌, refl, sym, subst, ◌∙◌, arith}
+-- What `find` finds in lists that are filtered, freed of repetitions and sorted.
+use Rattle.std.proofs.Common.{◌≡◌, Bool, true, false, cond, List, [], ◌∷◌, Option, Some, None, ◌⊎◌, refl, sym, subst, ◌∙◌, arith}
 use Rattle.std.specs.Cmp.{IsTotalOrder, tied_back}
 use Rattle.std.specs.List.{AllPairs, Contains, dedup, dedup_from, filter, find}
 use Rattle.std.specs.List.Sorted.{IsStrictlySortedBy}
-use Rattle.std.specs.Option.{option_map}
 use Rattle.std.specs.declared.cmp.Ordering.{Ordering}
 use Rattle.std.specs.declared.cmp.Ordering.TheVariants.{Less, Equal}
 use Rattle.std.proofs.lemmas.List.Elements.{All-contains}
@@ -49,17 +48,6 @@ find-exists {X} p xs x within passes = at (find p xs) refl
     at : (o : Option X) → find p xs ≡ o → (y : X) × (find p xs ≡ Some y)
     at None none = absurd (let e : p x ≡ false = find-none p xs none x within in cc)
     at (Some y) found = (y, found)
-
--- what is found among changed elements is what is found, changed
-pub find-map : {X Y : Type 0} (p : Y → Bool) (f : X → Y) (xs : List X)
-    → find p (map f xs) ≡ option_map f (find (λ x. p (f x)) xs)
-find-map p f [] = refl
-find-map p f (x ∷ xs) = at (p (f x)) (find-map p f xs)
-  where
-    at : (b : Bool) → find p (map f xs) ≡ option_map f (find (λ x. p (f x)) xs)
-        → cond b (Some (f x)) (find p (map f xs)) ≡ option_map f (cond b (Some x) (find (λ x. p (f x)) xs))
-    at true rest = refl
-    at false rest = rest
 
 -- the first element
 abbrev pub first_of_all : {X : Type 0} → List X → Option X

@@ -2,8 +2,7 @@
 
 ghost use Rattle.universe.specs.UniverseLaws.{OneListOfPairs};
 
-/// The universes of the same goals over the same stanzas have the same pairs: a request has too many of them, or it
-/// hasn't.
+/// The universes of the same inputs have the same pairs: a request has too many of them, or it hasn't.
 pub fn one_list_of_pairs()
     ensures { OneListOfPairs }
 {}

@@ -1,5 +1,6 @@
 // Universes of small indices, with the pairs, candidates and refusals that are wanted counted by hand
 // (deb-version(7) for the order of versions, apt_preferences(5) for the priorities).
+// What a row is made into is nothing where memory is refused or the row is wrong.
 
 use crate::{Universe, UniverseError, build};
 use debversion::Version;
@@ -8,8 +9,6 @@ use rules::{Goal, GoalLine, Name, Op, Release, Restriction, Text, VersionText, i
 use std::alloc::Global;
 use std::str;
 use std::test::Fail;
-
-// Each row's value, or nothing where memory is refused or the row is wrong.
 
 fn name(alloc: Global, text: &str) -> Option<Name> {
     if !is_name(text.as_bytes()) {
@@ -24,14 +23,18 @@ fn restriction(alloc: Global, op: Op, text: &str) -> Option<Restriction> {
     Some(Restriction { op, version })
 }
 
-// The goal of line 1 that asks for `a`, if one does.
-fn goals(alloc: Global, asked: Option<(Op, &str)>) -> Option<Vec<GoalLine>> {
+// The goal of this line to install a package, with a restriction.
+fn install(
+    alloc: Global,
+    line: usize,
+    asked: &str,
+    op: Op,
+    version: &str,
+) -> Option<Vec<GoalLine>> {
+    let restriction = restriction(alloc, op, version)?;
+    let goal = Goal::Install(name(alloc, asked)?, Some(restriction));
     let mut goals = Vec::new(alloc);
-    if let Some((op, version)) = asked {
-        let restriction = restriction(alloc, op, version)?;
-        let goal = Goal::Install(name(alloc, "a")?, Some(restriction));
-        goals.push(GoalLine { line: 1, goal }).ok()?;
-    }
+    goals.push(GoalLine { line, goal }).ok()?;
     Some(goals)
 }
 
@@ -53,114 +56,93 @@ fn index<'a>(alloc: Global, row: (&'a str, bool, bool)) -> Option<Index<'a>> {
     Index::read(alloc, text.as_bytes(), release, b"amd64", 0).ok()
 }
 
-fn write_pair(shown: &mut String, name: &[u8], version: &Version<'_>) -> Result<(), Fail> {
-    let name = str::from_utf8(name)?;
-    let version = str::from_utf8(version.text())?;
-    write!(shown, "{name}={version} ")?;
-    Ok(())
+fn write_pair(shown: &mut String, name: &[u8], version: &Version<'_>) -> Option<()> {
+    let name = str::from_utf8(name).ok()?;
+    let version = str::from_utf8(version.text()).ok()?;
+    write!(shown, "{name}={version} ").ok()
 }
 
 // The pairs, and behind a bar the candidates.
-fn shown(alloc: Global, u: &Universe<'_>) -> Result<String, Fail> {
+fn shown(alloc: Global, u: &Universe<'_>) -> Option<String> {
     let mut shown = String::new(alloc);
     for pair in u.pairs() {
         write_pair(&mut shown, pair.pkg().name(), pair.pkg().version())?;
     }
-    shown.push_str("| ")?;
+    shown.push_str("| ").ok()?;
     for candidate in u.candidates() {
         write_pair(&mut shown, candidate.name(), candidate.version())?;
     }
-    Ok(shown)
+    Some(shown)
 }
 
-const ONE: &str = "Package: a\nVersion: 1.0\nArchitecture: all\n";
+// The universe over two indices, or the refusal, as text.
+fn answer(
+    alloc: Global,
+    first: (&str, bool, bool),
+    second: (&str, bool, bool),
+    goals: Vec<GoalLine>,
+) -> Option<String> {
+    let indices = [index(alloc, first)?, index(alloc, second)?];
+    match build(alloc, &indices, goals) {
+        Ok(u) => shown(alloc, &u),
+        Err(error) => error.to_string(alloc).ok(),
+    }
+}
 
-const EQUAL: &str = "Package: a\nVersion: 1.00\nArchitecture: all\n";
+const A_ONE: &str = "Package: a\nVersion: 1.0\nArchitecture: all\n";
 
-const TWO: &str =
+const A_EQUAL: &str = "Package: a\nVersion: 1.00\nArchitecture: all\n";
+
+const B_A_TWO: &str =
     "Package: b\nVersion: 3\nArchitecture: amd64\n\nPackage: a\nVersion: 2\nArchitecture: all\n";
 
-const NONE: (&str, bool, bool) = ("", false, false);
+const EMPTY: (&str, bool, bool) = ("", false, false);
+
+const ONE: (&str, bool, bool) = (A_ONE, false, false);
+
+const EQUAL: (&str, bool, bool) = (A_EQUAL, false, false);
+
+const EQUAL_UPGRADES: (&str, bool, bool) = (A_EQUAL, true, true);
+
+const TWO: (&str, bool, bool) = (B_A_TWO, false, false);
+
+const NOT_AUTOMATIC: (&str, bool, bool) = (B_A_TWO, true, false);
+
+const UPGRADES: (&str, bool, bool) = (B_A_TWO, true, true);
 
 #[test]
 fn the_candidate_has_the_greatest_priority_and_then_version(rt: HostRuntime) -> Result<(), Fail> {
-    let exactly = Some((Op::ExactlyEqual, "2"));
-    let later = Some((Op::StrictlyLater, "1"));
     let rows = [
-        (NONE, NONE, None, "| "),
-        (
-            (ONE, false, false),
-            (TWO, false, false),
-            None,
-            "a=2 b=3 | a=2 b=3 ",
-        ),
-        (
-            (ONE, false, false),
-            (TWO, true, false),
-            None,
-            "a=1.0 b=3 | a=1.0 b=3 ",
-        ),
-        (
-            (ONE, false, false),
-            (TWO, true, true),
-            None,
-            "a=1.0 b=3 | a=1.0 b=3 ",
-        ),
-        (
-            (TWO, true, false),
-            (ONE, true, true),
-            None,
-            "a=1.0 b=3 | a=1.0 b=3 ",
-        ),
-        (
-            (ONE, false, false),
-            (TWO, true, false),
-            exactly,
-            "a=1.0 a=2 b=3 | a=1.0 b=3 ",
-        ),
-        (
-            (ONE, false, false),
-            (TWO, true, false),
-            later,
-            "a=1.0 b=3 | a=1.0 b=3 ",
-        ),
-        (
-            (ONE, false, false),
-            (EQUAL, false, false),
-            None,
-            "a=1.0 | a=1.0 ",
-        ),
-        (
-            (EQUAL, false, false),
-            (ONE, true, false),
-            None,
-            "a=1.00 | a=1.00 ",
-        ),
+        (EMPTY, EMPTY, "| "),
+        (ONE, TWO, "a=2 b=3 | a=2 b=3 "),
+        (ONE, NOT_AUTOMATIC, "a=1.0 b=3 | a=1.0 b=3 "),
+        (ONE, UPGRADES, "a=1.0 b=3 | a=1.0 b=3 "),
+        (NOT_AUTOMATIC, EQUAL_UPGRADES, "a=1.00 b=3 | a=1.00 b=3 "),
+        (ONE, EQUAL, "a=1.0 | a=1.0 "),
+        (EQUAL, ONE, "a=1.00 | a=1.00 "),
     ];
-    for (first, second, asked, wanted) in rows {
+    for (first, second, wanted) in rows {
         let alloc = rt.alloc();
-        let indices = [
-            index(alloc, first).ok_or("no index")?,
-            index(alloc, second).ok_or("no index")?,
-        ];
-        let goals = goals(alloc, asked).ok_or("no goals")?;
-        let u = build(alloc, &indices, goals)?;
-        assert_eq!(rt; shown(alloc, &u)?.as_str(), wanted);
+        let answer = answer(alloc, first, second, Vec::new(alloc)).ok_or("no answer")?;
+        assert_eq!(rt; answer.as_str(), wanted);
     }
     Ok(())
 }
 
 #[test]
-fn a_name_that_nothing_has_is_refused_by_its_line(rt: HostRuntime) -> Result<(), Fail> {
-    let alloc = rt.alloc();
-    let indices = [index(alloc, (TWO, false, false)).ok_or("no index")?];
-    let mut goals = Vec::new(alloc);
-    for (line, asked) in [(1, "b"), (3, "ab"), (4, "c")] {
-        let goal = Goal::Remove(name(alloc, asked).ok_or("no name")?);
-        goals.push(GoalLine { line, goal })?;
+fn what_is_asked_for_is_admitted_or_refused_by_its_line(rt: HostRuntime) -> Result<(), Fail> {
+    let rows = [
+        ("a", Op::ExactlyEqual, "2", "a=1.0 a=2 b=3 | a=1.0 b=3 "),
+        ("a", Op::ExactlyEqual, "0:1.00-0", "a=1.0 b=3 | a=1.0 b=3 "),
+        ("a", Op::StrictlyLater, "1.0", "a=1.0 b=3 | a=1.0 b=3 "),
+        ("c", Op::ExactlyEqual, "2", "E17 UnknownName 3"),
+    ];
+    for (asked, op, version, wanted) in rows {
+        let alloc = rt.alloc();
+        let goals = install(alloc, 3, asked, op, version).ok_or("no goals")?;
+        let answer = answer(alloc, ONE, NOT_AUTOMATIC, goals).ok_or("no answer")?;
+        assert_eq!(rt; answer.as_str(), wanted);
     }
-    let answer = build(alloc, &indices, goals).err();
-    assert_eq!(rt; answer, Some(UniverseError::UnknownName(3)));
     Ok(())
 }
 
@@ -177,41 +159,14 @@ fn errors_are_printed_with_their_codes(rt: HostRuntime) -> Result<(), Fail> {
     Ok(())
 }
 
-// Each call of a universe once, over the two versions of `a` of which the lower one is asked for.
-#[test]
-fn a_universe_lends_its_parts(rt: HostRuntime) -> Result<(), Fail> {
-    let alloc = rt.alloc();
-    let one = index(alloc, (ONE, false, false)).ok_or("no index")?;
-    let two = index(alloc, (TWO, false, false)).ok_or("no index")?;
-    let indices = [one, two];
-    let goals = goals(alloc, Some((Op::ExactlyEqual, "1.00"))).ok_or("no goals")?;
-    let u = build(alloc, &indices, goals)?;
-    let one = Version::parse(b"1.00")?;
-    let two = Version::parse(b"2")?;
-    assert_eq!(rt; u.goals().len(), 1);
-    assert!(rt; u.starts().is_empty());
-    assert!(rt; u.pair(0).is_none());
-    assert!(rt; u.pair(1).is_some_and(|pair| *pair.pkg().version() == one));
-    assert!(rt; u.pair(2).is_some_and(|pair| *pair.pkg().version() == two));
-    assert!(rt; u.pair(4).is_none());
-    assert!(rt; u.listed_of(b"a", &one).is_some());
-    assert!(rt; u.listed_of(b"c", &one).is_none());
-    assert!(rt; u.candidate(b"a").is_some_and(|version| *version == two));
-    assert!(rt; u.candidate(b"c").is_none());
-    Ok(())
-}
-
 /// Run with each allocation refused in turn (`rt try --test --fail-alloc N`): the answer is the same or want of memory.
 #[test]
 fn a_refused_growth_is_answered_as_want_of_memory(rt: HostRuntime) {
-    let Some(index) = index(rt.alloc(), (TWO, false, false)) else {
+    let Some(goals) = install(rt.alloc(), 1, "a", Op::ExactlyEqual, "2") else {
         return;
     };
-    let Some(goals) = goals(rt.alloc(), Some((Op::ExactlyEqual, "2"))) else {
-        return;
-    };
-    match build(rt.alloc(), &[index], goals) {
-        Ok(u) => assert_eq!(rt; (u.pairs().len(), u.candidates().len()), (2, 2)),
-        Err(error) => assert_eq!(rt; error, UniverseError::OutOfMemory),
+    if let Some(answer) = answer(rt.alloc(), ONE, NOT_AUTOMATIC, goals) {
+        let answer = answer.as_str();
+        assert!(rt; answer == "a=1.0 a=2 b=3 | a=1.0 b=3 " || answer == "E1 OutOfMemory");
     }
 }
