@@ -1,0 +1,4 @@
+pub mod WordLemmas
+pub mod KeptLemmas
+pub mod SeenLemmas
+pub mod EntriesLemmas
