@@ -1,5 +1,5 @@
 -- Entries before others: none change nothing, and some before some before others are all before them.
-use Rattle.std.proofs.Common.{◌≡◌, ℕ, List, [], ◌∷◌, ◌++◌, Option, Result, Ok, Err, refl, ap, sym, ◌∙◌, append_assoc}
+use Rattle.std.proofs.Common.{◌≡◌, ℕ, List, [], ◌∷◌, ◌++◌, Option, Result, Ok, Err, refl, ap, sym, append_assoc}
 use Rattle.rules.specs.Entry.{Entry}
 use Rattle.stanza.specs.Stanza.{StanzaText}
 use Rattle.stanza.specs.declared.error.StanzaError.{StanzaError}

@@ -1,8 +1,8 @@
 -- A stanza of a present package that isn't refused reads as the package of its record.
 use Rattle.std.proofs.Common.{◌≡◌, ℕ, Bool, true, false, true≢false, List, [], Option, Some, None, Ok, refl, sym, ap, ◌∙◌, if◌then◌else◌, unwrap_or}
-use Rattle.std.specs.Option.{option_map, option_map_or, option_or}
+use Rattle.std.specs.Option.{option_or}
 use Rattle.relation.specs.PkgFields.{fields_of}
-use Rattle.relation.specs.PkgText.{pkg_fault, pkg_name_fault, pkg_version_fault, read_pkg, relations_fault, unless_fault, value_in}
+use Rattle.relation.specs.PkgText.{pkg_fault, pkg_name_fault, read_pkg, unless_fault, value_in}
 use Rattle.relation.specs.PkgText.{pkg_of as spelled_pkg}
 use Rattle.relation.specs.declared.error.PkgFault.{PkgFault}
 use Rattle.rules.specs.Database.{pkg_of}

@@ -1,8 +1,7 @@
 -- The first word of a text, cut from its front: the words are that word and the words of what follows it.
-use Rattle.std.proofs.Common.{◌≡◌, ℕ, ◌+◌, ◌==◌, Bool, true, false, true≢false, not, List, [], ◌∷◌, length, take, drop, refl, ap, one-add, inl, inr, ◌∙◌, sym}
+use Rattle.std.proofs.Common.{◌≡◌, ℕ, ◌==◌, Bool, true, false, true≢false, not, List, [], ◌∷◌, length, take, drop, refl, one-add, inl, inr, ◌∙◌, sym}
 use Rattle.std.proofs.Math.Nat.{suc-ne-zero}
 use Rattle.std.proofs.lemmas.Bool.{cases_Bool, eqb-true}
-use Rattle.std.proofs.lemmas.List.Splits.{slice_split-cons_no, slice_split-cons_yes}
 use Rattle.std.specs.Prelude.{filter}
 use Rattle.std.specs.List.{prefix_len, slice_split}
 use Rattle.status_text.specs.Words.{is_some_word}

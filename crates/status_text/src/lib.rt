@@ -15,7 +15,7 @@ mod tests;
 mod words;
 
 pub use error::{RequiredField, StatusError, StatusFault};
+pub use mark::Mark;
 pub use name::PackageName;
 pub use read::read_status;
 pub use record::StatusRecord;
-pub use words::{StateWord, StatusWords, read_words};

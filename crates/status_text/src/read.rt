@@ -1,5 +1,7 @@
 //! The records of a status file.
 ghost use Rattle.std.specs.Prelude.{◌≡◌, ◌++◌, [], IfErr, IfOk, OnOk, Ok, false};
+ghost use Rattle.rules.specs.Database.{HasDistinctNames};
+ghost use Rattle.rules.specs.Entry.{records_of};
 ghost use Rattle.stanza.specs.Stanza.{items_of};
 ghost use Rattle.status_text.specs.Error.{IsStatusFault};
 ghost use Rattle.status_text.specs.Record.{names_with};
@@ -47,6 +49,7 @@ fn records_in<'a>(
     arch: &'a [u8],
 ) -> Result<Vec<StatusRecord<'a>>, StatusError<'a>>
     ensures ok { IfOk result (λ records. Spec.entries_in arch.now (items_of false text.now) [] ≡ Ok records.items) }
+    ensures distinct { IfOk result (λ records. HasDistinctNames (records_of records.items)) }
     ensures err { IfErr result (λ e. IsStatusFault e (Spec.entries_in arch.now (items_of false text.now) [])) }
 {
     let mut records = Vec::new(alloc);
@@ -69,6 +72,7 @@ pub fn read_status<'a>(
     arch: &'a [u8],
 ) -> Result<Vec<StatusRecord<'a>>, StatusError<'a>>
     ensures ok { IfOk result (λ records. Spec.read_status arch.now text.now ≡ Ok records.items) }
+    ensures distinct { IfOk result (λ records. HasDistinctNames (records_of records.items)) }
     ensures err { IfErr result (λ e. IsStatusFault e (Spec.read_status arch.now text.now)) }
 {
     if text.len() > TEXT_BYTES {

@@ -1,6 +1,7 @@
 //! What the clauses do not say: printed refusals, worked texts and their readings, and that the calls succeed. Lines and
 //! offsets were counted in the row's text; the words are those of dpkg(1), and the architecture is amd64.
-use crate::{StateWord, StatusError, StatusRecord, StatusWords, read_status, read_words};
+use crate::words::{StateWord, StatusWords, read_words};
+use crate::{StatusError, StatusRecord, read_status};
 use rules::{Flag, State, Want};
 use std::alloc::Global;
 use std::str;

@@ -1,4 +1,4 @@
-use Rattle.std.proofs.Common.{rules, ◌≡◌, ◌∙◌, not, false, ap, subst, bytes_eq, IfOk, IfErr}
+use Rattle.std.proofs.Common.{◌≡◌, ◌∙◌, not, false, ap, subst, bytes_eq, IfOk, IfErr}
 use Rattle.status_text.specs.Record.{is_seen}
 use Rattle.status_text.proofs.SeenLemmas.{any-lent}
 use Rattle.status_text.proofs.seen.Seen.insert.Goals as goal
