@@ -1,7 +1,8 @@
 -- What a record keeps of its stanza.
-use Rattle.std.specs.Prelude.{◌≡◌, ℕ, Bool, true, List, [], Option, Ok, unwrap_or}
+use Rattle.std.specs.Prelude.{◌≡◌, ℕ, Bool, true, List, [], Option, Ok, IsTrue, unwrap_or}
 use Rattle.relation.specs.PkgText.{read_pkg}
 use Rattle.rules.specs.Database.{Record, pkg_of}
+use Rattle.rules.specs.Name.{is_name}
 use Rattle.rules.specs.State.{is_present_state}
 use Rattle.stanza.specs.Stanza.{StanzaText}
 use Rattle.status_text.specs.Record.{relations_at}
@@ -20,6 +21,7 @@ kept_record arch stanza name mark version config_version is_essential = record {
   is_essential = is_essential;
 }
 
--- the stanza of a present record reads as the record's package
-unfoldable pub KeepsPkg : List ℕ → StanzaText → Record → Type 0
-KeepsPkg arch stanza found = is_present_state found.state ≡ true → read_pkg arch stanza ≡ Ok (pkg_of found)
+-- the record has a name (Policy 5.6.1), and the stanza of a present one reads as its package
+pub record IsKept (arch : List ℕ) (stanza : StanzaText) (found : Record) : Type 0 where
+  pub name : IsTrue (is_name found.name)
+  pub pkg : is_present_state found.state ≡ true → read_pkg arch stanza ≡ Ok (pkg_of found)

@@ -1,10 +1,11 @@
 //! One stanza of the status file: its record, or its first refusal.
-ghost use Rattle.std.specs.Prelude.{◌≡◌, IfErr, IfOk, MatchResult, None, Ok, Some};
+ghost use Rattle.std.specs.Prelude.{◌≡◌, IfErr, IfOk, IsTrue, MatchResult, None, Ok, Some};
 ghost use Rattle.std.specs.Option.{option_and_then};
 ghost use Rattle.index.specs.Index as Index;
 ghost use Rattle.index.specs.Listed.{field_of};
 ghost use Rattle.relation.specs.PkgFields.{fields_of};
 ghost use Rattle.relation.specs.PkgText.{pkg_name_fault, version_fault};
+ghost use Rattle.rules.specs.Name.{is_name};
 ghost use Rattle.rules.specs.Stanza.{is_called, marks_essential};
 ghost use Rattle.status_text.specs.Error.{IsStatusFault};
 ghost use Rattle.status_text.specs.Mark.{name_in};
@@ -145,6 +146,7 @@ fn read_new<'a>(
     requires fields { fields.now ≡ fields_of stanza.now }
     requires name { name.now ≡ name_in stanza.now }
     requires named { pkg_name_fault fields.now ≡ None }
+    requires valid { IsTrue (is_name name.now) }
     ensures ok { IfOk result (λ entry. (Spec.read_new arch.now seen.old stanza.now mark ≡ Ok (Some entry)) × (seen.new ≡ names_with seen.old (Some entry))) }
     ensures err { IfErr result (λ e. IsStatusFault e (Spec.read_new arch.now seen.old stanza.now mark)) }
 {

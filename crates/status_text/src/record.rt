@@ -1,9 +1,11 @@
 //! A record of the status file with its stanza.
-ghost use Rattle.std.specs.Prelude.{◌≡◌, [], unwrap_or, IfOk};
+ghost use Rattle.std.specs.Prelude.{◌≡◌, [], false, unwrap_or, IfOk, IsTrue};
 ghost use Rattle.index.specs.Listed.{read_stanza};
 ghost use Rattle.rules.specs.Database.{IsPresent, pkg_of, stands};
+ghost use Rattle.rules.specs.Name.{is_name};
 ghost use Rattle.rules.specs.State.{is_hold, is_installed_state, is_present_state};
-ghost use Rattle.status_text.specs.Kept.{KeepsPkg, kept_record};
+ghost use Rattle.rules.specs.Step.{no_relations};
+ghost use Rattle.status_text.specs.Kept.{IsKept, kept_record};
 
 use crate::mark::Mark;
 use debversion::Version;
@@ -28,7 +30,7 @@ pub struct StatusRecord<'a> {
 impl<'a> Model for StatusRecord<'a> {
     ghost use Rattle.index.specs.Listed.{read_stanza};
     ghost use Rattle.rules.specs.Entry.{Entry};
-    ghost use Rattle.status_text.specs.Kept.{KeepsPkg, kept_record};
+    ghost use Rattle.status_text.specs.Kept.{IsKept, kept_record};
 
     ghost Value = { Entry };
 
@@ -37,7 +39,7 @@ impl<'a> Model for StatusRecord<'a> {
       stanza = read_stanza r.stanza;
     } };
 
-    ghost invariant = { λ r. KeepsPkg r.arch.now r.stanza
+    ghost invariant = { λ r. IsKept r.arch.now r.stanza
         (kept_record r.arch.now r.stanza r.name.now r.mark r.version r.config_version r.is_essential) };
 }
 
@@ -52,7 +54,7 @@ impl<'a> StatusRecord<'a> {
         config_version: Option<Version<'a>>,
         is_essential: bool,
     ) -> StatusRecord<'a>
-        requires { KeepsPkg arch.now stanza (kept_record arch.now stanza name.now mark version config_version is_essential) }
+        requires { IsKept arch.now stanza (kept_record arch.now stanza name.now mark version config_version is_essential) }
         ensures { result ≡ record {
           found = kept_record arch.now stanza.entry name.now mark version.entry config_version.entry is_essential;
           stanza = read_stanza stanza.entry;
@@ -71,7 +73,8 @@ impl<'a> StatusRecord<'a> {
 
     /// The name.
     pub fn name(&self) -> &'a [u8]
-        ensures { result.now ≡ self.now.found.name }
+        ensures value { result.now ≡ self.now.found.name }
+        ensures valid { IsTrue (is_name self.now.found.name) }
     {
         self.name
     }
@@ -125,11 +128,13 @@ impl<'a> StatusRecord<'a> {
         &self.stanza
     }
 
-    /// Whether files of the package are there.
+    /// Whether files of the package are there. The record has no relations where they aren't.
     pub fn is_present(&self) -> bool
-        ensures { result ≡ is_present_state self.now.found.state }
+        ensures value { result ≡ is_present_state self.now.found.state }
+        ensures bare { result ≡ false → self.now.found.relations ≡ no_relations }
     {
-        self.state().is_present()
+        let Mark { state, .. } = self.mark;
+        state.is_present()
     }
 
     /// Whether the package is installed.
@@ -154,7 +159,6 @@ impl<'a> StatusRecord<'a> {
     }
 
     /// The package of a present record. Memory alone can fail. Linear in the stanza.
-    #[tactic(auto, unfolding(crate::specs::Kept::KeepsPkg))]
     pub fn pkg(&self, alloc: Global) -> Result<Pkg<'a>, AllocError>
         requires { IsPresent self.now.found }
         ensures { IfOk result (λ pkg. pkg ≡ pkg_of self.now.found) }
