@@ -19,8 +19,8 @@ impl<'a> Model for PackageName<'a> {
 }
 
 impl<'a> PackageName<'a> {
-    /// The name of these bytes.
-    pub fn new(bytes: &'a [u8]) -> PackageName<'a>
+    // The name of these bytes.
+    pub(crate) fn new(bytes: &'a [u8]) -> PackageName<'a>
         ensures { result ≡ bytes.now }
     {
         PackageName { bytes }
