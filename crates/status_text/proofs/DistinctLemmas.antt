@@ -1,0 +1,118 @@
+-- The records that are read have distinct names: none has a name that stands before it.
+use Rattle.std.proofs.Common.{◌≡◌, ◌≢◌, arith, ℕ, Bool, true, false, true≢false, ◌||◌, List, [], ◌∷◌, ◌++◌, Option, Some, None, Result, Ok, Err, refl, sym, subst, ◌∙◌, bytes_eq, if◌then◌else◌}
+use Rattle.std.specs.Prelude.{⊤}
+use Rattle.std.specs.List.{All, AllPairs}
+use Rattle.std.proofs.lemmas.List.Elements.{All-cons, All-nil}
+use Rattle.std.proofs.lemmas.List.Folds.{list_any-append}
+use Rattle.std.proofs.lemmas.List.Kept.{AllPairs-cons}
+use Rattle.relation.specs.declared.error.PkgFault.{PkgFault}
+use Rattle.rules.specs.Database.{Record, HasDistinctNames}
+use Rattle.rules.specs.Entry.{Entry, records_of}
+use Rattle.rules.specs.NamedLaws.{bytes_eq-same}
+use Rattle.stanza.specs.Stanza.{StanzaText}
+use Rattle.stanza.specs.declared.error.StanzaError.{StanzaError}
+use Rattle.status_text.specs.Mark.{counts, name_in, read_mark, unless_fault}
+use Rattle.status_text.specs.Record.{entry_of, is_seen, later_fault, names_with, read_counted, read_marked}
+use Rattle.status_text.specs.Status.{entries_in, entry_then, listed, read_item, with_entries}
+use Rattle.status_text.specs.declared.error.StatusFault.{StatusFault}
+use Rattle.status_text.specs.declared.mark.Mark.{Mark}
+
+-- the record's name isn't among these
+abbrev pub IsNew : List (List ℕ) → Record → Type 0
+IsNew seen found = is_seen seen found.name ≡ false
+
+-- the names of these are distinct, and none is among those before
+pub record AreNew (seen : List (List ℕ)) (records : List Record) : Type 0 where
+  pub fresh : All (IsNew seen) records
+  pub distinct : AllPairs (λ earlier later. earlier.name ≢ later.name) records
+
+-- what a stanza gives is new, if it gives anything
+abbrev pub GivesNew : List (List ℕ) → Result (Option Entry) StatusFault → Type 0
+GivesNew seen (Err refused) = ⊤
+GivesNew seen (Ok None) = ⊤
+GivesNew seen (Ok (Some entry)) = IsNew seen entry.found
+
+unseen-gives : (seen : List (List ℕ)) (entry : Entry) (duplicate : StatusFault) (is_old : Bool) (refused : Option PkgFault) → is_seen seen entry.found.name ≡ is_old
+    → GivesNew seen (if is_old then Err duplicate else unless_fault refused (Ok (Some entry)))
+unseen-gives seen entry duplicate true refused e = tt
+unseen-gives seen entry duplicate false None e = e
+unseen-gives seen entry duplicate false (Some refused) e = tt
+
+counted-gives : (arch : List ℕ) (seen : List (List ℕ)) (stanza : StanzaText) (mark : Mark) (counted : Result Bool StatusFault)
+    → GivesNew seen (read_counted arch seen stanza mark counted)
+counted-gives arch seen stanza mark (Err refused) = tt
+counted-gives arch seen stanza mark (Ok false) = tt
+counted-gives arch seen stanza mark (Ok true) =
+    unseen-gives seen (entry_of arch stanza mark) _ (is_seen seen (name_in stanza)) (later_fault mark.state stanza) refl
+
+marked-gives : (arch : List ℕ) (seen : List (List ℕ)) (stanza : StanzaText) (marked : Result Mark StatusFault)
+    → GivesNew seen (read_marked arch seen stanza marked)
+marked-gives arch seen stanza (Err refused) = tt
+marked-gives arch seen stanza (Ok mark) = counted-gives arch seen stanza mark (counts arch stanza mark.state)
+
+item-gives : (arch : List ℕ) (seen : List (List ℕ)) (item : Result StanzaText StanzaError) → GivesNew seen (read_item arch seen item)
+item-gives arch seen (Err refused) = tt
+item-gives arch seen (Ok stanza) = marked-gives arch seen stanza (read_mark stanza)
+
+or-false-left : (a b : Bool) → (a || b) ≡ false → a ≡ false
+or-false-left true b h = h
+or-false-left false b h = refl
+
+or-false-right : (a b : Bool) → (a || b) ≡ false → b ≡ false
+or-false-right true b h = absurd (true≢false h)
+or-false-right false b h = h
+
+-- a name that is new behind one more is new before it, and is another
+seen-twice : (seen : List (List ℕ)) (name other : List ℕ) → is_seen (seen ++ other ∷ []) name ≡ (is_seen seen name || (bytes_eq name other || false))
+seen-twice seen name other = list_any-append (bytes_eq name) seen (other ∷ [])
+
+new-before : (seen : List (List ℕ)) (name other : List ℕ) → is_seen (seen ++ other ∷ []) name ≡ false → is_seen seen name ≡ false
+new-before seen name other h = or-false-left _ (bytes_eq name other || false) (sym (seen-twice seen name other) ∙ h)
+
+new-other : (seen : List (List ℕ)) (name other : List ℕ) → is_seen (seen ++ other ∷ []) name ≡ false → other ≢ name
+new-other seen name other h = λ same.
+    let differs : bytes_eq name other ≡ false =
+    or-false-left (bytes_eq name other) false (or-false-right (is_seen seen name) _ (sym (seen-twice seen name other) ∙ h)) in
+    true≢false (sym (bytes_eq-same name other (sym same)) ∙ differs)
+
+with-new : (seen : List (List ℕ)) (found : Record) (later : List Record) → IsNew seen found → AreNew (seen ++ found.name ∷ []) later
+    → AreNew seen (found ∷ later)
+with-new seen found later is_new are_new = record {
+  fresh = All-cons (IsNew seen) found later is_new (λ k d within. new-before seen _ found.name (are_new.fresh k d within));
+  distinct = AllPairs-cons (λ earlier later. earlier.name ≢ later.name) found later
+      (λ k d within. new-other seen _ found.name (are_new.fresh k d within)) are_new.distinct;
+}
+
+-- what a stanza gives and then what is read behind it
+joined-new : (seen : List (List ℕ)) (entry : Option Entry) (read : Result (List Entry) StatusFault) (entries : List Entry)
+    → GivesNew seen (Ok entry) → ((later : List Entry) → read ≡ Ok later → AreNew (names_with seen entry) (records_of later))
+    → with_entries (listed entry) read ≡ Ok entries → AreNew seen (records_of entries)
+joined-new seen entry (Err refused) entries gives later e = absurd (let h = e in cc)
+joined-new seen None (Ok more) entries gives later e =
+    let same : more ≡ entries = let h = e in cc in subst (λ all. AreNew seen (records_of all)) same (later more refl)
+joined-new seen (Some entry) (Ok more) entries gives later e =
+    let same : (entry ∷ more) ≡ entries = let h = e in cc in
+    subst (λ all. AreNew seen (records_of all)) same (with-new seen entry.found (records_of more) gives (later more refl))
+
+item-new : (seen : List (List ℕ)) (given : Result (Option Entry) StatusFault) (rest : List (List ℕ) → Result (List Entry) StatusFault) (entries : List Entry)
+    → GivesNew seen given → ((names : List (List ℕ)) (later : List Entry) → rest names ≡ Ok later → AreNew names (records_of later))
+    → entry_then seen given rest ≡ Ok entries → AreNew seen (records_of entries)
+item-new seen (Err refused) rest entries gives later e = absurd (let h = e in cc)
+item-new seen (Ok entry) rest entries gives later e =
+    joined-new seen entry (rest (names_with seen entry)) entries gives (later (names_with seen entry)) e
+
+none-new : (seen : List (List ℕ)) → AreNew seen []
+none-new seen = record { fresh = All-nil (IsNew seen); distinct = λ i j d before within. absurd (omega (arith, within)) }
+
+pub entries-new : (arch : List ℕ) (items : List (Result StanzaText StanzaError)) (seen : List (List ℕ)) (entries : List Entry)
+    → entries_in arch items seen ≡ Ok entries → AreNew seen (records_of entries)
+entries-new arch [] seen entries e =
+    let same : [] ≡ entries = let h = e in cc in subst (λ all. AreNew seen (records_of all)) same (none-new seen)
+entries-new arch (item ∷ items) seen entries e =
+    item-new seen (read_item arch seen item) (entries_in arch items) entries (item-gives arch seen item)
+    (λ names later read. entries-new arch items names later read) e
+
+pub distinct_names : (arch : List ℕ) (items : List (Result StanzaText StanzaError)) (entries : List Entry)
+    → entries_in arch items [] ≡ Ok entries → HasDistinctNames (records_of entries)
+unfolding HasDistinctNames
+distinct_names arch items entries e = (entries-new arch items [] entries e).distinct

@@ -1,0 +1,10 @@
+use Rattle.std.proofs.Common.{◌≡◌}
+use Rattle.index.specs.Index.{is_essential}
+use Rattle.status_text.proofs.entry.is_essential.Given as goal
+
+-- what is left of the fields answers for all of them
+abbrev pub invariant-loop-field : goal.invariant-loop-field
+invariant-loop-field l =
+    (goal.iterator-loop-field).can_next l.field-iterator ×
+    (goal.iterator-loop-field).is_finite l.field-iterator ×
+    (is_essential l.stanza.fields ≡ is_essential l.field-iterator)

@@ -1,0 +1,6 @@
+pub mod Words
+pub mod Mark
+pub mod Record
+pub mod Kept
+pub mod Status
+pub mod Error

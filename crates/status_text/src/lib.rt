@@ -1,0 +1,21 @@
+//! The text of dpkg's status file (dpkg(1), "Package states"; Debian Policy 5.1): its records, in order, as the
+//! database that plans are judged on, or the first refusal. It stands on `stanza`, `relation` and `rules`.
+//! The main type is `StatusRecord`, the main call `read_status`.
+#![tactic(auto)]
+
+mod entry;
+mod error;
+mod mark;
+mod name;
+mod read;
+mod record;
+mod seen;
+#[cfg(test)]
+mod tests;
+mod words;
+
+pub use error::{RequiredField, StatusError, StatusFault};
+pub use mark::Mark;
+pub use name::PackageName;
+pub use read::read_status;
+pub use record::StatusRecord;

@@ -1,0 +1,98 @@
+//! What the field Status of a stanza says of its package, and whether the stanza counts.
+ghost use Rattle.std.specs.Prelude.{◌≡◌, codes};
+ghost use Rattle.stanza.specs.Field as FieldSpec;
+ghost use Rattle.index.specs.Index as Index;
+ghost use Rattle.relation.specs.PkgFields.{field_named};
+ghost use Rattle.status_text.specs.Mark as Spec;
+ghost use Rattle.status_text.specs.Mark.{name_in};
+
+use crate::error::{RequiredField, StatusFault};
+use crate::name::PackageName;
+use crate::words::{StateWord, StatusWords, read_words};
+use relation::PkgFields;
+use rules::{Flag, State, Want};
+use stanza::{Field, Stanza};
+
+/// What a stanza's field Status says of its package.
+#[derive(Clone, Copy, Debug, PartialEq, Eq)]
+pub struct Mark {
+    /// What is wanted of the package.
+    pub want: Want,
+    /// Whether it is to be installed again.
+    pub flag: Flag,
+    /// How far it is.
+    pub state: State,
+}
+
+fn same_name(name: &[u8], other: &[u8]) -> bool
+    ensures { result ≡ FieldSpec.same_name name.now other.now }
+{
+    name.eq_ignore_ascii_case(other)
+}
+
+/// The first field of this name. It walks over the stanza's lines.
+pub fn field_named<'a>(stanza: &Stanza<'a>, name: &[u8]) -> Option<Field<'a>>
+    ensures { result ≡ field_named name.now stanza.now.fields }
+{
+    for field in stanza.fields() {
+        if same_name(field.name(), name) {
+            return Some(field);
+        }
+    }
+    None
+}
+
+fn mark_of<'a>(name: &'a [u8], words: StatusWords) -> Result<Mark, StatusFault<'a>>
+    ensures { result ≡ Spec.mark_of name.now words words.state }
+{
+    match words.state {
+        StateWord::Triggers => Err(StatusFault::TriggerState(PackageName::new(name))),
+        StateWord::Plain(state) => Ok(Mark {
+            want: words.want,
+            flag: words.flag,
+            state,
+        }),
+    }
+}
+
+/// What the stanza of the package of this name says in its field Status.
+pub fn mark_in<'a>(name: &'a [u8], stanza: &Stanza<'a>) -> Result<Mark, StatusFault<'a>>
+    requires { name.now ≡ name_in stanza.now }
+    ensures { result ≡ Spec.mark_in stanza.now (field_named (codes "Status") stanza.now.fields) }
+{
+    match field_named(stanza, b"Status") {
+        None => Err(StatusFault::MissingField(stanza.line(), RequiredField::Status)),
+        Some(field) => match read_words(field.value()) {
+            None => Err(StatusFault::BadStatus(field.line())),
+            Some(words) => mark_of(name, words),
+        },
+    }
+}
+
+fn counts_for(arch: &[u8], value: &[u8]) -> bool
+    ensures { result ≡ Index.counts_for arch.now value.now }
+{
+    value == b"all".as_slice() || value == arch
+}
+
+/// Whether the stanza of the package of this name, which is in this state, has a record.
+pub fn counts<'a>(
+    arch: &[u8],
+    name: &'a [u8],
+    stanza: &Stanza<'a>,
+    state: State,
+) -> Result<bool, StatusFault<'a>>
+    requires { name.now ≡ name_in stanza.now }
+    ensures { result ≡ Spec.counts arch.now stanza.now state }
+{
+    match stanza.get(b"Architecture") {
+        None if state.is_present() => Err(StatusFault::MissingField(
+            stanza.line(),
+            RequiredField::Architecture,
+        )),
+        None => Ok(true),
+        Some(value) if counts_for(arch, value) => Ok(true),
+        Some(_) if state.is_not_installed() => Ok(false),
+        Some(_) => Err(StatusFault::ForeignArchitecture(PackageName::new(name))),
+    }
+}

@@ -1,0 +1,172 @@
+//! A record of the status file with its stanza.
+ghost use Rattle.std.specs.Prelude.{◌≡◌, [], false, unwrap_or, IfOk, IsTrue};
+ghost use Rattle.index.specs.Listed.{read_stanza};
+ghost use Rattle.rules.specs.Database.{IsPresent, pkg_of, stands};
+ghost use Rattle.rules.specs.Name.{is_name};
+ghost use Rattle.rules.specs.State.{is_hold, is_installed_state, is_present_state};
+ghost use Rattle.rules.specs.Step.{no_relations};
+ghost use Rattle.status_text.specs.Kept.{IsKept, kept_record};
+
+use crate::mark::Mark;
+use debversion::Version;
+use relation::{Pkg, PkgError};
+use rules::{Flag, State, Want};
+use stanza::Stanza;
+use std::alloc::{AllocError, Global};
+use std::marker::Model;
+
+/// What the status file says of a name. It borrows the text; its relations are read anew by each call of `pkg`.
+#[derive(Drop)]
+pub struct StatusRecord<'a> {
+    arch: &'a [u8],
+    stanza: Stanza<'a>,
+    name: &'a [u8],
+    mark: Mark,
+    version: Option<Version<'a>>,
+    config_version: Option<Version<'a>>,
+    is_essential: bool,
+}
+
+impl<'a> Model for StatusRecord<'a> {
+    ghost use Rattle.index.specs.Listed.{read_stanza};
+    ghost use Rattle.rules.specs.Entry.{Entry};
+    ghost use Rattle.status_text.specs.Kept.{IsKept, kept_record};
+
+    ghost Value = { Entry };
+
+    ghost view = { λ r. record {
+      found = kept_record r.arch.now r.stanza r.name.now r.mark r.version r.config_version r.is_essential;
+      stanza = read_stanza r.stanza;
+    } };
+
+    ghost invariant = { λ r. IsKept r.arch.now r.stanza
+        (kept_record r.arch.now r.stanza r.name.now r.mark r.version r.config_version r.is_essential) };
+}
+
+impl<'a> StatusRecord<'a> {
+    // The record with these parts.
+    pub(crate) fn new(
+        arch: &'a [u8],
+        stanza: Stanza<'a>,
+        name: &'a [u8],
+        mark: Mark,
+        version: Option<Version<'a>>,
+        config_version: Option<Version<'a>>,
+        is_essential: bool,
+    ) -> StatusRecord<'a>
+        requires { IsKept arch.now stanza (kept_record arch.now stanza name.now mark version config_version is_essential) }
+        ensures { result ≡ record {
+          found = kept_record arch.now stanza.entry name.now mark version.entry config_version.entry is_essential;
+          stanza = read_stanza stanza.entry;
+        } }
+    {
+        StatusRecord {
+            arch,
+            stanza,
+            name,
+            mark,
+            version,
+            config_version,
+            is_essential,
+        }
+    }
+
+    /// The name.
+    pub fn name(&self) -> &'a [u8]
+        ensures value { result.now ≡ self.now.found.name }
+        ensures valid { IsTrue (is_name self.now.found.name) }
+    {
+        self.name
+    }
+
+    /// What is wanted of the package.
+    pub fn want(&self) -> Want
+        ensures { result ≡ self.now.found.want }
+    {
+        self.mark.want
+    }
+
+    /// Whether it is to be installed again.
+    pub fn flag(&self) -> Flag
+        ensures { result ≡ self.now.found.flag }
+    {
+        self.mark.flag
+    }
+
+    /// How far it is.
+    pub fn state(&self) -> State
+        ensures { result ≡ self.now.found.state }
+    {
+        self.mark.state
+    }
+
+    /// The version of its stanza, which a present package has.
+    pub fn version(&self) -> &Option<Version<'a>>
+        ensures { unwrap_or result.now [] ≡ self.now.found.version }
+    {
+        &self.version
+    }
+
+    /// The version that was configured last, if there is one.
+    pub fn config_version(&self) -> &Option<Version<'a>>
+        ensures { result.now ≡ self.now.found.config_version }
+    {
+        &self.config_version
+    }
+
+    /// Whether the stanza marks it essential.
+    pub fn is_essential(&self) -> bool
+        ensures { result ≡ self.now.found.is_essential }
+    {
+        self.is_essential
+    }
+
+    /// Its stanza.
+    pub fn stanza(&self) -> &Stanza<'a>
+        ensures { read_stanza result.now ≡ self.now.stanza }
+    {
+        &self.stanza
+    }
+
+    /// Whether files of the package are there. The record has no relations where they aren't.
+    pub fn is_present(&self) -> bool
+        ensures value { result ≡ is_present_state self.now.found.state }
+        ensures bare { result ≡ false → self.now.found.relations ≡ no_relations }
+    {
+        let Mark { state, .. } = self.mark;
+        state.is_present()
+    }
+
+    /// Whether the package is installed.
+    pub fn is_installed(&self) -> bool
+        ensures { result ≡ is_installed_state self.now.found.state }
+    {
+        self.state().is_installed()
+    }
+
+    /// Whether the package is held.
+    pub fn is_held(&self) -> bool
+        ensures { result ≡ is_hold self.now.found.want }
+    {
+        self.want().is_hold()
+    }
+
+    /// Whether the package stands: its files are all there, and the flag is ok.
+    pub fn stands(&self) -> bool
+        ensures { result ≡ stands self.now.found }
+    {
+        (self.state().is_unconfigured() || self.state().is_installed()) && self.flag().is_sound()
+    }
+
+    /// The package of a present record. Memory alone can fail. Linear in the stanza.
+    pub fn pkg(&self, alloc: Global) -> Result<Pkg<'a>, AllocError>
+        requires { IsPresent self.now.found }
+        ensures { IfOk result (λ pkg. pkg ≡ pkg_of self.now.found) }
+    {
+        match Pkg::from_stanza(alloc, &self.stanza, self.arch) {
+            Ok(pkg) => Ok(pkg),
+            Err(PkgError::OutOfMemory) => Err(AllocError),
+            Err(_) => unreachable!(),
+        }
+    }
+}
