@@ -42,4 +42,4 @@ verdict_line answer = verdict_words answer ++ codes "\n"
 
 -- the line that is printed of a comparison
 abbrev pub comparison_line : Bool → List ℕ
-comparison_line answer = codes (if answer then "yes\n" else "no\n")
+comparison_line answer = if answer then codes "yes\n" else codes "no\n"

@@ -26,7 +26,7 @@ struct Row {
 }
 
 // The file, but that it may be missing or refused.
-fn changed<'a>(file: (&'a str, &'a str), row: &Row) -> (&'a str, &'a str) {
+fn changed(file: (&'static str, &'static str), row: &Row) -> (&'static str, &'static str) {
     let (path, kept) = file;
     if path == row.missing {
         ("elsewhere", kept)
@@ -37,9 +37,21 @@ fn changed<'a>(file: (&'a str, &'a str), row: &Row) -> (&'a str, &'a str) {
     }
 }
 
+fn files_of(row: &Row) -> [(&'static str, &'static str); 6] {
+    let [status, sources, first, second, request, plan] = ALL;
+    [
+        changed(status, row),
+        changed(sources, row),
+        changed(first, row),
+        changed(second, row),
+        changed(request, row),
+        changed(plan, row),
+    ]
+}
+
 fn is_right(alloc: Global, row: &Row) -> Result<bool, AllocError> {
     let words = check_plan_words(alloc)?;
-    let files = ALL.map(|file| changed(file, row));
+    let files = files_of(row);
     let mut host = Memory::new(alloc, &files);
     let printed = run_on(alloc, words.as_slice(), &mut host)?;
     let order = host.order(alloc)?;

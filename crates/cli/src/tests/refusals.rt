@@ -1,23 +1,23 @@
 // Texts that are refused: one line on standard error, and the exit status.
 
 use super::support::Wanted::Refused;
-use super::support::{Row, check_plan, right_rows, row, row_of};
+use super::support::{Case, check_plan, right_rows, row, row_of};
 use std::test::Fail;
 
 const A: &str = "Package: a\nVersion: 1\nArchitecture: all\n";
 
 // This index is refused so.
-fn index_row<'a>(index: &'a str, line: &'a str) -> Row<'a> {
+fn index_row<'a>(index: &'a str, line: &'a str) -> Case<'a> {
     row(index, "", "plan 1\n", Refused(line))
 }
 
 // This request is refused so.
-fn goal_row<'a>(request: &'a str, line: &'a str) -> Row<'a> {
+fn goal_row<'a>(request: &'a str, line: &'a str) -> Case<'a> {
     row(A, request, "plan 1\n", Refused(line))
 }
 
 // This plan is refused so.
-fn step_row<'a>(plan: &'a str, line: &'a str) -> Row<'a> {
+fn step_row<'a>(plan: &'a str, line: &'a str) -> Case<'a> {
     row(A, "install a\n", plan, Refused(line))
 }
 

@@ -123,12 +123,12 @@ pub(super) enum Wanted<'a> {
 
 /// The files of a scenario, and what has to be printed of it.
 #[derive(Clone, Copy)]
-pub(super) struct Row<'a> {
+pub(super) struct Case<'a> {
     pub(super) files: [(&'a str, &'a str); 6],
     pub(super) wanted: Wanted<'a>,
 }
 
-impl Row<'_> {
+impl Case<'_> {
     fn is_right(&self, alloc: Global) -> bool {
         let Ok(printed) = check_plan(alloc, &self.files) else {
             return false;
@@ -142,7 +142,7 @@ impl Row<'_> {
 }
 
 /// How many rows are printed as they have to be, up to the first that isn't.
-pub(super) fn right_rows(alloc: Global, rows: &[Row<'_>]) -> usize {
+pub(super) fn right_rows(alloc: Global, rows: &[Case<'_>]) -> usize {
     let mut count: usize = 0;
     for row in rows {
         if !row.is_right(alloc) {
@@ -160,7 +160,7 @@ pub(super) fn row_of<'a>(
     request: &'a str,
     plan: &'a str,
     wanted: Wanted<'a>,
-) -> Row<'a> {
+) -> Case<'a> {
     let [first, second] = indices;
     let files = [
         ("status", ""),
@@ -170,7 +170,7 @@ pub(super) fn row_of<'a>(
         ("request", request),
         ("plan", plan),
     ];
-    Row { files, wanted }
+    Case { files, wanted }
 }
 
 /// A row with one index, and an empty status file.
@@ -179,7 +179,7 @@ pub(super) fn row<'a>(
     request: &'a str,
     plan: &'a str,
     wanted: Wanted<'a>,
-) -> Row<'a> {
+) -> Case<'a> {
     row_of("File: index1\n", [index, ""], request, plan, wanted)
 }
 
