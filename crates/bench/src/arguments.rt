@@ -12,6 +12,8 @@ pub enum Measure {
     Relations,
     /// Reading a Packages file as an index.
     Index,
+    /// Reading a status file, and writing it.
+    Status,
 }
 
 /// A measure, and the file on which it is taken.
@@ -43,6 +45,7 @@ fn measure_of(word: &str) -> Option<Measure> {
         "versions" => Some(Measure::Versions),
         "relations" => Some(Measure::Relations),
         "index" => Some(Measure::Index),
+        "status" => Some(Measure::Status),
         _ => None,
     }
 }

@@ -31,7 +31,7 @@ abbrev pub exit_of_fault : Fault → Exit
 exit_of_fault fault.OutOfMemory = exit.Device
 exit_of_fault fault.Read = exit.Device
 exit_of_fault (fault.Version kind) = exit.Refused
-exit_of_fault (fault.Stanza refused) = exit.Refused
+exit_of_fault (fault.Status refused) = exit.Refused
 exit_of_fault (fault.Sources refused) = exit.Refused
 exit_of_fault (fault.Index refused) = exit.Refused
 exit_of_fault (fault.Request refused) = exit.Refused

@@ -12,8 +12,6 @@ mod outcome;
 mod print;
 mod program;
 mod read;
-#[cfg(test)]
-mod tests;
 
 pub use answer::{comparison_line, verdict_line};
 pub use arguments::Arguments;

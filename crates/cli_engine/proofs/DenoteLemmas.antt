@@ -4,39 +4,28 @@ use Rattle.index.specs.Index.{ReadIndex, read_index}
 use Rattle.index.specs.Sources.{SourceText}
 use Rattle.index.specs.declared.error.IndexFault.{IndexFault}
 use Rattle.rules.specs.Available.{Index}
-use Rattle.rules.specs.Database.{HasDistinctNames}
-use Rattle.rules.specs.Universe.{Universe}
+use Rattle.rules.specs.Database.{HasDistinctNames, Record}
+use Rattle.rules.specs.Entry.{Entry, records_of}
+use Rattle.rules.specs.Universe.{IsUniverse, Universe}
 use Rattle.rules.specs.Verdict.{IsBuiltOn, UniverseIsBuilt}
 use Rattle.rules.specs.declared.goal.GoalLine.{GoalLine}
 use Rattle.universe.specs.Build.{goals_of, inputs_of}
-use Rattle.cli_engine.specs.Answer.{AreRead, Denotes, IsFirstRefusal, IsRequested}
+use Rattle.cli_engine.specs.Answer.{HasStatus, IsFirstRefusal, IsRequested}
 use Rattle.cli_engine.specs.Indices.{index_then, indices_from, read_indices, with_indices}
 use Rattle.cli_engine.specs.Reading.{out_of_memory}
-use Rattle.cli_engine.specs.Texts.{Texts, sources_of, status_fault}
+use Rattle.cli_engine.specs.Texts.{Texts, sources_of}
 use Rattle.cli_engine.specs.declared.refusal.Fault.TheVariants as fault
 use Rattle.cli_engine.specs.declared.refusal.Place.TheVariants as place
 use Rattle.cli_engine.specs.declared.refusal.Refusal.{Refusal}
-use Rattle.cli_engine.proofs.StatusLemmas.{no_stanzas}
 use mathlib.Core.Logic.{inl, inr}
 
--- texts that are read, with a request that is answered, denote its universe
-pub denotes : (texts : Texts) (u : Universe) (indices : List Index) → AreRead texts indices
-    → ((lines : List GoalLine) × IsRequested texts.arch texts.request indices lines u) → Denotes texts u []
-denotes texts u indices read requested = record {
-  indices = indices;
-  lines = requested.0;
-  read = read;
-  nothing_installed = no_stanzas texts.status read.status;
-  from_nothing = refl;
-  requested = requested.1;
-}
-
--- a universe that texts denote is built on the empty start
-pub built_on_nothing : UniverseIsBuilt → (texts : Texts) (u : Universe) → Denotes texts u [] → IsBuiltOn [] u
-unfolding HasDistinctNames
-built_on_nothing law texts u denoted =
-    law (inputs_of denoted.indices (goals_of denoted.lines)) u
-    (λ i j d before within. absurd (omega (arith, within))) denoted.requested.built.universe
+-- the universe of a request over these records is built on them
+pub built_on : UniverseIsBuilt → (arch text : List ℕ) (u : Universe) (lent entries : List Entry) (indices : List Index) → lent ≡ entries
+    → HasDistinctNames (records_of entries)
+    → ((lines : List GoalLine) × IsRequested arch text (records_of lent) indices lines u) → IsBuiltOn (records_of entries) u
+built_on law arch text u lent entries indices same distinct requested =
+    law (inputs_of (records_of entries) indices (goals_of requested.0)) u distinct
+    (subst (λ es. IsUniverse (inputs_of (records_of es) indices (goals_of requested.0)) u) same requested.1.built.universe)
 
 -- there is a number such that the refusal is at the index of this number
 abbrev IsAtAnIndex : Refusal → Type 0
@@ -73,7 +62,7 @@ index_place arch number before (source ∷ sources) (text ∷ texts) refused sam
         (indices_from arch (number + 1) (before + length read.index.listed) sources texts) refused same)
 
 -- the first refusal of the indices is that of all texts, where those before them are read
-pub index_refused : (texts : Texts) (plan : List ℕ) (sources : List SourceText) (refused : Refusal) → status_fault texts.status ≡ None
+pub index_refused : (texts : Texts) (plan : List ℕ) (sources : List SourceText) (refused : Refusal) → HasStatus texts
     → sources_of texts.sources ≡ Ok sources
     → (refused ≡ out_of_memory) ⊎ (read_indices texts.arch sources texts.indices ≡ Err refused) → IsFirstRefusal texts plan refused
 unfolding read_indices

@@ -3,4 +3,3 @@ pub mod IndicesLemmas
 pub mod MeaningLemmas
 pub mod PlacedLemmas
 pub mod SingleLemmas
-pub mod StatusLemmas

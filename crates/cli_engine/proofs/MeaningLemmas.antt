@@ -2,8 +2,10 @@
 use Rattle.std.proofs.Common.{◌≡◌, ℕ, List, length, ◌⊎◌, Some, None, Result, Ok, Err, refl, sym, ap, subst, ◌∙◌, arith}
 use Rattle.rules.specs.Available.{Index, all_listed}
 use Rattle.rules.specs.Database.{Record}
-use Rattle.rules.specs.Universe.{IsUniverse, Universe}
+use Rattle.rules.specs.Entry.{records_of}
+use Rattle.rules.specs.Universe.{IsUniverse, Universe, starts_of}
 use Rattle.rules.specs.declared.goal.GoalLine.{GoalLine}
+use Rattle.status_text.specs.Slot.{entries_of}
 use Rattle.universe.specs.Build.{first_unknown, goals_of, inputs_of}
 use Rattle.universe.specs.Error.{IsTooLarge}
 use Rattle.universe.specs.UniverseLaws.{OneListOfPairs}
@@ -11,7 +13,7 @@ use Rattle.universe_request.specs.Request.{read_request}
 use Rattle.cli_engine.specs.Answer.{AreRead, Denotes, IsFault, IsRequestFault, IsRequested}
 use Rattle.cli_engine.specs.Indices.{read_indices}
 use Rattle.cli_engine.specs.Meaning.{HasOneMeaning, MeaningIsNotRefused}
-use Rattle.cli_engine.specs.Texts.{Texts, first_later_goal, sources_of}
+use Rattle.cli_engine.specs.Texts.{Texts, first_later_goal, sources_of, status_of}
 use Rattle.cli_engine.specs.declared.refusal.Fault.{Fault}
 use Rattle.cli_engine.specs.declared.refusal.Fault.TheVariants as fault
 use Rattle.cli_engine.specs.declared.refusal.Place.{Place}
@@ -28,62 +30,75 @@ one_lines : (arch text : List ℕ) (lines others : List GoalLine) → read_reque
 one_lines arch text lines others read also = ok-same lines others (read_request arch text) read also
 
 -- texts are read as one list of indices
-one_reading : (texts : Texts) (indices others : List Index) → AreRead texts indices → AreRead texts others → indices ≡ others
-one_reading texts indices others is also =
+one_reading : (texts : Texts) (start begin : List Record) (indices others : List Index) → AreRead texts start indices
+    → AreRead texts begin others → indices ≡ others
+one_reading texts start begin indices others is also =
     ok-same indices others (read_indices texts.arch is.sources texts.indices) is.indices_are
     (ap (λ named. read_indices texts.arch named texts.indices)
     (ok-same is.sources also.sources (sources_of texts.sources) is.sources_are also.sources_are) ∙ also.indices_are)
 
+-- texts are read as one start
+one_start : (texts : Texts) (start begin : List Record) (indices others : List Index) → AreRead texts start indices
+    → AreRead texts begin others → start ≡ begin
+one_start texts start begin indices others is also =
+    is.start_is
+    ∙ ap (λ slots. records_of (entries_of slots)) (ok-same is.slots also.slots (status_of texts.arch texts.status) is.status also.status)
+    ∙ sym also.start_is
+
 pub one_meaning : OneListOfPairs → HasOneMeaning
 one_meaning one texts u other start begin is also = (
   record {
-    pairs = one (inputs_of is.indices (goals_of is.lines)) u other is.requested.built.universe
-        (subst (λ indices. IsUniverse (inputs_of indices (goals_of is.lines)) other) (sym indices)
-        (subst (λ lines. IsUniverse (inputs_of also.indices (goals_of lines)) other) (sym lines) also.requested.built.universe));
+    pairs = one (inputs_of start is.indices (goals_of is.lines)) u other is.requested.built.universe
+        (subst (λ db. IsUniverse (inputs_of db is.indices (goals_of is.lines)) other) (sym begins)
+        (subst (λ indices. IsUniverse (inputs_of begin indices (goals_of is.lines)) other) (sym indices)
+        (subst (λ lines. IsUniverse (inputs_of begin also.indices (goals_of lines)) other) (sym lines) also.requested.built.universe)));
     goals = is.requested.built.universe.goals ∙ ap goals_of lines ∙ sym also.requested.built.universe.goals;
-    starts = is.requested.built.universe.starts ∙ sym also.requested.built.universe.starts;
+    starts = is.requested.built.universe.starts ∙ ap starts_of begins ∙ sym also.requested.built.universe.starts;
   },
-  is.from_nothing ∙ sym also.from_nothing,
+  begins,
 )
   where
     lines : is.lines ≡ also.lines
     lines = one_lines texts.arch texts.request is.lines also.lines is.requested.read also.requested.read
 
     indices : is.indices ≡ also.indices
-    indices = one_reading texts is.indices also.indices is.read also.read
+    indices = one_reading texts start begin is.indices also.indices is.read also.read
+
+    begins : start ≡ begin
+    begins = one_start texts start begin is.indices also.indices is.read also.read
 
 -- a request that is answered has no fault
-not_requested : OneListOfPairs → (arch text : List ℕ) (indices : List Index) (lines : List GoalLine) (u : Universe) (found : Fault)
-    → IsRequested arch text indices lines u → ¬ IsRequestFault arch text indices found
-not_requested one arch text indices lines u (fault.Version kind) is no_fault = no_fault
-not_requested one arch text indices lines u (fault.Stanza refused) is no_fault = no_fault
-not_requested one arch text indices lines u (fault.Sources refused) is no_fault = no_fault
-not_requested one arch text indices lines u (fault.Index refused) is no_fault = no_fault
-not_requested one arch text indices lines u (fault.Request refused) is found =
+not_requested : OneListOfPairs → (arch text : List ℕ) (start : List Record) (indices : List Index) (lines : List GoalLine) (u : Universe) (found : Fault)
+    → IsRequested arch text start indices lines u → ¬ IsRequestFault arch text start indices found
+not_requested one arch text start indices lines u (fault.Version kind) is no_fault = no_fault
+not_requested one arch text start indices lines u (fault.Status refused) is no_fault = no_fault
+not_requested one arch text start indices lines u (fault.Sources refused) is no_fault = no_fault
+not_requested one arch text start indices lines u (fault.Index refused) is no_fault = no_fault
+not_requested one arch text start indices lines u (fault.Request refused) is found =
     absurd (let e : Ok lines ≡ Err refused = sym is.read ∙ found in cc)
-not_requested one arch text indices lines u (fault.UnknownName line) is found =
+not_requested one arch text start indices lines u (fault.UnknownName line) is found =
     let same = one_lines arch text lines found.lines is.read found.read in
-    absurd (let e : None ≡ Some line = sym is.built.known ∙ ap (first_unknown (all_listed indices)) same ∙ found.unknown in cc)
-not_requested one arch text indices lines u (fault.Plan refused) is no_fault = no_fault
-not_requested one arch text indices lines u fault.TooLarge is found =
+    absurd (let e : None ≡ Some line = sym is.built.known ∙ ap (first_unknown start (all_listed indices)) same ∙ found.unknown in cc)
+not_requested one arch text start indices lines u (fault.Plan refused) is no_fault = no_fault
+not_requested one arch text start indices lines u fault.TooLarge is found =
     let same = one_lines arch text lines found.lines is.read found.read in
-    let other = subst (λ ls. IsTooLarge indices (goals_of ls)) (sym same) found.beyond in
-    let equal = ap length (one (inputs_of indices (goals_of lines)) u other.u is.built.universe other.universe) in
+    let other = subst (λ ls. IsTooLarge start indices (goals_of ls)) (sym same) found.beyond in
+    let equal = ap length (one (inputs_of start indices (goals_of lines)) u other.u is.built.universe other.universe) in
     let within = is.built.bounded in
     let beyond = other.beyond in
     absurd (omega arith)
-not_requested one arch text indices lines u (fault.NotYet later) is found =
+not_requested one arch text start indices lines u (fault.NotYet later) is found =
     let same = one_lines arch text lines found.lines is.read found.read in
     absurd (let e : None ≡ Some later = sym is.early ∙ ap first_later_goal same ∙ found.later in cc)
-not_requested one arch text indices lines u fault.Read is no_fault = no_fault
-not_requested one arch text indices lines u fault.OutOfMemory is no_fault = no_fault
+not_requested one arch text start indices lines u fault.Read is no_fault = no_fault
+not_requested one arch text start indices lines u fault.OutOfMemory is no_fault = no_fault
 
 -- texts that have a meaning have no fault before the plan
 not_refused : OneListOfPairs → (texts : Texts) (u : Universe) (start : List Record) (plan : List ℕ) (where_ : Place) (found : Fault)
     → Denotes texts u start → IsFault texts plan where_ found → (where_ ≡ place.Plan) ⊎ (where_ ≡ place.Memory)
 not_refused one texts u start plan (place.Version number) found is refused = absurd refused
 not_refused one texts u start plan place.Status found is refused =
-    absurd (let e : None ≡ Some found = sym is.read.status ∙ refused in cc)
+    absurd (let e : Ok is.read.slots ≡ Err found = sym is.read.status ∙ refused in cc)
 not_refused one texts u start plan place.Sources found is refused =
     absurd (let e : Ok is.read.sources ≡ Err found = sym is.read.sources_are ∙ refused.1 in cc)
 not_refused one texts u start plan (place.Index number) found is refused =
@@ -91,9 +106,11 @@ not_refused one texts u start plan (place.Index number) found is refused =
     absurd (let e : Ok is.indices ≡ Err (record { place = place.Index number; fault = found }) =
     sym is.read.indices_are ∙ ap (λ named. read_indices texts.arch named texts.indices) same ∙ refused.refused in cc)
 not_refused one texts u start plan place.Request found is refused =
-    absurd (not_requested one texts.arch texts.request is.indices is.lines u found is.requested
-    (subst (λ indices. IsRequestFault texts.arch texts.request indices found)
-    (one_reading texts refused.0 is.indices refused.1 is.read) refused.2))
+    absurd (not_requested one texts.arch texts.request start is.indices is.lines u found is.requested
+    (subst (λ indices. IsRequestFault texts.arch texts.request start indices found)
+    (one_reading texts refused.start start refused.indices is.indices refused.read is.read)
+    (subst (λ db. IsRequestFault texts.arch texts.request db refused.indices found)
+    (one_start texts refused.start start refused.indices is.indices refused.read is.read) refused.refused)))
 not_refused one texts u start plan place.Plan found is refused = inl refl
 not_refused one texts u start plan place.Memory found is refused = inr refl
 

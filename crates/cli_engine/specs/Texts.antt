@@ -1,22 +1,25 @@
--- The texts that a request is answered from, and what each is read as: today a status file without a stanza, `install`
--- goals, and the unpacking and the configuring of one package.
-use Rattle.std.specs.Prelude.{ℕ, ◌==◌, List, [], ◌∷◌, length, nat_lt, false, Option, Some, None, Result, Ok, Err, if◌then◌else◌}
-use Rattle.std.specs.Option.{option_map, option_or}
+-- The texts that a request is answered from, and what each is read as: today `install` goals, and the unpacking and the
+-- configuring of one package.
+use Rattle.std.specs.Prelude.{ℕ, ◌==◌, List, [], ◌∷◌, length, Option, Some, None, Result, Ok, Err, if◌then◌else◌}
+use Rattle.std.specs.Option.{option_or}
 use Rattle.index.specs.Sources.{SourceText, read_sources}
 use Rattle.plantext.specs.Plan.{read_plan}
 use Rattle.rules.specs.declared.goal.Goal.{Goal}
 use Rattle.rules.specs.declared.goal.Goal.TheVariants as goal
 use Rattle.rules.specs.declared.goal.GoalLine.{GoalLine}
-use Rattle.rules.specs.declared.limits.TheConstants.{TEXT_BYTES}
 use Rattle.rules.specs.declared.step.Step.{Step}
 use Rattle.rules.specs.declared.step.Step.TheVariants as step
-use Rattle.stanza.specs.Stanza.{StanzaText, items_of}
-use Rattle.stanza.specs.declared.error.StanzaError.{StanzaError}
+use Rattle.status_text.specs.Slot.{FileSlot}
+use Rattle.status_text.specs.Status.{read_status}
+use Rattle.status_text.specs.declared.error.StatusFault.{StatusFault}
+use Rattle.status_text.specs.declared.error.StatusFault.TheVariants as from
 use Rattle.cli_engine.specs.Reading.{with_fault, unless_later}
 use Rattle.cli_engine.specs.declared.refusal.Fault.{Fault}
 use Rattle.cli_engine.specs.declared.refusal.Fault.TheVariants as fault
 use Rattle.cli_engine.specs.declared.refusal.Later.{Later}
 use Rattle.cli_engine.specs.declared.refusal.Later.TheVariants as later
+use Rattle.cli_engine.specs.declared.status_refusal.StatusRefusal.{StatusRefusal}
+use Rattle.cli_engine.specs.declared.status_refusal.StatusRefusal.TheVariants as refusal
 
 -- the texts that a request is answered from
 pub record Texts : Type 0 where
@@ -30,23 +33,20 @@ pub record Texts : Type 0 where
 
 -- The status file
 
--- the first line of these items that is refused
-abbrev pub line_fault : List (Result StanzaText StanzaError) → Option StanzaError
-line_fault [] = None
-line_fault (Ok stanza ∷ items) = line_fault items
-line_fault (Err refused ∷ items) = Some refused
+-- the refusal of a status file, as one of all texts: it has its own copy of the name
+abbrev pub status_refusal : StatusFault → StatusRefusal
+status_refusal (from.Stanza refused) = refusal.Stanza refused
+status_refusal (from.Pkg refused) = refusal.Pkg refused
+status_refusal (from.MissingField line field) = refusal.MissingField line field
+status_refusal (from.BadStatus line) = refusal.BadStatus line
+status_refusal (from.DuplicatePackage name) = refusal.DuplicatePackage name
+status_refusal (from.ForeignArchitecture name) = refusal.ForeignArchitecture name
+status_refusal (from.TriggerState name) = refusal.TriggerState name
+status_refusal from.TooLarge = refusal.TooLarge
 
--- a stanza isn't judged yet
-abbrev pub later_status : List (Result StanzaText StanzaError) → Option Later
-later_status [] = None
-later_status (item ∷ items) = Some later.Status
-
--- the refusal of a status file: of its length, then of a line, then of a stanza
-unfoldable pub status_fault : List ℕ → Option Fault
-status_fault text =
-    if nat_lt TEXT_BYTES (length text) then Some fault.TooLarge
-    else option_or (option_map fault.Stanza (line_fault (items_of false text)))
-    (option_map fault.NotYet (later_status (items_of false text)))
+-- what a status file is read as for an architecture: its stanzas with their records
+abbrev pub status_of : List ℕ → List ℕ → Result (List FileSlot) Fault
+status_of arch text = with_fault (λ refused. fault.Status (status_refusal refused)) (read_status arch text)
 
 -- The sources
 

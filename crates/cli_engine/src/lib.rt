@@ -12,7 +12,8 @@ mod plan;
 mod refusal;
 mod request;
 mod sources;
-mod status_text;
+mod status_file;
+mod status_refusal;
 
 pub use check::check_plan_bytes;
 pub use comparison::{Relation, compare};
@@ -21,3 +22,4 @@ pub use laws::{a_meaning_is_not_refused, texts_have_one_meaning};
 pub use refusal::{Fault, Later, Place, Refusal};
 pub use rules::{Reason, Rule, Verdict};
 pub use sources::read_sources;
+pub use status_refusal::{NamedPackage, StatusRefusal};

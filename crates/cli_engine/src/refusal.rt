@@ -3,10 +3,10 @@
 ghost use Rattle.std.specs.Prelude.{◌≡◌};
 ghost use Rattle.cli_engine.specs.Reading.{IsPlaced, out_of_memory};
 
+use crate::status_refusal::StatusRefusal;
 use index::{IndexFault, SourcesFault};
 use plantext::PlanFault;
 use rules::BadVersion;
-use stanza::StanzaError;
 use std::alloc::{AllocError, AllocFailed};
 use thiserror::Error;
 use universe_request::RequestFault;
@@ -40,9 +40,6 @@ pub enum Place {
 /// What a text has that isn't judged yet.
 #[derive(Clone, Copy, Debug, PartialEq, Eq, Error)]
 pub enum Later {
-    /// A stanza of the status file.
-    #[error("status")]
-    Status,
     /// The goal `remove`.
     #[error("remove")]
     Remove,
@@ -67,14 +64,14 @@ pub enum Later {
 }
 
 /// What is wrong with a text.
-#[derive(Clone, Copy, Debug, PartialEq, Eq, Error)]
+#[derive(Debug, Drop, Error)]
 pub enum Fault {
     /// The version that was to be compared is none.
     #[error("E6 BadVersion {0}")]
     Version(BadVersion),
-    /// No control text goes on so.
+    /// The status file is refused.
     #[error("{0}")]
-    Stanza(StanzaError),
+    Status(StatusRefusal),
     /// The sources are refused.
     #[error("{0}")]
     Sources(SourcesFault),
@@ -90,7 +87,7 @@ pub enum Fault {
     /// The plan is refused.
     #[error("{0}")]
     Plan(PlanFault),
-    /// A text of more bytes than are read, or a request that admits more pairs than are kept.
+    /// A request that admits more pairs than are kept.
     #[error("E10 TooLarge")]
     TooLarge,
     /// The text is accepted, but has what isn't judged yet.
@@ -105,7 +102,7 @@ pub enum Fault {
 }
 
 /// A refusal: the text, and what is wrong with it.
-#[derive(Clone, Copy, Debug, PartialEq, Eq, Error)]
+#[derive(Debug, Drop, Error)]
 #[error("{place}: {fault}")]
 pub struct Refusal {
     /// The text.

@@ -1,6 +1,8 @@
 // The request, of whose goals today those to install are judged, and the universe that it is answered from.
 
-ghost use Rattle.std.specs.Prelude.{◌≡◌, IfErr, IfOk, List, Ok};
+ghost use Rattle.std.specs.Prelude.{◌≡◌, IfErr, IfOk, List, Ok, map};
+ghost use Rattle.rules.specs.Database.{HasDistinctNames};
+ghost use Rattle.rules.specs.Entry.{records_of};
 ghost use Rattle.rules.specs.declared.goal.GoalLine.{GoalLine as LineOf};
 ghost use Rattle.universe.specs.Build.{indices_of};
 ghost use Rattle.universe.specs.Error.{IsBuilt};
@@ -13,6 +15,7 @@ ghost use Rattle.universe_request.specs.Request as Read;
 use crate::refusal::{Fault, Later};
 use index::Index;
 use rules::{Goal, GoalLine};
+use status_record::Record;
 use std::alloc::Global;
 use universe::{Universe, UniverseError, build};
 use universe_request::{Request, RequestError, RequestFault};
@@ -56,13 +59,15 @@ fn first_later_goal(lines: &[GoalLine]) -> Option<Later>
 // Builds the universe of the goals.
 fn built<'a>(
     alloc: Global,
+    start: &[&Record<'a>],
     indices: &[Index<'a>],
     lines: Vec<GoalLine>,
 ) -> Result<Universe<'a>, Fault>
-    ensures ok { IfOk result (λ u. IsBuilt (indices_of indices.now) lines.items u) }
-    ensures err { IfErr result (λ f. OrMemory (IsBuildFault (indices_of indices.now) lines.items) f) }
+    requires { HasDistinctNames (records_of (map (λ r. r.now) start.now)) }
+    ensures ok { IfOk result (λ u. IsBuilt (records_of (map (λ r. r.now) start.now)) (indices_of indices.now) lines.items u) }
+    ensures err { IfErr result (λ f. OrMemory (IsBuildFault (records_of (map (λ r. r.now) start.now)) (indices_of indices.now) lines.items) f) }
 {
-    match build(alloc, indices, lines) {
+    match build(alloc, start, indices, lines) {
         Ok(universe) => Ok(universe),
         Err(UniverseError::UnknownName(line)) => Err(Fault::UnknownName(line)),
         Err(UniverseError::TooLarge) => Err(Fault::TooLarge),
@@ -70,21 +75,23 @@ fn built<'a>(
     }
 }
 
-/// The universe that the request is answered from, over these indices; goals other than to install are refused today,
+/// The universe that the request is answered from, over these records, whose names are distinct, and these indices; goals other than to install are refused today,
 /// after every other refusal of the text.
 pub(crate) fn read_request<'a>(
     alloc: Global,
+    start: &[&Record<'a>],
     indices: &[Index<'a>],
     text: &[u8],
     arch: &[u8],
 ) -> Result<Universe<'a>, Fault>
+    requires { HasDistinctNames (records_of (map (λ r. r.now) start.now)) }
     ensures ok { IfOk result (λ u. (lines : List LineOf)
-        × IsRequested arch.now text.now (indices_of indices.now) lines u) }
-    ensures err { IfErr result (λ f. OrMemory (IsRequestFault arch.now text.now (indices_of indices.now)) f) }
+        × IsRequested arch.now text.now (records_of (map (λ r. r.now) start.now)) (indices_of indices.now) lines u) }
+    ensures err { IfErr result (λ f. OrMemory (IsRequestFault arch.now text.now (records_of (map (λ r. r.now) start.now)) (indices_of indices.now)) f) }
 {
     let lines = goals_in(alloc, text, arch)?;
     let later = first_later_goal(lines.as_slice());
-    let universe = built(alloc, indices, lines)?;
+    let universe = built(alloc, start, indices, lines)?;
     match later {
         None => Ok(universe),
         Some(later) => Err(Fault::NotYet(later)),

@@ -1,7 +1,8 @@
 // A stanza of an index that counts, whose relation fields are read when they are asked for.
 
-ghost use Rattle.std.specs.Prelude.{◌≡◌, IfOk, MatchResult, None, Some};
-ghost use Rattle.relation.specs.PkgText.{pkg_fault, pkg_of};
+ghost use Rattle.std.specs.Prelude.{◌≡◌, IfOk, MatchResult, None, Ok, Some};
+ghost use Rattle.relation.specs.PkgFields.{fields_of};
+ghost use Rattle.relation.specs.PkgText.{pkg_fault, pkg_of, read_pkg};
 ghost use Rattle.index.specs.Listed.{read_stanza};
 
 use crate::listed::Listed;
@@ -24,6 +25,7 @@ pub struct Entry<'a> {
 
 impl<'a> Model for Entry<'a> {
     ghost use Rattle.std.specs.Prelude.{◌≡◌, None};
+    ghost use Rattle.relation.specs.PkgFields.{fields_of};
     ghost use Rattle.relation.specs.PkgText.{pkg_fault, pkg_of, value_in};
     ghost use Rattle.rules.specs.Step.{Listed as ListedValue};
     ghost use Rattle.index.specs.Listed.{read_stanza};
@@ -33,18 +35,20 @@ impl<'a> Model for Entry<'a> {
     ghost view = { λ e. record { pkg = pkg_of e.arch.now e.fields; is_essential = e.is_essential; stanza = read_stanza e.stanza } };
 
     ghost invariant = { λ e. (pkg_fault e.fields ≡ None)
+        × (e.fields ≡ fields_of e.stanza)
         × (e.name.now ≡ value_in e.fields.name)
         × (e.version ≡ value_in e.fields.version) };
 }
 
 impl<'a> Entry<'a> {
-    // The stanza with the package that its fields spell for this configured architecture, or their first refusal.
+    // The stanza with the package that its fields, which are these, spell for this configured architecture, or their first refusal.
     pub(crate) fn read(
         fields: PkgFields<'a>,
         arch: &'a [u8],
         is_essential: bool,
         stanza: Stanza<'a>,
     ) -> Result<Entry<'a>, PkgFault>
+        requires { fields ≡ fields_of stanza }
         ensures { MatchResult result
             (λ entry. (pkg_fault fields.entry ≡ None)
             × (entry ≡ record { pkg = pkg_of arch.now fields.entry; is_essential = is_essential; stanza = read_stanza stanza.entry }))
@@ -89,6 +93,14 @@ impl<'a> Entry<'a> {
         ensures { read_stanza result.now ≡ self.now.stanza }
     {
         &self.stanza
+    }
+
+    /// The stanza, and the configured architecture for which it was read: its package is read from these alone.
+    pub fn origin(&self) -> (&Stanza<'a>, &'a [u8])
+        ensures stanza { read_stanza result.0.now ≡ self.now.stanza }
+        ensures pkg { read_pkg result.1.now result.0.now ≡ Ok self.now.pkg }
+    {
+        (&self.stanza, self.arch)
     }
 
     /// The package, with its relations. Memory alone can fail. Linear in the values of the relation fields.

@@ -47,6 +47,7 @@ fn read_listed<'a>(
     fields: PkgFields<'a>,
     arch: &'a [u8],
 ) -> Result<Option<Entry<'a>>, IndexFault>
+    requires { fields ≡ fields_of stanza.now }
     ensures { MatchResult result
         (λ entry. Spec.listed_with stanza.now (read_fields arch.now fields.entry) ≡ Ok entry)
         (λ fault. Spec.listed_with stanza.now (read_fields arch.now fields.entry) ≡ Err fault) }

@@ -3,6 +3,7 @@
 //! The main calls are `read_sources` and `Index::read`.
 #![tactic(auto)]
 
+mod alone;
 mod entry;
 mod error;
 mod item;
@@ -12,9 +13,8 @@ mod providers;
 mod read;
 mod sources;
 mod stanzas;
-#[cfg(test)]
-mod tests;
 
+pub use alone::read_alone;
 pub use entry::Entry;
 pub use error::{IndexError, IndexFault, SourcesError, SourcesFault};
 pub use listed::Listed;

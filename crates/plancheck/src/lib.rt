@@ -10,8 +10,6 @@ mod quiet;
 mod remove;
 mod step;
 mod table;
-#[cfg(test)]
-mod tests;
 mod unpack;
 
 pub use check::check_plan;

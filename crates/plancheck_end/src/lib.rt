@@ -9,8 +9,6 @@ mod goal;
 mod installed;
 mod least;
 mod matching;
-#[cfg(test)]
-mod tests;
 
 pub use end::first_against;
 pub use installed::{are_met, is_met};

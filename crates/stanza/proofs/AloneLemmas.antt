@@ -18,7 +18,7 @@ use Rattle.stanza.proofs.StanzaLemmas.{NoSeparators, split-some, items-front, ke
 -- ---- lines of a text
 
 -- each is a line, and ends with a newline where another follows
-AreLines : List (List ℕ) → Type 0
+unfoldable pub AreLines : List (List ℕ) → Type 0
 AreLines [] = Unit {0}
 AreLines (line ∷ lines) = (lines_of line ≡ line ∷ []) × ((lines ≡ []) ⊎ IsWhole line) × AreLines lines
 
@@ -43,7 +43,7 @@ AreLines-lines_of (b ∷ bs) = elim (cases_Bool (eqb b 10)) [
   ended : eqb b 10 ≡ true → IsWhole (b ∷ [])
   ended h rest = rw h refl
 
-lines_of-concat : (lines : List (List ℕ)) → AreLines lines → lines_of (concat lines) ≡ lines
+pub lines_of-concat : (lines : List (List ℕ)) → AreLines lines → lines_of (concat lines) ≡ lines
 unfolding AreLines
 lines_of-concat [] are = refl
 lines_of-concat (line ∷ []) are = ap lines_of (append-nil line) ∙ are.0
@@ -131,14 +131,14 @@ origin commented stanza n (part ∷ parts) are has =
 -- ---- the lines of a stanza
 
 -- lines of a text without a separator and without a fault, of which the first and the last are no comments
-record Alone (commented : Bool) (stanza : StanzaText) : Type 0 where
-  lines : List (List ℕ)
-  are : AreLines lines
-  inside : NoSeparators lines
-  clean : (m : ℕ) → first_fault commented [] m lines ≡ None
-  first : (m : ℕ) → stanza_in commented m lines ≡ Some (stanza_of commented m lines)
-  n : ℕ
-  is : stanza ≡ stanza_of commented n lines
+pub record Alone (commented : Bool) (stanza : StanzaText) : Type 0 where
+  pub lines : List (List ℕ)
+  pub are : AreLines lines
+  pub inside : NoSeparators lines
+  pub clean : (m : ℕ) → first_fault commented [] m lines ≡ None
+  pub first : (m : ℕ) → stanza_in commented m lines ≡ Some (stanza_of commented m lines)
+  pub n : ℕ
+  pub is : stanza ≡ stanza_of commented n lines
 
 -- a fault does not hang on the number of the line
 fault_of-number : (commented : Bool) (before : List (List ℕ)) (n m : ℕ) (line : List ℕ) → fault_of commented before n line ≡ None → fault_of commented before m line ≡ None
@@ -195,7 +195,7 @@ NoSeparators-front : (a b : List (List ℕ)) → NoSeparators (a ++ b) → NoSep
 NoSeparators-front [] b inside = tt
 NoSeparators-front (line ∷ a) b inside = (inside.0, NoSeparators-front a b inside.1)
 
-AreLines-front : (a b : List (List ℕ)) → AreLines (a ++ b) → AreLines a
+pub AreLines-front : (a b : List (List ℕ)) → AreLines (a ++ b) → AreLines a
 unfolding AreLines
 AreLines-front [] b are = tt
 AreLines-front (line ∷ []) b are = (are.0, inl refl, tt)
@@ -261,8 +261,12 @@ IsAlone-from commented stanza a =
           ∙ ap (λ (s : StanzaText). value_named name s.fields) (sym a.is);
     }
 
-pub items_of-IsAlone : (commented : Bool) (text : List ℕ) (stanza : StanzaText) → Contains (items_of commented text) (Ok stanza) → IsAlone commented stanza
+-- each stanza of a text has such lines
+pub alone-from_items : (commented : Bool) (text : List ℕ) (stanza : StanzaText) → Contains (items_of commented text) (Ok stanza) → Alone commented stanza
 unfolding items_of
-items_of-IsAlone commented text stanza has =
+alone-from_items commented text stanza has =
     let found = origin commented stanza 1 (slice_split is_separator (lines_of text)) (split-parts (lines_of text) (AreLines-lines_of text)) has in
-    IsAlone-from commented stanza (alone-in commented stanza found.n found.part found.is_part found.clean found.is)
+    alone-in commented stanza found.n found.part found.is_part found.clean found.is
+
+pub items_of-IsAlone : (commented : Bool) (text : List ℕ) (stanza : StanzaText) → Contains (items_of commented text) (Ok stanza) → IsAlone commented stanza
+items_of-IsAlone commented text stanza has = IsAlone-from commented stanza (alone-from_items commented text stanza has)

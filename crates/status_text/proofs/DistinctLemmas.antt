@@ -12,10 +12,12 @@ use Rattle.rules.specs.NamedLaws.{bytes_eq-same}
 use Rattle.stanza.specs.Stanza.{StanzaText}
 use Rattle.stanza.specs.declared.error.StanzaError.{StanzaError}
 use Rattle.status_text.specs.Mark.{counts, name_in, read_mark, unless_fault}
-use Rattle.status_text.specs.Record.{entry_of, is_seen, later_fault, names_with, read_counted, read_marked}
-use Rattle.status_text.specs.Status.{entries_in, entry_then, listed, read_item, with_entries}
+use Rattle.status_text.specs.Record.{entry_of, is_seen, later_fault, read_counted, read_marked}
+use Rattle.status_text.specs.Slot.{FileSlot, entries_of, names_with}
+use Rattle.status_text.specs.Status.{read_item, slot_then, slots_in, with_slots}
 use Rattle.status_text.specs.declared.error.StatusFault.{StatusFault}
 use Rattle.status_text.specs.declared.mark.Mark.{Mark}
+use Rattle.status_text.specs.declared.slot.Slot.TheVariants.{Recorded, Foreign}
 
 -- the record's name isn't among these
 abbrev pub IsNew : List (List ℕ) → Record → Type 0
@@ -27,13 +29,13 @@ pub record AreNew (seen : List (List ℕ)) (records : List Record) : Type 0 wher
   pub distinct : AllPairs (λ earlier later. earlier.name ≢ later.name) records
 
 -- what a stanza gives is new, if it gives anything
-abbrev pub GivesNew : List (List ℕ) → Result (Option Entry) StatusFault → Type 0
+abbrev pub GivesNew : List (List ℕ) → Result FileSlot StatusFault → Type 0
 GivesNew seen (Err refused) = ⊤
-GivesNew seen (Ok None) = ⊤
-GivesNew seen (Ok (Some entry)) = IsNew seen entry.found
+GivesNew seen (Ok (Foreign stanza)) = ⊤
+GivesNew seen (Ok (Recorded entry)) = IsNew seen entry.found
 
 unseen-gives : (seen : List (List ℕ)) (entry : Entry) (duplicate : StatusFault) (is_old : Bool) (refused : Option PkgFault) → is_seen seen entry.found.name ≡ is_old
-    → GivesNew seen (if is_old then Err duplicate else unless_fault refused (Ok (Some entry)))
+    → GivesNew seen (if is_old then Err duplicate else unless_fault refused (Ok (Recorded entry)))
 unseen-gives seen entry duplicate true refused e = tt
 unseen-gives seen entry duplicate false None e = e
 unseen-gives seen entry duplicate false (Some refused) e = tt
@@ -83,36 +85,42 @@ with-new seen found later is_new are_new = record {
       (λ k d within. new-other seen _ found.name (are_new.fresh k d within)) are_new.distinct;
 }
 
--- what a stanza gives and then what is read behind it
-joined-new : (seen : List (List ℕ)) (entry : Option Entry) (read : Result (List Entry) StatusFault) (entries : List Entry)
-    → GivesNew seen (Ok entry) → ((later : List Entry) → read ≡ Ok later → AreNew (names_with seen entry) (records_of later))
-    → with_entries (listed entry) read ≡ Ok entries → AreNew seen (records_of entries)
-joined-new seen entry (Err refused) entries gives later e = absurd (let h = e in cc)
-joined-new seen None (Ok more) entries gives later e =
-    let same : more ≡ entries = let h = e in cc in subst (λ all. AreNew seen (records_of all)) same (later more refl)
-joined-new seen (Some entry) (Ok more) entries gives later e =
-    let same : (entry ∷ more) ≡ entries = let h = e in cc in
-    subst (λ all. AreNew seen (records_of all)) same (with-new seen entry.found (records_of more) gives (later more refl))
+-- the slots have new names
+abbrev pub HaveNew : List (List ℕ) → List FileSlot → Type 0
+HaveNew seen slots = AreNew seen (records_of (entries_of slots))
 
-item-new : (seen : List (List ℕ)) (given : Result (Option Entry) StatusFault) (rest : List (List ℕ) → Result (List Entry) StatusFault) (entries : List Entry)
-    → GivesNew seen given → ((names : List (List ℕ)) (later : List Entry) → rest names ≡ Ok later → AreNew names (records_of later))
-    → entry_then seen given rest ≡ Ok entries → AreNew seen (records_of entries)
-item-new seen (Err refused) rest entries gives later e = absurd (let h = e in cc)
-item-new seen (Ok entry) rest entries gives later e =
-    joined-new seen entry (rest (names_with seen entry)) entries gives (later (names_with seen entry)) e
+-- what a stanza gives and then what is read behind it
+slot-new : (seen : List (List ℕ)) (slot : FileSlot) (later : List FileSlot) → GivesNew seen (Ok slot)
+    → HaveNew (names_with seen slot) later → HaveNew seen (slot ∷ later)
+slot-new seen (Foreign stanza) later gives new = new
+slot-new seen (Recorded entry) later gives new = with-new seen entry.found (records_of (entries_of later)) gives new
+
+joined-new : (seen : List (List ℕ)) (slot : FileSlot) (read : Result (List FileSlot) StatusFault) (slots : List FileSlot)
+    → GivesNew seen (Ok slot) → ((later : List FileSlot) → read ≡ Ok later → HaveNew (names_with seen slot) later)
+    → with_slots (slot ∷ []) read ≡ Ok slots → HaveNew seen slots
+joined-new seen slot (Err refused) slots gives later e = absurd (let h = e in cc)
+joined-new seen slot (Ok more) slots gives later e =
+    let same : (slot ∷ more) ≡ slots = let h = e in cc in subst (HaveNew seen) same (slot-new seen slot more gives (later more refl))
+
+item-new : (seen : List (List ℕ)) (given : Result FileSlot StatusFault) (rest : List (List ℕ) → Result (List FileSlot) StatusFault) (slots : List FileSlot)
+    → GivesNew seen given → ((names : List (List ℕ)) (later : List FileSlot) → rest names ≡ Ok later → HaveNew names later)
+    → slot_then seen given rest ≡ Ok slots → HaveNew seen slots
+item-new seen (Err refused) rest slots gives later e = absurd (let h = e in cc)
+item-new seen (Ok slot) rest slots gives later e =
+    joined-new seen slot (rest (names_with seen slot)) slots gives (later (names_with seen slot)) e
 
 none-new : (seen : List (List ℕ)) → AreNew seen []
 none-new seen = record { fresh = All-nil (IsNew seen); distinct = λ i j d before within. absurd (omega (arith, within)) }
 
-pub entries-new : (arch : List ℕ) (items : List (Result StanzaText StanzaError)) (seen : List (List ℕ)) (entries : List Entry)
-    → entries_in arch items seen ≡ Ok entries → AreNew seen (records_of entries)
-entries-new arch [] seen entries e =
-    let same : [] ≡ entries = let h = e in cc in subst (λ all. AreNew seen (records_of all)) same (none-new seen)
-entries-new arch (item ∷ items) seen entries e =
-    item-new seen (read_item arch seen item) (entries_in arch items) entries (item-gives arch seen item)
-    (λ names later read. entries-new arch items names later read) e
+pub slots-new : (arch : List ℕ) (items : List (Result StanzaText StanzaError)) (seen : List (List ℕ)) (slots : List FileSlot)
+    → slots_in arch items seen ≡ Ok slots → HaveNew seen slots
+slots-new arch [] seen slots e =
+    let same : [] ≡ slots = let h = e in cc in subst (HaveNew seen) same (none-new seen)
+slots-new arch (item ∷ items) seen slots e =
+    item-new seen (read_item arch seen item) (slots_in arch items) slots (item-gives arch seen item)
+    (λ names later read. slots-new arch items names later read) e
 
-pub distinct_names : (arch : List ℕ) (items : List (Result StanzaText StanzaError)) (entries : List Entry)
-    → entries_in arch items [] ≡ Ok entries → HasDistinctNames (records_of entries)
+pub distinct_names : (arch : List ℕ) (items : List (Result StanzaText StanzaError)) (slots : List FileSlot)
+    → slots_in arch items [] ≡ Ok slots → HasDistinctNames (records_of (entries_of slots))
 unfolding HasDistinctNames
-distinct_names arch items entries e = (entries-new arch items [] entries e).distinct
+distinct_names arch items slots e = (slots-new arch items [] slots e).distinct

@@ -1,5 +1,5 @@
 pub mod WordLemmas
 pub mod KeptLemmas
 pub mod SeenLemmas
-pub mod EntriesLemmas
+pub mod SlotsLemmas
 pub mod DistinctLemmas

@@ -1,5 +1,6 @@
 pub mod Words
 pub mod Mark
+pub mod Slot
 pub mod Record
 pub mod Kept
 pub mod Status

@@ -1,6 +1,6 @@
--- A stanza of the status file as an entry of the database (dpkg(1), "Package states"; Policy 5.3 and 5.6.12): its
--- record, and its fields and bytes. The order of the tests is this project's own.
-use Rattle.std.specs.Prelude.{ℕ, Bool, true, false, List, [], ◌∷◌, ◌++◌, Option, Some, None, Result, Ok, Err, codes, bytes_eq, unwrap_or, if◌then◌else◌}
+-- A stanza of the status file as a slot of it (dpkg(1), "Package states"; Policy 5.3 and 5.6.12): its record, if it has
+-- one, and its fields and bytes. The order of the tests is this project's own.
+use Rattle.std.specs.Prelude.{ℕ, Bool, true, false, List, [], Option, None, Result, Ok, Err, codes, bytes_eq, unwrap_or, if◌then◌else◌}
 use Rattle.std.specs.List.{list_any}
 use Rattle.std.specs.Option.{option_and_then, option_map, option_or}
 use Rattle.index.specs.Index.{is_essential}
@@ -19,9 +19,11 @@ use Rattle.rules.specs.declared.status.State.TheVariants.{NotInstalled, ConfigFi
 use Rattle.stanza.specs.Field.{FieldText}
 use Rattle.stanza.specs.Stanza.{StanzaText}
 use Rattle.status_text.specs.Mark.{counts, name_in, read_mark, unless_fault}
+use Rattle.status_text.specs.Slot.{FileSlot}
 use Rattle.status_text.specs.declared.error.StatusFault.{StatusFault}
 use Rattle.status_text.specs.declared.error.StatusFault.TheVariants as fault
 use Rattle.status_text.specs.declared.mark.Mark.{Mark}
+use Rattle.status_text.specs.declared.slot.Slot.TheVariants.{Recorded, Foreign}
 
 -- the text of a field, if there is one
 abbrev pub text_in : Option FieldText → Option (List ℕ)
@@ -88,29 +90,24 @@ entry_of arch stanza mark = record { found = record_of arch stanza mark; stanza 
 abbrev pub is_seen : List (List ℕ) → List ℕ → Bool
 is_seen seen name = list_any (bytes_eq name) seen
 
--- the entry of a stanza that counts, or its first refusal behind Architecture: the name has a record before
-abbrev pub read_new : List ℕ → List (List ℕ) → StanzaText → Mark → Result (Option Entry) StatusFault
+-- the slot of a stanza that counts, or its first refusal behind Architecture: the name has a record before
+abbrev pub read_new : List ℕ → List (List ℕ) → StanzaText → Mark → Result FileSlot StatusFault
 read_new arch seen stanza mark =
     if is_seen seen (name_in stanza) then Err (fault.DuplicatePackage (name_in stanza))
-    else unless_fault (later_fault mark.state stanza) (Ok (Some (entry_of arch stanza mark)))
+    else unless_fault (later_fault mark.state stanza) (Ok (Recorded (entry_of arch stanza mark)))
 
--- the entry of a stanza, if it counts
-abbrev pub read_counted : List ℕ → List (List ℕ) → StanzaText → Mark → Result Bool StatusFault → Result (Option Entry) StatusFault
+-- the slot of a stanza, which has a record if it counts
+abbrev pub read_counted : List ℕ → List (List ℕ) → StanzaText → Mark → Result Bool StatusFault → Result FileSlot StatusFault
 read_counted arch seen stanza mark (Err refused) = Err refused
-read_counted arch seen stanza mark (Ok false) = Ok None
+read_counted arch seen stanza mark (Ok false) = Ok (Foreign stanza)
 read_counted arch seen stanza mark (Ok true) = read_new arch seen stanza mark
 
--- the entry of a stanza, of which Package and Status say this
-abbrev pub read_marked : List ℕ → List (List ℕ) → StanzaText → Result Mark StatusFault → Result (Option Entry) StatusFault
+-- the slot of a stanza, of which Package and Status say this
+abbrev pub read_marked : List ℕ → List (List ℕ) → StanzaText → Result Mark StatusFault → Result FileSlot StatusFault
 read_marked arch seen stanza (Err refused) = Err refused
 read_marked arch seen stanza (Ok mark) = read_counted arch seen stanza mark (counts arch stanza mark.state)
 
--- the entry of a stanza that stands behind records of these names, if it has one, or its first refusal: of Package,
--- then Status, then Architecture, then of a name seen before, then Version, Config-Version and the relation fields
-abbrev pub read_entry : List ℕ → List (List ℕ) → StanzaText → Result (Option Entry) StatusFault
-read_entry arch seen stanza = read_marked arch seen stanza (read_mark stanza)
-
--- the names with that of an entry behind them, if there is one
-abbrev pub names_with : List (List ℕ) → Option Entry → List (List ℕ)
-names_with seen None = seen
-names_with seen (Some entry) = seen ++ entry.found.name ∷ []
+-- the slot of a stanza that stands behind records of these names, or its first refusal: of Package, then Status,
+-- then Architecture, then of a name seen before, then Version, Config-Version and the relation fields
+abbrev pub read_slot : List ℕ → List (List ℕ) → StanzaText → Result FileSlot StatusFault
+read_slot arch seen stanza = read_marked arch seen stanza (read_mark stanza)

@@ -1,4 +1,4 @@
-//! One stanza of the status file: its record, or its first refusal.
+//! One stanza of the status file: its slot, or its first refusal.
 ghost use Rattle.std.specs.Prelude.{◌≡◌, IfErr, IfOk, IsTrue, MatchResult, None, Ok, Some};
 ghost use Rattle.std.specs.Option.{option_and_then};
 ghost use Rattle.index.specs.Index as Index;
@@ -10,13 +10,16 @@ ghost use Rattle.rules.specs.Stanza.{is_called, marks_essential};
 ghost use Rattle.status_text.specs.Error.{IsStatusFault};
 ghost use Rattle.status_text.specs.Mark.{name_in};
 ghost use Rattle.status_text.specs.Record as Spec;
-ghost use Rattle.status_text.specs.Record.{config_version_field, names_with, text_in, version_field};
+ghost use Rattle.status_text.specs.Record.{config_version_field, text_in, version_field};
+ghost use Rattle.status_text.specs.Slot.{names_with};
+ghost use Rattle.status_text.specs.declared.slot.Slot.TheVariants as slot;
 
 use crate::error::{StatusError, StatusFault};
 use crate::mark::{Mark, counts, field_named, mark_in};
 use crate::name::PackageName;
 use crate::record::StatusRecord;
 use crate::seen::Seen;
+use crate::slot::Slot;
 use debversion::Version;
 use relation::{PkgFault, PkgFields, RequiredField};
 use rules::State;
@@ -147,7 +150,7 @@ fn read_new<'a>(
     requires name { name.now ≡ name_in stanza.now }
     requires named { pkg_name_fault fields.now ≡ None }
     requires valid { IsTrue (is_name name.now) }
-    ensures ok { IfOk result (λ entry. (Spec.read_new arch.now seen.old stanza.now mark ≡ Ok (Some entry)) × (seen.new ≡ names_with seen.old (Some entry))) }
+    ensures ok { IfOk result (λ entry. (Spec.read_new arch.now seen.old stanza.now mark ≡ Ok (slot.Recorded entry)) × (seen.new ≡ names_with seen.old (slot.Recorded entry))) }
     ensures err { IfErr result (λ e. IsStatusFault e (Spec.read_new arch.now seen.old stanza.now mark)) }
 {
     if !seen.insert(name)? {
@@ -165,20 +168,20 @@ fn read_new<'a>(
     ))
 }
 
-/// The record of a stanza behind others, whose names are noted, if it has one. Its own name is noted too.
-pub fn read_entry<'a>(
+/// The slot of a stanza behind others, whose names are noted. Its own name is noted too, if it has a record.
+pub fn read_slot<'a>(
     seen: &mut Seen<'a>,
     stanza: &Stanza<'a>,
     arch: &'a [u8],
-) -> Result<Option<StatusRecord<'a>>, StatusError<'a>>
-    ensures ok { IfOk result (λ entry. (Spec.read_entry arch.now seen.old stanza.now ≡ Ok entry) × (seen.new ≡ names_with seen.old entry)) }
-    ensures err { IfErr result (λ e. IsStatusFault e (Spec.read_entry arch.now seen.old stanza.now)) }
+) -> Result<Slot<'a, StatusRecord<'a>>, StatusError<'a>>
+    ensures ok { IfOk result (λ slot. (Spec.read_slot arch.now seen.old stanza.now ≡ Ok slot) × (seen.new ≡ names_with seen.old slot)) }
+    ensures err { IfErr result (λ e. IsStatusFault e (Spec.read_slot arch.now seen.old stanza.now)) }
 {
     let fields = PkgFields::in_stanza(stanza);
     let name = fields.name()?;
     let mark = mark_in(name, stanza)?;
     if !counts(arch, name, stanza, mark.state)? {
-        return Ok(None);
+        return Ok(Slot::Foreign(stanza.again()));
     }
-    Ok(Some(read_new(seen, stanza, &fields, name, mark, arch)?))
+    Ok(Slot::Recorded(read_new(seen, stanza, &fields, name, mark, arch)?))
 }

@@ -1,5 +1,5 @@
-//! The text of dpkg's status file (dpkg(1), "Package states"; Debian Policy 5.1): its records, in order, as the
-//! database that plans are judged on, or the first refusal. It stands on `stanza`, `relation` and `rules`.
+//! The text of dpkg's status file (dpkg(1), "Package states"; Debian Policy 5.1): its stanzas, in order, with the records
+//! of the database that plans are judged on, or the first refusal. It stands on `stanza`, `relation` and `rules`.
 //! The main type is `StatusRecord`, the main call `read_status`.
 #![tactic(auto)]
 
@@ -10,6 +10,7 @@ mod name;
 mod read;
 mod record;
 mod seen;
+mod slot;
 #[cfg(test)]
 mod tests;
 mod words;
@@ -19,3 +20,4 @@ pub use mark::Mark;
 pub use name::PackageName;
 pub use read::read_status;
 pub use record::StatusRecord;
+pub use slot::Slot;

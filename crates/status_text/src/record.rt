@@ -6,6 +6,7 @@ ghost use Rattle.rules.specs.Name.{is_name};
 ghost use Rattle.rules.specs.State.{is_hold, is_installed_state, is_present_state};
 ghost use Rattle.rules.specs.Step.{no_relations};
 ghost use Rattle.status_text.specs.Kept.{IsKept, kept_record};
+ghost use Rattle.status_text.specs.Record.{relations_at};
 
 use crate::mark::Mark;
 use debversion::Version;
@@ -126,6 +127,16 @@ impl<'a> StatusRecord<'a> {
         ensures { read_stanza result.now ≡ self.now.stanza }
     {
         &self.stanza
+    }
+
+    /// Its stanza, and the configured architecture for which it was read: the package of a present record is read from
+    /// these alone.
+    pub fn origin(&self) -> (&Stanza<'a>, &'a [u8])
+        ensures stanza { read_stanza result.0.now ≡ self.now.stanza }
+        ensures relations { self.now.found.relations ≡ relations_at self.now.found.state result.1.now result.0.now }
+        ensures kept { IsKept result.1.now result.0.now self.now.found }
+    {
+        (&self.stanza, self.arch)
     }
 
     /// Whether files of the package are there. The record has no relations where they aren't.

@@ -1,7 +1,7 @@
 //! What the clauses do not say: printed refusals, worked texts and their readings, and that the calls succeed. Lines and
 //! offsets were counted in the row's text; the words are those of dpkg(1), and the architecture is amd64.
 use crate::words::{StateWord, StatusWords, read_words};
-use crate::{StatusError, StatusRecord, read_status};
+use crate::{Slot, StatusError, StatusRecord, read_status};
 use rules::{Flag, State, Want};
 use std::alloc::Global;
 use std::str;
@@ -31,13 +31,23 @@ fn write_record(shown: &mut String, record: &StatusRecord<'_>) -> Result<(), Fai
     Ok(())
 }
 
-/// The records, or the refusal as it is printed.
+fn write_slot(shown: &mut String, slot: &Slot<'_, StatusRecord<'_>>) -> Result<(), Fail> {
+    match slot {
+        Slot::Recorded(record) => write_record(shown, record),
+        Slot::Foreign(stanza) => {
+            write!(shown, "foreign at {};", stanza.line())?;
+            Ok(())
+        }
+    }
+}
+
+/// The slots, or the refusal as it is printed.
 fn shown(alloc: Global, text: &str) -> Result<String, Fail> {
     let mut shown = String::new(alloc);
     match read_status(alloc, text.as_bytes(), ARCH) {
-        Ok(records) => {
-            for record in &records {
-                write_record(&mut shown, record)?;
+        Ok(slots) => {
+            for slot in &slots {
+                write_slot(&mut shown, slot)?;
             }
         }
         Err(error) => write!(shown, "{error}")?,
@@ -45,62 +55,50 @@ fn shown(alloc: Global, text: &str) -> Result<String, Fail> {
     Ok(shown)
 }
 
+fn plain(want: Want, flag: Flag, state: State) -> Option<StatusWords> {
+    let state = StateWord::Plain(state);
+    Some(StatusWords { want, flag, state })
+}
+
 // dpkg(1), "Package states", "Package selection states" and "Package flags"; `ok` is the flag of none.
+fn words_named(value: &str) -> Option<StatusWords> {
+    let triggers = StatusWords {
+        want: Want::Install,
+        flag: Flag::Sound,
+        state: StateWord::Triggers,
+    };
+    match value {
+        "unknown ok not-installed" => plain(Want::Unknown, Flag::Sound, State::NotInstalled),
+        "install ok config-files" => plain(Want::Install, Flag::Sound, State::ConfigFiles),
+        "hold\treinstreq half-installed" => {
+            plain(Want::Hold, Flag::ReinstallRequired, State::HalfInstalled)
+        }
+        "deinstall \t ok unpacked" => plain(Want::Deinstall, Flag::Sound, State::Unpacked),
+        "purge ok half-configured" => plain(Want::Purge, Flag::Sound, State::HalfConfigured),
+        "install ok installed" => plain(Want::Install, Flag::Sound, State::Installed),
+        "install ok triggers-awaited" | "install ok triggers-pending" => Some(triggers),
+        _ => None,
+    }
+}
+
+const WORDS: &str = "\
+unknown ok not-installed
+install ok config-files
+hold\treinstreq half-installed
+deinstall \t ok unpacked
+purge ok half-configured
+install ok installed
+install ok triggers-awaited
+install ok triggers-pending
+";
+
 #[test]
 fn three_words_of_the_lists_are_read(rt: HostRuntime) {
-    let rows = [
-        (
-            "unknown ok not-installed",
-            Want::Unknown,
-            Flag::Sound,
-            StateWord::Plain(State::NotInstalled),
-        ),
-        (
-            "install ok config-files",
-            Want::Install,
-            Flag::Sound,
-            StateWord::Plain(State::ConfigFiles),
-        ),
-        (
-            "hold\treinstreq half-installed",
-            Want::Hold,
-            Flag::ReinstallRequired,
-            StateWord::Plain(State::HalfInstalled),
-        ),
-        (
-            "deinstall \t ok unpacked",
-            Want::Deinstall,
-            Flag::Sound,
-            StateWord::Plain(State::Unpacked),
-        ),
-        (
-            "purge ok half-configured",
-            Want::Purge,
-            Flag::Sound,
-            StateWord::Plain(State::HalfConfigured),
-        ),
-        (
-            "install ok installed",
-            Want::Install,
-            Flag::Sound,
-            StateWord::Plain(State::Installed),
-        ),
-        (
-            "install ok triggers-awaited",
-            Want::Install,
-            Flag::Sound,
-            StateWord::Triggers,
-        ),
-        (
-            "install ok triggers-pending",
-            Want::Install,
-            Flag::Sound,
-            StateWord::Triggers,
-        ),
-    ];
-    for (value, want, flag, state) in rows {
-        let words = StatusWords { want, flag, state };
-        assert_eq!(rt; read_words(value.as_bytes()), Some(words), "of {value}");
+    for value in WORDS.lines() {
+        assert!(rt;
+            read_words(value.as_bytes()) == words_named(value),
+            "{value}"
+        );
     }
 }
 
@@ -138,7 +136,7 @@ fn records_are_those_of_the_text(rt: HostRuntime) -> Result<(), Fail> {
         ),
         (
             "Package: x\nStatus: unknown ok not-installed\nArchitecture: i386\nVersion: _\n\nPackage: x\nStatus: install ok installed\nArchitecture: all\nVersion: 1\n",
-            "x Install Sound Installed 1 config 1;",
+            "foreign at 1;x Install Sound Installed 1 config 1;",
         ),
     ];
     for (text, wanted) in rows {
@@ -147,57 +145,46 @@ fn records_are_those_of_the_text(rt: HostRuntime) -> Result<(), Fail> {
     Ok(())
 }
 
+// `$` stands for a newline.
+const REFUSED: &str = "\
+Package: x$Status: install ok$→E12 BadStatus 2
+Package: x$Status: install ok triggers-pending$→E15 TriggerState x
+Package: x$Version: 1$Status: install ok installed$Architecture: i386$→E14 ForeignArchitecture x
+Package: x$Status: purge ok config-files$Architecture: i386$→E14 ForeignArchitecture x
+Package: x$Status: install ok installed$Architecture: all$Version: 1$$Package: x$Status: install ok installed$Architecture: all$Version: _$→E13 DuplicatePackage x
+Package: x$Status: unknown ok not-installed$$Package: x$Status: unknown ok not-installed$→E13 DuplicatePackage x
+Status: a$→E9 MissingField 1 Package
+$Package: x+$Version: _$→E9 MissingField 2 Status
+Package: x$Status: install ok unpacked$Version: _$→E9 MissingField 1 Architecture
+Package: x$Status: install ok unpacked$Architecture: all$→E9 MissingField 1 Version
+Package: x$Status: install ok config-files$Version:$→E6 BadVersion 3 Empty
+Package: x$Status: install ok installed$Architecture: all$Version: 1$Breaks: _$Config-Version: _$→E6 BadVersion 6 BadByte
+Package: x$Status: install ok installed$Architecture: all$Version: 1$Provides: _$Breaks: _$→E8 BadName 6 0
+Package: x$$Package$→E9 MissingField 1 Status
+Package: x$Package$→E2 BadLine 2
+";
+
+// The bytes of a row's text.
+fn unescaped(alloc: Global, text: &str) -> Result<Vec<u8>, Fail> {
+    let mut bytes = Vec::new(alloc);
+    for byte in text.as_bytes() {
+        bytes.push(if *byte == b'$' { b'\n' } else { *byte })?;
+    }
+    Ok(bytes)
+}
+
+fn is_shown(alloc: Global, row: &str) -> Result<bool, Fail> {
+    let Some((text, wanted)) = row.split_once('→') else {
+        return Ok(false);
+    };
+    let text = unescaped(alloc, text)?;
+    Ok(shown(alloc, str::from_utf8(text.as_slice())?)?.as_str() == wanted)
+}
+
 #[test]
 fn the_first_refusal_is_printed(rt: HostRuntime) -> Result<(), Fail> {
-    let rows = [
-        ("Package: x\nStatus: install ok\n", "E12 BadStatus 2"),
-        (
-            "Package: x\nStatus: install ok triggers-pending\n",
-            "E15 TriggerState x",
-        ),
-        (
-            "Package: x\nVersion: 1\nStatus: install ok installed\nArchitecture: i386\n",
-            "E14 ForeignArchitecture x",
-        ),
-        (
-            "Package: x\nStatus: purge ok config-files\nArchitecture: i386\n",
-            "E14 ForeignArchitecture x",
-        ),
-        (
-            "Package: x\nStatus: install ok installed\nArchitecture: all\nVersion: 1\n\nPackage: x\nStatus: install ok installed\nArchitecture: all\nVersion: _\n",
-            "E13 DuplicatePackage x",
-        ),
-        (
-            "Package: x\nStatus: unknown ok not-installed\n\nPackage: x\nStatus: unknown ok not-installed\n",
-            "E13 DuplicatePackage x",
-        ),
-        ("Status: a\n", "E9 MissingField 1 Package"),
-        ("\nPackage: x+\nVersion: _\n", "E9 MissingField 2 Status"),
-        (
-            "Package: x\nStatus: install ok unpacked\nVersion: _\n",
-            "E9 MissingField 1 Architecture",
-        ),
-        (
-            "Package: x\nStatus: install ok unpacked\nArchitecture: all\n",
-            "E9 MissingField 1 Version",
-        ),
-        (
-            "Package: x\nStatus: install ok config-files\nVersion:\n",
-            "E6 BadVersion 3 Empty",
-        ),
-        (
-            "Package: x\nStatus: install ok installed\nArchitecture: all\nVersion: 1\nBreaks: _\nConfig-Version: _\n",
-            "E6 BadVersion 6 BadByte",
-        ),
-        (
-            "Package: x\nStatus: install ok installed\nArchitecture: all\nVersion: 1\nProvides: _\nBreaks: _\n",
-            "E8 BadName 6 0",
-        ),
-        ("Package: x\n\nPackage\n", "E9 MissingField 1 Status"),
-        ("Package: x\nPackage\n", "E2 BadLine 2"),
-    ];
-    for (text, wanted) in rows {
-        assert_eq!(rt; shown(rt.alloc(), text)?.as_str(), wanted, "of {text}");
+    for row in REFUSED.lines() {
+        assert!(rt; is_shown(rt.alloc(), row)?, "{row}");
     }
     Ok(())
 }
@@ -206,9 +193,12 @@ fn the_first_refusal_is_printed(rt: HostRuntime) -> Result<(), Fail> {
 fn a_record_has_its_package_and_stanza(rt: HostRuntime) -> Result<(), Fail> {
     let text =
         "\nPackage: x\nStatus: hold ok installed\nArchitecture: all\nVersion: 1\nDepends: y, z\n\n";
-    let records = read_status(rt.alloc(), text.as_bytes(), ARCH)?;
-    assert_eq!(rt; records.len(), 1);
-    for record in &records {
+    let slots = read_status(rt.alloc(), text.as_bytes(), ARCH)?;
+    assert_eq!(rt; slots.len(), 1);
+    for slot in &slots {
+        let Slot::Recorded(record) = slot else {
+            continue;
+        };
         assert!(rt; record.stands() && record.is_installed() && record.is_held());
         assert_eq!(rt; record.stanza().line(), 2);
         if record.is_present() {
@@ -223,7 +213,7 @@ fn a_refused_growth_is_want_of_memory(rt: HostRuntime) -> Result<(), Fail> {
     let text =
         b"Package: x\nStatus: install ok not-installed\n\nPackage: y\nStatus: install ok not-installed\n";
     match read_status(rt.alloc(), text, ARCH) {
-        Ok(records) => assert_eq!(rt; records.len(), 2),
+        Ok(slots) => assert_eq!(rt; slots.len(), 2),
         Err(error) => assert!(rt; matches!(error, StatusError::OutOfMemory)),
     }
     Ok(())

@@ -17,7 +17,7 @@ use Rattle.universe.proofs.StanzaOrder.{is_of-from, is_of-parts}
 use mathlib.Core.Logic.{inl, inr}
 
 -- what is left by a filter that changes comes from an element
-Contains-filter_map : {X Y : Type 0} (h : X → Option Y) (xs : List X) (y : Y) → Contains (filter_map h xs) y
+pub Contains-filter_map : {X Y : Type 0} (h : X → Option Y) (xs : List X) (y : Y) → Contains (filter_map h xs) y
     → (x : X) × Contains xs x × (h x ≡ Some y)
 Contains-filter_map h [] y within = absurd (Contains-nil y within)
 Contains-filter_map {X} {Y} h (x ∷ xs) y within = at (h x) refl within (Contains-filter_map h xs y)
@@ -34,7 +34,7 @@ Contains-filter_map {X} {Y} h (x ∷ xs) y within = at (h x) refl within (Contai
       | inr there ↦ later (rest there)
     ]
 
-Contains-filter_map_intro : {X Y : Type 0} (h : X → Option Y) (xs : List X) (x : X) (y : Y) → Contains xs x → h x ≡ Some y
+pub Contains-filter_map_intro : {X Y : Type 0} (h : X → Option Y) (xs : List X) (x : X) (y : Y) → Contains xs x → h x ≡ Some y
     → Contains (filter_map h xs) y
 Contains-filter_map_intro h [] x y within is = absurd (Contains-nil x within)
 Contains-filter_map_intro {X} {Y} h (z ∷ zs) x y within is =

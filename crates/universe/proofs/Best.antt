@@ -19,7 +19,8 @@ use Rattle.rules.specs.NamedLaws.{bytes_eq-true, bytes_eq-same}
 use Rattle.rules.specs.Priority.{IsUpTo}
 use Rattle.rules.specs.Version.{version_cmp}
 use Rattle.rules.specs.VersionOrderLaws.{version_cmp-antisymm}
-use Rattle.universe.specs.Choice.{AreBest, IsBeaten, Offer, choice_cmp, offer_cmp}
+use Rattle.universe.specs.Choice.{AreBest, IsBeaten, choice_cmp, offer_cmp}
+use Rattle.universe.specs.Offer.{Offer}
 use Rattle.universe.specs.ChoiceLaws.{offer_cmp_total, offer_name_cmp_total}
 use Rattle.universe.proofs.Finding.{find-dedup, find-exists, find-some}
 use mathlib.Core.Logic.{inl, inr}
@@ -58,16 +59,16 @@ not_less o fails is = let e : true ≡ false = ap is_lt (sym is) ∙ fails in cc
 
 -- an offer that isn't to be chosen before another isn't after it
 up_to-from : (offer other : Offer) → is_lt (choice_cmp offer other) ≡ false
-    → IsUpTo offer.listed.pkg.version offer.priority other.listed.pkg.version other.priority
+    → IsUpTo offer.version offer.priority other.version other.priority
 unfolding IsUpTo
 up_to-from offer other not_before =
     at (int_cmp other.priority offer.priority) (int_ranked other.priority offer.priority (int_cmp other.priority offer.priority) refl) not_before
   where
     v : List ℕ
-    v = offer.listed.pkg.version
+    v = offer.version
 
     w : List ℕ
-    w = other.listed.pkg.version
+    w = other.version
 
     at : (o : Ordering) → MatchOrdering o (other.priority <ℤ offer.priority) (other.priority ≡ offer.priority) (offer.priority <ℤ other.priority)
         → is_lt (ordering_then o (version_cmp w v)) ≡ false
@@ -87,31 +88,31 @@ names_rise Greater w fails = refl
 
 -- the offers have one name
 abbrev pub have_one_name : Offer → Offer → Bool
-have_one_name offer other = bytes_eq offer.listed.pkg.name other.listed.pkg.name
+have_one_name offer other = bytes_eq offer.name other.name
 
 -- offers of one name have the same names
 alike_named : (name : List ℕ) (x k : Offer) → have_one_name x k ≡ true
-    → bytes_eq x.listed.pkg.name name ≡ bytes_eq k.listed.pkg.name name
-alike_named name x k same = ap (λ (n : List ℕ). bytes_eq n name) (bytes_eq-true x.listed.pkg.name k.listed.pkg.name same)
+    → bytes_eq x.name name ≡ bytes_eq k.name name
+alike_named name x k same = ap (λ (n : List ℕ). bytes_eq n name) (bytes_eq-true x.name k.name same)
 
 -- the first of a name in sorted offers beats each of them
 beaten_by_first : (sorted : List Offer) → IsSorted offer_cmp sorted → (offer : Offer) → Contains sorted offer
     → Any (IsBeaten offer) (dedup have_one_name sorted)
 unfolding IsBeaten
 beaten_by_first sorted up offer within =
-    let name : List ℕ = offer.listed.pkg.name in
-    let p : Offer → Bool = λ other. bytes_eq other.listed.pkg.name name in
+    let name : List ℕ = offer.name in
+    let p : Offer → Bool = λ other. bytes_eq other.name name in
     let own : p offer ≡ true = bytes_eq-same name name refl in
     let first = find-exists p sorted offer within own in
     let at = find-some p sorted first.0 first.1 in
-    let named : first.0.listed.pkg.name ≡ name = bytes_eq-true first.0.listed.pkg.name name at.1 in
+    let named : first.0.name ≡ name = bytes_eq-true first.0.name name at.1 in
     let there = find-some p (dedup have_one_name sorted) first.0
     (find-dedup have_one_name p (λ x k same. alike_named name x k same) sorted ∙ first.1) in
-    let tied : name_cmp name first.0.listed.pkg.name ≡ Equal =
+    let tied : name_cmp name first.0.name ≡ Equal =
     subst (λ (n : List ℕ). name_cmp name n ≡ Equal) (sym named) (tied_itself nat_list_cmp_total name) in
     Any-intro (IsBeaten offer) (dedup have_one_name sorted) first.0 there.0 (
       named,
-      up_to-from offer first.0 (same_name_then (name_cmp name first.0.listed.pkg.name) (choice_cmp offer first.0) tied
+      up_to-from offer first.0 (same_name_then (name_cmp name first.0.name) (choice_cmp offer first.0) tied
           (first_least offer_cmp_total p sorted up first.0 offer first.1 within own)),
     )
 
@@ -120,7 +121,7 @@ pub AreBest-from_sort : (offers sorted best : List Offer) → IsSorted offer_cmp
     → best ≡ dedup have_one_name sorted → AreBest offers best
 AreBest-from_sort offers sorted best up moved same = subst (AreBest offers) (sym same) (record {
   ascending = IsStrictlySortedBy-dedup offer_name_cmp_total
-      (λ x y. sym (is_eq-slice_cmp x.listed.pkg.name y.listed.pkg.name)) sorted
+      (λ x y. sym (is_eq-slice_cmp x.name y.name)) sorted
       (λ k d low high. names_rise _ _ (up k d low high));
   drawn = λ offer within. Contains-permutation sorted offers offer (IsPermutation-sym offers sorted moved)
       (Contains-from_dedup have_one_name sorted offer within);

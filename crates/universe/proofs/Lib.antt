@@ -1,9 +1,14 @@
-pub mod Admitted
 pub mod Asked
 pub mod Best
+pub mod Candidates
 pub mod Finding
-pub mod Fresh
+pub mod Given
 pub mod Made
+pub mod Named
 pub mod OneUniverse
+pub mod Ordered
+pub mod Priorities
+pub mod RecordOrder
 pub mod Searching
+pub mod Sought
 pub mod StanzaOrder

@@ -1,34 +1,42 @@
--- The stanzas of the best offers' versions and those that are asked for, and the candidates, make the universe of a request
--- where nothing is installed.
-use Rattle.std.proofs.Common.{◌≡◌, ◌≢◌, ℕ, ℤ, Bool, ◌||◌, List, [], ◌∷◌, ◌++◌, map, Option, Some, refl, sym, ap, subst, ◌∙◌, arith}
+-- The pairs of what stands and of what is chosen or asked for, and the candidates, make the universe of a request.
+use Rattle.std.proofs.Common.{◌≡◌, ◌≢◌, ℕ, ℤ, Bool, true, false, not, ◌||◌, List, [], ◌∷◌, map, ◌⊎◌, Option, Some, None, IsSome, if◌then◌else◌, refl, sym, ap, subst, ◌∙◌, arith}
 use Rattle.std.specs.Cmp.{tied_itself}
 use Rattle.std.specs.Cmp.Lexicographic.{nat_list_cmp_total}
-use Rattle.std.specs.List.{AllPairs, Any, Contains, cons_option, filter, filter_map}
-use Rattle.std.specs.List.Sorted.{IsPermutation, IsStrictlySortedBy}
-use Rattle.std.specs.Option.{option_map}
+use Rattle.std.specs.List.{AllPairs, Any, Contains, filter}
+use Rattle.std.specs.List.Sorted.{IsStrictlySortedBy}
+use Rattle.std.specs.Option.{option_map, option_or}
 use Rattle.std.specs.declared.cmp.Ordering.{Ordering}
 use Rattle.std.specs.declared.cmp.Ordering.TheVariants.{Less, Equal}
-use Rattle.std.proofs.lemmas.List.{map-append}
-use Rattle.std.proofs.lemmas.List.Elements.{All-contains, All-map, filter_agree}
-use Rattle.std.proofs.lemmas.List.Kept.{AllPairs-cons, IsStrictlySortedBy-filter}
-use Rattle.std.proofs.lemmas.List.Sorted.{list_any-IsPermutation}
+use Rattle.std.proofs.lemmas.Bool.{and_parts, and_from, or_cases, or_left, or_right}
+use Rattle.std.proofs.lemmas.List.Elements.{All-contains, All-map, Contains-append_cases, Contains-append_left, Contains-append_right}
+use Rattle.std.proofs.lemmas.List.Kept.{AllPairs-cons}
 use Rattle.std.proofs.lemmas.Map.Keys.{sorted_tail}
 use Rattle.std.proofs.lemmas.Map.Views.{All-after_first}
-use Rattle.rules.specs.Available.{Index, all_listed, counting_package, index_package, is_of}
+use Rattle.std.proofs.lemmas.Option.{same_Some}
+use Rattle.rules.specs.Available.{Index, Inputs, all_listed, counting_package, index_package}
+use Rattle.rules.specs.Database.{HasDistinctNames, HasRecord, IsHeld, Record, pkg_of, stands}
 use Rattle.rules.specs.ElementLaws.{All-intro, Any-elim, Any-intro, Contains-filter, Contains-filter_intro, Contains-map, Contains-map_intro}
 use Rattle.rules.specs.Name.{name_cmp}
-use Rattle.rules.specs.Priority.{IsCandidate, default_priority}
+use Rattle.rules.specs.Priority.{IsCandidate}
+use Rattle.rules.specs.State.{is_hold}
 use Rattle.rules.specs.Step.{Listed}
-use Rattle.rules.specs.Universe.{Candidate, IsAdmitted, IsOf, IsOffered, IsUniverse, Pair, Universe, pair_cmp}
+use Rattle.rules.specs.Universe.{Candidate, IsAdmitted, IsOf, IsOffered, IsUniverse, Pair, pair_cmp, starts_of}
 use Rattle.rules.specs.Version.{SameVersion}
+use Rattle.rules.specs.VersionOrderLaws.{SameVersion-refl, SameVersion-symm, SameVersion-trans}
 use Rattle.rules.specs.declared.goal.Goal.{Goal}
-use Rattle.rules.specs.declared.goal.GoalLine.{GoalLine}
-use Rattle.universe.specs.Build.{first_unknown, goals_of, inputs_of}
-use Rattle.universe.specs.Choice.{AreBest, AreExacts, Exact, IsOrdered, Offer, admitted_among, best_exacts, candidate_at, exact_of, exacts_of, is_sought, listed_cmp, listed_pair, offer_at, offer_name_cmp, offers_in, offers_of}
-use Rattle.universe.proofs.Admitted.{best_of_candidate, candidate_of_best, found_ordered, is_kept, kept_of_offered, offered_of_kept}
-use Rattle.universe.proofs.Fresh.{IsAdmitted-from, IsAdmitted-is}
-use Rattle.universe.proofs.Searching.{first_unknown-ordered}
+use Rattle.universe.specs.Build.{inputs_of}
+use Rattle.universe.specs.Choice.{AreBest, IsOrdered, best_exacts, candidate_at, exacts_of, is_sought, listed_pair, offer_name_cmp, stanza_of}
+use Rattle.universe.specs.Offer.{Offer, offers_by, offers_of, standing_offers, upward}
+use Rattle.universe.specs.Chosen.{ArePairs, admitted_among, chosen_pairs, is_free, standing_pair, standing_pairs}
+use Rattle.universe.specs.Recorded.{IsByName, is_held, stands_as}
+use Rattle.universe.proofs.Asked.{Contains-filter_map, Contains-filter_map_intro, is_sought-from, is_sought-names}
+use Rattle.universe.proofs.Candidates.{best_of_candidate, best_sought, candidate_of_best, sought_best, upward_within}
+use Rattle.universe.proofs.Finding.{AllPairs-rising}
+use Rattle.universe.proofs.Named.{StandsAs-from, StandsAs-is, held-from, held-is, known_within, of_record-known, standing-from, standing-is, standing_record-none, standing_record-one, stands_as-same, stands_in, within_known}
+use Rattle.universe.proofs.Ordered.{found_ordered, ordered_found, ordered_stanza}
+use Rattle.universe.proofs.Priorities.{IsFor, offered_listed, standing_from}
 use Rattle.universe.proofs.StanzaOrder.{of_itself}
+use mathlib.Core.Logic.{inl, inr}
 
 -- each element of a sorted list is before all that follow, also after a change that keeps the order
 AllPairs-sorted : {X Y : Type 0} (R : X → X → Ordering) (P : Y → Y → Type 0) (f : X → Y)
@@ -43,148 +51,291 @@ AllPairs-sorted {X} {Y} R P f keeps (x ∷ xs) sorted = AllPairs-cons P (f x) (m
 -- names in order differ
 names_differ : (offer other : Offer) → offer_name_cmp offer other ≡ Less → (candidate_at offer).name ≢ (candidate_at other).name
 names_differ offer other below named =
-    let own : name_cmp offer.listed.pkg.name offer.listed.pkg.name ≡ Less =
-    subst (λ (n : List ℕ). name_cmp offer.listed.pkg.name n ≡ Less) (sym named) below in
-    let tied : name_cmp offer.listed.pkg.name offer.listed.pkg.name ≡ Equal = tied_itself nat_list_cmp_total offer.listed.pkg.name in
+    let own : name_cmp offer.name offer.name ≡ Less = subst (λ (n : List ℕ). name_cmp offer.name n ≡ Less) (sym named) below in
+    let tied : name_cmp offer.name offer.name ≡ Equal = tied_itself nat_list_cmp_total offer.name in
     absurd (let e : Less ≡ Equal = sym own ∙ tied in cc)
 
--- what is chosen: the pairs of the stanzas that are kept, and the best offers as candidates
-abbrev pub made_of : List Goal → List Listed → List Offer → Universe
-made_of goals ordered best = record {
-  pairs = map listed_pair (admitted_among best (exacts_of goals) ordered);
-  goals = goals;
-  starts = [];
-  candidates = map candidate_at best;
-}
+not_from : (b : Bool) → b ≡ false → not b ≡ true
+not_from b is = ap not is
 
-module _ (indices : List Index) (goals : List Goal) (ordered : List Listed) (best : List Offer)
-    (is : IsOrdered (all_listed indices) ordered) (are : AreBest (offers_of indices) best) where
+not_is : (b : Bool) → not b ≡ true → b ≡ false
+not_is false is = refl
+not_is true is = absurd (let e : false ≡ true = is in cc)
+
+-- the pair of a record that stands
+abbrev pair_at : List Listed → Record → Pair
+pair_at listed found = record { pkg = pkg_of found; listed = stanza_of listed found.name found.version }
+
+standing_pair-from : (listed : List Listed) (found : Record) → stands found ≡ true → standing_pair listed found ≡ Some (pair_at listed found)
+standing_pair-from listed found stood = ap (λ (b : Bool).
+    if b then Some (record { pkg = pkg_of found; listed = if b then stanza_of listed found.name found.version else None }) else None) stood
+
+standing_pair-is : (listed : List Listed) (found : Record) (pair : Pair) → standing_pair listed found ≡ Some pair
+    → (stands found ≡ true) × (pair_at listed found ≡ pair)
+standing_pair-is listed found pair is = at (stands found) refl is
+  where
+    at : (b : Bool) → stands found ≡ b
+        → (if b then Some (record { pkg = pkg_of found; listed = if b then stanza_of listed found.name found.version else None }) else None) ≡ Some pair
+        → (stands found ≡ true) × (pair_at listed found ≡ pair)
+    at true stood whole = (stood, same_Some (pair_at listed found) pair whole)
+    at false stood whole = absurd (let e : None ≡ Some pair = whole in cc)
+
+module _ (db : List Record) (indices : List Index) (goals : List Goal) (known : List Record) (ordered : List Listed) (best : List Offer)
+    (distinct : HasDistinctNames db) (named : IsByName db known) (is : IsOrdered (all_listed indices) ordered)
+    (are : AreBest (upward db (offers_of db indices)) best) where
+  abbrev inputs : Inputs
+  inputs = inputs_of db indices goals
+
+  abbrev made : List Pair
+  made = chosen_pairs known ordered best (exacts_of goals)
+
+  abbrev free_ones : List Listed
+  free_ones = filter (is_free known) ordered
+
+  abbrev is_wanted : Listed → Bool
+  is_wanted found = is_sought (best_exacts best) found || is_sought (exacts_of goals) found
+
   abbrev kept_ones : List Listed
-  kept_ones = admitted_among best (exacts_of goals) ordered
+  kept_ones = admitted_among best (exacts_of goals) free_ones
 
-  -- an admitted pair is one that is kept
-  pair_of_admitted : (name version : List ℕ) → IsAdmitted (inputs_of indices goals) name version
-      → Any (λ (pair : Pair). IsOf name version pair.pkg) (map listed_pair kept_ones)
-  pair_of_admitted name version admitted =
-      let there = kept_of_offered indices goals ordered best is are name version (IsAdmitted-is indices goals name version admitted) in
-      Any-intro (λ (pair : Pair). IsOf name version pair.pkg) (map listed_pair kept_ones) (listed_pair there.0)
-      (Contains-map_intro listed_pair kept_ones there.0 (Contains-filter_intro (is_kept best goals) ordered there.0 there.1 there.2)) there.3
+  -- where a pair comes from: a record that stands
+  abbrev IsStanding : Pair → Type 0
+  IsStanding pair = (found : Record) × Contains db found × (stands found ≡ true) × (pair_at ordered found ≡ pair)
 
-  admitted_of_pair : (name version : List ℕ) → Any (λ (pair : Pair). IsOf name version pair.pkg) (map listed_pair kept_ones)
-      → IsAdmitted (inputs_of indices goals) name version
-  admitted_of_pair name version some = IsAdmitted-from indices goals name version
-      (Any-elim (λ (pair : Pair). IsOf name version pair.pkg) (map listed_pair kept_ones) (IsOffered (inputs_of indices goals) name version)
-      (λ pair within of.
-      let from = Contains-map listed_pair kept_ones pair within in
-      let at = Contains-filter (is_kept best goals) ordered from.0 from.1 in
-      offered_of_kept indices goals ordered best is are from.0 at.0 at.1 name version
-      (subst (λ (p : Pair). IsOf name version p.pkg) (sym from.2) of)) some)
+  -- or a stanza in order that is free and wanted
+  abbrev IsKept : Pair → Type 0
+  IsKept pair = (found : Listed) × Contains ordered found × (stands_as db found.pkg.name found.pkg.version ≡ false)
+      × (is_held db found.pkg.name ≡ false) × (is_wanted found ≡ true) × (listed_pair found ≡ pair)
 
-  -- a stanza that is kept is found of its own version
-  found_kept : (found : Listed) → Contains kept_ones found → index_package indices found.pkg.name found.pkg.version ≡ Some found
-  found_kept found within = found_ordered (all_listed indices) ordered is found
-      (Contains-filter (is_kept best goals) ordered found within).0 found.pkg.name found.pkg.version (of_itself found.pkg)
+  same_stands : (name version : List ℕ) → stands_as known name version ≡ stands_as db name version
+  same_stands name version = of_record-known (stands_in version) db known named name
 
-  -- the universe of these indices
-  pub universe_of : IsUniverse (inputs_of indices goals) (made_of goals ordered best)
-  universe_of = record {
-    ascending = AllPairs-sorted listed_cmp (λ (earlier : Pair) (later : Pair). pair_cmp earlier later ≡ Less) listed_pair
-        (λ earlier later below. below) kept_ones (IsStrictlySortedBy-filter listed_cmp (is_kept best goals) ordered is.ascending);
-    admitted = λ name version. (pair_of_admitted name version, admitted_of_pair name version);
-    counting = All-map (λ (pair : Pair). counting_package (inputs_of indices goals) pair.pkg.name pair.pkg.version ≡ Some pair.pkg) listed_pair kept_ones
-        (All-intro (λ (found : Listed). counting_package (inputs_of indices goals) found.pkg.name found.pkg.version ≡ Some found.pkg) kept_ones
-        (λ found within. ap (option_map (λ (l : Listed). l.pkg)) (found_kept found within)));
-    listed = All-map (λ (pair : Pair). index_package indices pair.pkg.name pair.pkg.version ≡ pair.listed) listed_pair kept_ones
-        (All-intro (λ (found : Listed). index_package indices found.pkg.name found.pkg.version ≡ Some found) kept_ones
-        (λ found within. found_kept found within));
+  same_held : (name : List ℕ) → is_held known name ≡ is_held db name
+  same_held name = of_record-known (λ (found : Record). is_hold found.want) db known named name
+
+  made_from : (pair : Pair) → Contains made pair → IsStanding pair ⊎ IsKept pair
+  made_from pair within = elim (Contains-append_cases (standing_pairs ordered known) (map listed_pair kept_ones) pair within) [
+    | inl here ↦
+        let from = Contains-filter_map (standing_pair ordered) known pair here in
+        let parts = standing_pair-is ordered from.0 pair from.2 in
+        inl (from.0, known_within db known named from.0 from.1, parts.0, parts.1)
+    | inr later ↦
+        let from = Contains-map listed_pair kept_ones pair later in
+        let wanted = Contains-filter is_wanted free_ones from.0 from.1 in
+        let free = Contains-filter (is_free known) ordered from.0 wanted.0 in
+        let parts = and_parts (not (stands_as known from.0.pkg.name from.0.pkg.version)) (not (is_held known from.0.pkg.name)) free.1 in
+        inr (
+          from.0,
+          free.0,
+          sym (same_stands from.0.pkg.name from.0.pkg.version) ∙ not_is (stands_as known from.0.pkg.name from.0.pkg.version) parts.0,
+          sym (same_held from.0.pkg.name) ∙ not_is (is_held known from.0.pkg.name) parts.1,
+          wanted.1,
+          from.2,
+        )
+  ]
+
+  standing_made : (found : Record) → Contains db found → stands found ≡ true → Contains made (pair_at ordered found)
+  standing_made found within stood = Contains-append_left (standing_pairs ordered known) (map listed_pair kept_ones) (pair_at ordered found)
+      (Contains-filter_map_intro (standing_pair ordered) known found (pair_at ordered found)
+      (within_known db known distinct named found within) (standing_pair-from ordered found stood))
+
+  kept_made : (found : Listed) → Contains ordered found → stands_as db found.pkg.name found.pkg.version ≡ false
+      → is_held db found.pkg.name ≡ false → is_wanted found ≡ true → Contains made (listed_pair found)
+  kept_made found within stood held wanted = Contains-append_right (standing_pairs ordered known) (map listed_pair kept_ones) (listed_pair found)
+      (Contains-map_intro listed_pair kept_ones found
+      (Contains-filter_intro is_wanted free_ones found
+      (Contains-filter_intro (is_free known) ordered found within
+      (and_from (not (stands_as known found.pkg.name found.pkg.version)) (not (is_held known found.pkg.name))
+      (not_from (stands_as known found.pkg.name found.pkg.version) (same_stands found.pkg.name found.pkg.version ∙ stood))
+      (not_from (is_held known found.pkg.name) (same_held found.pkg.name ∙ held)))) wanted))
+
+  -- a stanza in order is found of its own version
+  found_own : (found : Listed) → Contains ordered found → index_package indices found.pkg.name found.pkg.version ≡ Some found
+  found_own found within = found_ordered (all_listed indices) ordered is found within found.pkg.name found.pkg.version (of_itself found.pkg)
+
+  -- where the version doesn't stand, the package of an index counts
+  counting_listed : (name version : List ℕ) → stands_as db name version ≡ false
+      → counting_package inputs name version ≡ option_map (λ (listed : Listed). listed.pkg) (index_package indices name version)
+  counting_listed name version stood = ap (λ (o : Option Record). option_or (option_map pkg_of o)
+      (option_map (λ (listed : Listed). listed.pkg) (index_package indices name version))) (standing_record-none db distinct name version stood)
+
+  counts : (pair : Pair) → IsStanding pair ⊎ IsKept pair → counting_package inputs pair.pkg.name pair.pkg.version ≡ Some pair.pkg
+  counts pair (inl (found, within, stood, same)) =
+      subst (λ (p : Pair). counting_package inputs p.pkg.name p.pkg.version ≡ Some p.pkg) same
+      (ap (λ (o : Option Record). option_or (option_map pkg_of o)
+      (option_map (λ (listed : Listed). listed.pkg) (index_package indices found.name found.version)))
+      (standing_record-one db distinct found.name found.version found within refl stood (SameVersion-refl found.version)))
+  counts pair (inr (found, within, stood, held, wanted, same)) =
+      subst (λ (p : Pair). counting_package inputs p.pkg.name p.pkg.version ≡ Some p.pkg) same
+      (counting_listed found.pkg.name found.pkg.version stood ∙ ap (option_map (λ (listed : Listed). listed.pkg)) (found_own found within))
+
+  listed_as : (pair : Pair) → IsStanding pair ⊎ IsKept pair → index_package indices pair.pkg.name pair.pkg.version ≡ pair.listed
+  listed_as pair (inl (found, within, stood, same)) =
+      subst (λ (p : Pair). index_package indices p.pkg.name p.pkg.version ≡ p.listed) same (sym (is.earliest found.name found.version))
+  listed_as pair (inr (found, within, stood, held, wanted, same)) =
+      subst (λ (p : Pair). index_package indices p.pkg.name p.pkg.version ≡ p.listed) same (found_own found within)
+
+  -- a made pair of a version
+  abbrev IsMade : List ℕ → List ℕ → Type 0
+  IsMade name version = (pair : Pair) × Contains made pair × IsOf name version pair.pkg
+
+  -- a version that stands
+  made_standing : (name version : List ℕ) (found : Record) → Contains db found → found.name ≡ name → stands found ≡ true
+      → SameVersion found.version version → IsMade name version
+  made_standing name version found within own stood same =
+      (pair_at ordered found, standing_made found within stood, (own, same))
+
+  -- another one that is free, in order and wanted
+  made_listed : (name version : List ℕ) (found : Listed) → Contains ordered found → IsOf name version found.pkg
+      → stands_as db name version ≡ false → is_held db name ≡ false → is_wanted found ≡ true → IsMade name version
+  made_listed name version found within of stood held wanted = (
+    listed_pair found,
+    kept_made found within
+        (ap (λ (n : List ℕ). stands_as db n found.pkg.version) of.0 ∙ stands_as-same db name found.pkg.version version of.1 ∙ stood)
+        (ap (is_held db) of.0 ∙ held) wanted,
+    of,
+  )
+
+  -- an offer of a version that doesn't stand is of an index
+  listed_offer : (name version : List ℕ) (offer : Offer) → IsFor name version offer → stands_as db name version ≡ false
+      → Contains (standing_offers db) offer ⊎ Contains (offers_by indices) offer → Contains (offers_by indices) offer
+  listed_offer name version offer of stood (inl status) =
+      let from = standing_from db offer status in
+      absurd (let e : false ≡ true = sym stood ∙ standing-from db distinct name version from.0 from.1
+      (ap (λ (o : Offer). o.name) from.3 ∙ of.0) from.2
+      (subst (λ (o : Offer). SameVersion o.version version) (sym from.3) of.1) in cc)
+  listed_offer name version offer of stood (inr listed) = listed
+
+  -- what is offered of a version that doesn't stand, of a name that isn't held
+  made_offered : (name version : List ℕ) → stands_as db name version ≡ false → is_held db name ≡ false → IsOffered inputs name version
+      → IsMade name version
+  unfolding IsOffered
+  made_offered name version stood held (inl candidate) =
+      let top = best_of_candidate db indices goals best distinct are name version candidate.0 candidate.1 in
+      let drawn = upward_within db indices goals top.0 (are.drawn top.0 top.1) in
+      let listed = listed_offer name version top.0 top.2 stood
+      (Contains-append_cases (standing_offers db) (offers_by indices) top.0 drawn.0) in
+      let from = offered_listed indices top.0 listed in
+      let of : IsOf name version from.0.pkg = (
+        from.2 ∙ top.2.0,
+        subst (λ (v : List ℕ). SameVersion v version) (sym from.3) top.2.1,
+      ) in
+      let there = ordered_stanza (all_listed indices) ordered is from.0 from.1 name version of in
+      let own : IsOf top.0.name top.0.version there.0.pkg = (
+        there.2.0 ∙ sym top.2.0,
+        SameVersion-trans there.0.pkg.version version top.0.version there.2.1 (SameVersion-symm top.0.version version top.2.1),
+      ) in
+      made_listed name version there.0 there.1 there.2 stood held
+      (or_left (is_sought (best_exacts best) there.0) (is_sought (exacts_of goals) there.0) (sought_best best top.0 top.1 there.0 own))
+  made_offered name version stood held (inr asked) = at (index_package indices name version) refl
+      (subst IsSome (counting_listed name version stood) asked.0)
+    where
+      at : (o : Option Listed) → index_package indices name version ≡ o → IsSome (option_map (λ (listed : Listed). listed.pkg) o)
+          → IsMade name version
+      at None from some = absurd (let e : false ≡ true = some in cc)
+      at (Some found) from some =
+          let there = ordered_found (all_listed indices) ordered is name version found from in
+          made_listed name version found there.0 there.1 stood held
+          (or_right (is_sought (best_exacts best) found) (is_sought (exacts_of goals) found)
+          (is_sought-from goals found name version there.1 asked.1))
+
+  not_held : (name : List ℕ) → ¬ HasRecord IsHeld name db → is_held db name ≡ false
+  not_held name free = at (is_held db name) refl
+    where
+      at : (b : Bool) → is_held db name ≡ b → is_held db name ≡ false
+      at false held = held
+      at true held = absurd (free (held-is db name held))
+
+  -- each admitted version is made
+  made_admitted : (name version : List ℕ) → IsAdmitted inputs name version → IsMade name version
+  unfolding IsAdmitted
+  made_admitted name version (inl stood) =
+      let from = StandsAs-is db name version stood in
+      made_standing name version from.0 from.1 from.2 from.3 from.4
+  made_admitted name version (inr offered) = at (stands_as db name version) refl
+    where
+      at : (b : Bool) → stands_as db name version ≡ b → IsMade name version
+      at true stood =
+          let from = standing-is db name version stood in
+          made_standing name version from.0 from.1 from.2 from.3 from.4
+      at false stood = made_offered name version stood (not_held name offered.0) offered.1
+
+  -- each made version is admitted
+  offered_kept : (name version : List ℕ) (found : Listed) → Contains ordered found → stands_as db found.pkg.name found.pkg.version ≡ false
+      → is_wanted found ≡ true → IsOf name version found.pkg → IsOffered inputs name version
+  unfolding IsOffered
+  offered_kept name version found within stood wanted of =
+      elim (or_cases (is_sought (best_exacts best) found) (is_sought (exacts_of goals) found) wanted) [
+        | inl chosen ↦
+            let top = best_sought best found chosen in
+            inl (
+              top.0.priority,
+              candidate_of_best db indices goals best distinct are top.0 top.1 name version (
+                sym top.2.0 ∙ of.0,
+                SameVersion-trans top.0.version found.pkg.version version (SameVersion-symm found.pkg.version top.0.version top.2.1) of.1,
+              ),
+            )
+        | inr asked ↦ inr (
+          subst IsSome (sym (counting_listed name version
+              (sym (stands_as-same db name found.pkg.version version of.1)
+              ∙ ap (λ (n : List ℕ). stands_as db n found.pkg.version) (sym of.0) ∙ stood)
+              ∙ ap (option_map (λ (listed : Listed). listed.pkg)) (found_ordered (all_listed indices) ordered is found within name version of))) refl,
+          is_sought-names goals found asked name version of,
+        )
+      ]
+
+  admitted_made : (name version : List ℕ) (pair : Pair) → IsStanding pair ⊎ IsKept pair → IsOf name version pair.pkg
+      → IsAdmitted inputs name version
+  unfolding IsAdmitted
+  admitted_made name version pair (inl (found, within, stood, same)) of =
+      let own : IsOf name version (pkg_of found) = subst (λ (p : Pair). IsOf name version p.pkg) (sym same) of in
+      inl (StandsAs-from db name version found within own.0 stood own.1)
+  admitted_made name version pair (inr (found, within, stood, held, wanted, same)) of =
+      let own : IsOf name version found.pkg = subst (λ (p : Pair). IsOf name version p.pkg) (sym same) of in
+      inr (
+        λ holds. let e : false ≡ true = sym held ∙ ap (is_held db) own.0 ∙ held-from db distinct name holds in cc,
+        offered_kept name version found within stood wanted own,
+      )
+
+  -- the universe of these pairs
+  pub universe_of : (pairs : List Pair) → ArePairs made pairs → IsUniverse inputs (record {
+    pairs = pairs;
+    goals = goals;
+    starts = starts_of db;
+    candidates = map candidate_at best;
+  })
+  universe_of pairs chosen = record {
+    ascending = AllPairs-rising pair_cmp pairs chosen.ascending;
+    admitted = λ name version. (
+      λ admitted.
+          let there = made_admitted name version admitted in
+          Any-elim (λ (other : Pair). IsOf there.0.pkg.name there.0.pkg.version other.pkg) pairs
+          (Any (λ (pair : Pair). IsOf name version pair.pkg) pairs)
+          (λ other within of. Any-intro (λ (pair : Pair). IsOf name version pair.pkg) pairs other within (
+            of.0 ∙ there.2.0,
+            SameVersion-trans other.pkg.version there.0.pkg.version version of.1 there.2.1,
+          ))
+          (chosen.covered there.0 there.1),
+      λ some. Any-elim (λ (pair : Pair). IsOf name version pair.pkg) pairs (IsAdmitted inputs name version)
+          (λ pair within of. admitted_made name version pair (made_from pair (chosen.drawn pair within)) of) some,
+    );
+    counting = All-intro (λ (pair : Pair). counting_package inputs pair.pkg.name pair.pkg.version ≡ Some pair.pkg) pairs
+        (λ pair within. counts pair (made_from pair (chosen.drawn pair within)));
+    listed = All-intro (λ (pair : Pair). index_package indices pair.pkg.name pair.pkg.version ≡ pair.listed) pairs
+        (λ pair within. listed_as pair (made_from pair (chosen.drawn pair within)));
     goals = refl;
     starts = refl;
-    candidates = All-map (λ (candidate : Candidate). (priority : ℤ) × IsCandidate (inputs_of indices goals) candidate.name candidate.version priority)
+    candidates = All-map (λ (candidate : Candidate). (priority : ℤ) × IsCandidate inputs candidate.name candidate.version priority)
         candidate_at best
-        (All-intro (λ (offer : Offer). (priority : ℤ) × IsCandidate (inputs_of indices goals) offer.listed.pkg.name offer.listed.pkg.version priority) best
+        (All-intro (λ (offer : Offer). (priority : ℤ) × IsCandidate inputs offer.name offer.version priority) best
         (λ offer within. (
           offer.priority,
-          candidate_of_best indices goals best are offer within offer.listed.pkg.name offer.listed.pkg.version (of_itself offer.listed.pkg),
+          candidate_of_best db indices goals best distinct are offer within offer.name offer.version (refl, SameVersion-refl offer.version),
         )));
     every_candidate = λ name version priority candidate.
-        let top = best_of_candidate indices goals best are name version priority candidate in
+        let top = best_of_candidate db indices goals best distinct are name version priority candidate in
         Any-intro (λ (candidate : Candidate). (candidate.name ≡ name) × SameVersion candidate.version version) (map candidate_at best)
         (candidate_at top.0) (Contains-map_intro candidate_at best top.0 top.1) top.2;
     one_candidate = AllPairs-sorted offer_name_cmp (λ (earlier : Candidate) (later : Candidate). earlier.name ≢ later.name) candidate_at
         names_differ best are.ascending;
   }
-
--- the stanzas of an index's offers are its stanzas
-listed_at : (priority : ℤ) (listed : List Listed) → map (λ (offer : Offer). offer.listed) (map (offer_at priority) listed) ≡ listed
-listed_at priority [] = refl
-listed_at priority (found ∷ rest) = ap (λ (l : List Listed). found ∷ l) (listed_at priority rest)
-
--- the stanzas that are offered are those of the indices
-pub listed_of_offers : (indices : List Index) → map (λ (offer : Offer). offer.listed) (offers_of indices) ≡ all_listed indices
-listed_of_offers [] = refl
-listed_of_offers (index ∷ rest) = map-append (λ (offer : Offer). offer.listed) (offers_in index) (offers_of rest)
-    ∙ ap (λ (l : List Listed). l ++ map (λ (offer : Offer). offer.listed) (offers_of rest)) (listed_at (default_priority index.release) index.listed)
-    ∙ ap (λ (l : List Listed). index.listed ++ l) (listed_of_offers rest)
-
--- what is left of changed elements by a filter that changes
-filter_map-map : {X Y Z : Type 0} (h : Y → Option Z) (f : X → Y) (xs : List X)
-    → filter_map h (map f xs) ≡ filter_map (λ x. h (f x)) xs
-filter_map-map h f [] = refl
-filter_map-map h f (x ∷ xs) = ap (cons_option (h (f x))) (filter_map-map h f xs)
-
--- what is sought in order keeps the same stanzas
-pub admitted_alike : (lines : List GoalLine) (best : List Offer) (chosen asked : List Exact) (ordered kept : List Listed)
-    → AreExacts (best_exacts best) chosen → AreExacts (filter_map (λ line. exact_of line.goal) lines) asked
-    → kept ≡ filter (λ found. is_sought chosen found || is_sought asked found) ordered
-    → kept ≡ admitted_among best (exacts_of (goals_of lines)) ordered
-admitted_alike lines best chosen asked ordered kept of_best of_goals same =
-    let own : List Exact = exacts_of (goals_of lines) in
-    let goals_same : filter_map (λ (line : GoalLine). exact_of line.goal) lines ≡ own =
-    sym (filter_map-map exact_of (λ (line : GoalLine). line.goal) lines) in
-    let moved : IsPermutation own asked = subst (λ (e : List Exact). IsPermutation e asked) goals_same of_goals.same in
-    same ∙ filter_agree
-    (λ (found : Listed). is_sought chosen found || is_sought asked found) (λ (found : Listed). is_sought (best_exacts best) found || is_sought own found)
-    (λ found.
-    let test : Exact → Bool = λ (exact : Exact). is_of exact.name exact.version found.pkg in
-    let first : is_sought (best_exacts best) found ≡ is_sought chosen found = list_any-IsPermutation test (best_exacts best) chosen of_best.same in
-    let second : is_sought own found ≡ is_sought asked found = list_any-IsPermutation test own asked moved in
-    ap (λ (b : Bool). b || is_sought asked found) (sym first)
-    ∙ ap (λ (b : Bool). is_sought (best_exacts best) found || b) (sym second)) ordered
-
--- the stanzas in order of all offers, given as equal ones, are those of the indices
-ordered_given : (indices : List Index) (offers given : List Offer) (ordered : List Listed) → offers ≡ offers_of indices
-    → given ≡ offers → IsOrdered (map (λ offer. offer.listed) given) ordered → IsOrdered (all_listed indices) ordered
-ordered_given indices offers given ordered all same is = subst (λ (listed : List Listed). IsOrdered listed ordered)
-    (ap (map (λ (offer : Offer). offer.listed)) (same ∙ all) ∙ listed_of_offers indices) is
-
--- the universe of what is chosen by the goals of these lines, each given as an equal one
-pub universe_given : (indices : List Index) (lines asked : List GoalLine) (offers given best taken : List Offer) (ordered kept : List Listed)
-    → offers ≡ offers_of indices → given ≡ offers → IsOrdered (map (λ offer. offer.listed) given) ordered
-    → AreBest offers best → taken ≡ best → asked ≡ lines
-    → kept ≡ admitted_among taken (exacts_of (goals_of asked)) ordered
-    → IsUniverse (inputs_of indices (goals_of lines)) (record {
-      pairs = map listed_pair kept;
-      goals = goals_of lines;
-      starts = [];
-      candidates = map candidate_at best;
-    })
-universe_given indices lines asked offers given best taken ordered kept all same is are alike line_same kept_is =
-    let goals : List Goal = goals_of lines in
-    let are' : AreBest (offers_of indices) best = subst (λ (o : List Offer). AreBest o best) all are in
-    let kept_all : kept ≡ admitted_among best (exacts_of goals) ordered = kept_is
-    ∙ ap (λ (b : List Offer). admitted_among b (exacts_of (goals_of asked)) ordered) alike
-    ∙ ap (λ (l : List GoalLine). admitted_among best (exacts_of (goals_of l)) ordered) line_same in
-    subst (λ (k : List Listed). IsUniverse (inputs_of indices goals) (record {
-      pairs = map listed_pair k;
-      goals = goals;
-      starts = [];
-      candidates = map candidate_at best;
-    })) (sym kept_all) (universe_of indices goals ordered best (ordered_given indices offers given ordered all same is) are')
-
--- the first unknown name among the stanzas in order is that of the indices
-pub first_unknown-given : (indices : List Index) (lines asked : List GoalLine) (offers given : List Offer) (ordered among : List Listed)
-    → offers ≡ offers_of indices → given ≡ offers → IsOrdered (map (λ offer. offer.listed) given) ordered
-    → among ≡ ordered → asked ≡ lines → first_unknown (all_listed indices) lines ≡ first_unknown among asked
-first_unknown-given indices lines asked offers given ordered among all same is alike line_same =
-    sym (ap (λ (o : List Listed). first_unknown o asked) alike ∙ ap (first_unknown ordered) line_same
-    ∙ first_unknown-ordered (all_listed indices) ordered (ordered_given indices offers given ordered all same is) lines)

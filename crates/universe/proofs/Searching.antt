@@ -1,8 +1,8 @@
 -- What a binary search in a sorted list finds, and that the stanzas in order have the names of all.
-use Rattle.std.proofs.Common.{◌≡◌, ℕ, ◌+◌, ◌<◌, ◌≤◌, Bool, true, false, not, ◌&&◌, List, [], ◌∷◌, length, get_or, Result, Ok, Err, Option, Some, None, refl, sym, ap, ◌∙◌, arith, bytes_eq}
+use Rattle.std.proofs.Common.{◌≡◌, ℕ, zero, suc, ◌+◌, ◌<◌, ◌≤◌, Bool, true, false, not, ◌&&◌, List, [], ◌∷◌, length, get_or, Result, Ok, Err, Option, Some, None, refl, sym, ap, ◌∙◌, arith, bytes_eq}
 use Rattle.std.specs.Prelude.{is_ok}
 use Rattle.std.specs.Cmp.Lexicographic.{nat_list_cmp_total}
-use Rattle.std.specs.List.{Any, find, list_any}
+use Rattle.std.specs.List.{Any, Contains, find, list_any, slice_get}
 use Rattle.std.specs.List.Sorted.{IsBinarySearchResult, IsNonDecreasingBy, IsSearchInRange, IsSorted, IsSortedBy, IsStrictlySortedBy}
 use Rattle.std.specs.Option.{option_map, option_map_or}
 use Rattle.std.specs.Ordering.{is_eq, is_lt, ordering_index, ordering_reverse, ordering_then}
@@ -13,8 +13,10 @@ use Rattle.std.proofs.lemmas.List.Elements.{Contains-get_or}
 use Rattle.std.proofs.lemmas.List.Sorted.{searchable_from_sorted}
 use Rattle.std.proofs.lemmas.Map.Text.{is_eq-slice_cmp}
 use Rattle.rules.specs.Available.{is_of, same_version}
-use Rattle.rules.specs.ElementLaws.{Any-elim, Any-from_list_any, list_any-from_contains}
+use Rattle.rules.specs.ElementLaws.{Any-elim, Any-from_list_any, Contains-head, Contains-rest, list_any-from_contains}
+use Rattle.rules.specs.Database.{Record}
 use Rattle.rules.specs.Name.{name_cmp}
+use Rattle.rules.specs.State.{is_not_installed_state}
 use Rattle.rules.specs.Step.{Listed}
 use Rattle.rules.specs.Version.{version_cmp}
 use Rattle.rules.specs.declared.goal.Goal.{Goal}
@@ -22,8 +24,9 @@ use Rattle.rules.specs.declared.goal.GoalLine.{GoalLine}
 use Rattle.universe.specs.Build.{first_unknown, has_name, is_unknown, named_by}
 use Rattle.universe.specs.Choice.{Exact, IsOrdered, exact_at, exact_cmp, is_sought, listed_cmp}
 use Rattle.universe.specs.ChoiceLaws.{exact_cmp_total}
-use Rattle.universe.proofs.Admitted.{found_ordered, ordered_stanza}
-use Rattle.universe.proofs.Finding.{AllPairs-rising, find-some}
+use Rattle.universe.proofs.Ordered.{found_ordered, ordered_stanza}
+use Rattle.universe.specs.Recorded.{IsByName, is_recorded}
+use Rattle.universe.proofs.Finding.{AllPairs-rising, find-exists, find-some}
 use Rattle.universe.proofs.StanzaOrder.{is_eq-then, of_itself}
 use mathlib.Core.Logic.{inl, inr}
 
@@ -141,19 +144,58 @@ find-agree p q same (x ∷ xs) =
     let rest : find p xs ≡ find q xs = find-agree p q same xs in
     cc
 
--- among stanzas of the same names a goal is unknown alike
-is_unknown-agree : (listed other : List Listed) → ((name : List ℕ) → has_name listed name ≡ has_name other name) → (asked : Goal)
-    → is_unknown listed asked ≡ is_unknown other asked
-is_unknown-agree listed other same asked = at (named_by asked)
+-- among records and stanzas that have the same names a goal is unknown alike
+is_unknown-agree : (start known : List Record) (listed other : List Listed)
+    → ((name : List ℕ) → is_recorded start name ≡ is_recorded known name)
+    → ((name : List ℕ) → has_name listed name ≡ has_name other name) → (asked : Goal)
+    → is_unknown start listed asked ≡ is_unknown known other asked
+is_unknown-agree start known listed other alike same asked = at (named_by asked)
   where
-    at : (o : Option (List ℕ))
-        → option_map_or (λ name. not (has_name listed name)) o false ≡ option_map_or (λ name. not (has_name other name)) o false
+    at : (o : Option (List ℕ)) → option_map_or (λ name. not (has_name listed name) && not (is_recorded start name)) o false
+        ≡ option_map_or (λ name. not (has_name other name) && not (is_recorded known name)) o false
     at None = refl
-    at (Some name) = ap not (same name)
+    at (Some name) = ap (λ (b : Bool). not b && not (is_recorded start name)) (same name)
+        ∙ ap (λ (b : Bool). not (has_name other name) && not b) (alike name)
 
--- among the stanzas in order the first unknown name is that among all
-pub first_unknown-ordered : (listed ordered : List Listed) → IsOrdered listed ordered → (lines : List GoalLine)
-    → first_unknown ordered lines ≡ first_unknown listed lines
-first_unknown-ordered listed ordered is lines = ap (option_map (λ (asked : GoalLine). asked.line))
-    (find-agree (λ (asked : GoalLine). is_unknown ordered asked.goal) (λ (asked : GoalLine). is_unknown listed asked.goal)
-    (λ asked. is_unknown-agree ordered listed (has_name-ordered listed ordered is) asked.goal) lines)
+-- among the records and the stanzas in order the first unknown name is that among all
+pub first_unknown-ordered : (start known : List Record) (listed ordered : List Listed) → IsByName start known
+    → IsOrdered listed ordered → (lines : List GoalLine) → first_unknown known ordered lines ≡ first_unknown start listed lines
+first_unknown-ordered start known listed ordered are is lines = ap (option_map (λ (asked : GoalLine). asked.line))
+    (find-agree (λ (asked : GoalLine). is_unknown known ordered asked.goal) (λ (asked : GoalLine). is_unknown start listed asked.goal)
+    (λ asked. is_unknown-agree known start ordered listed
+    (λ name. ap (λ (o : Option Record). option_map_or (λ found. not (is_not_installed_state found.state)) o false) (are.same name))
+    (has_name-ordered listed ordered is) asked.goal) lines)
+
+-- a place that is within has an element
+pub slice_get-found : {X : Type 0} (P : X → Type 0) (xs : List X) (i : ℕ) → i < length xs → ((d : X) → P (get_or xs i d))
+    → (x : X) × (slice_get xs i ≡ Some x) × Contains xs x × P x
+slice_get-found P [] i within holds = absurd (omega arith)
+slice_get-found P (x ∷ xs) zero within holds = (x, refl, Contains-head x xs, holds x)
+slice_get-found {X} P (x ∷ xs) (suc i) within holds =
+    let later = slice_get-found P xs i (omega arith) (λ d. holds d) in
+    (later.0, later.1, Contains-rest x xs later.0 later.2, later.3)
+
+-- the element at the place that a binary search finds is the one that passes, where no other does
+pub searched_find : {X : Type 0} (test : X → Bool) (ord : X → Ordering) (xs : List X) (i : ℕ)
+    → ((x : X) → is_eq (ord x) ≡ test x)
+    → ((x y : X) → Contains xs x → Contains xs y → test x ≡ true → test y ≡ true → x ≡ y)
+    → i < length xs → ((d : X) → ord (get_or xs i d) ≡ Equal) → slice_get xs i ≡ find test xs
+searched_find test ord xs i same one within found =
+    let at = slice_get-found (λ x. ord x ≡ Equal) xs i within found in
+    let passes : test at.0 ≡ true = sym (same at.0) ∙ ap is_eq at.3 in
+    let first = find-exists test xs at.0 at.2 passes in
+    let there = find-some test xs first.0 first.1 in
+    at.1 ∙ ap Some (one at.0 first.0 at.2 there.0 passes there.1) ∙ sym first.1
+
+-- where a binary search finds nothing, nothing passes
+pub searched_none : {X : Type 0} (test : X → Bool) (ord : X → Ordering) (xs : List X) (i : ℕ)
+    → ((x : X) → is_eq (ord x) ≡ test x) → IsNonDecreasingBy (λ x. ordering_index (ord x)) xs
+    → IsSearchInRange (Err i) (length xs) → IsBinarySearchResult ord xs (Err i) → find test xs ≡ None
+searched_none {X} test ord xs i same rises within found = at (find test xs) refl
+  where
+    at : (o : Option X) → find test xs ≡ o → find test xs ≡ None
+    at None none = none
+    at (Some x) some =
+        let there = find-some test xs x some in
+        absurd (let e : false ≡ true = searched_any test ord xs (Err i) same rises within found
+        ∙ list_any-from_contains test xs x there.0 there.1 in cc)

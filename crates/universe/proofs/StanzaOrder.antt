@@ -53,7 +53,7 @@ listed_cmp-tied found other of = (Equal-is (listed_cmp found other)).0
     (listed_cmp-ties found other ∙ is_of-from other.pkg.name other.pkg.version found.pkg of)
 
 -- stanzas that tie are of the same names and versions
-is_of-alike : (name version : List ℕ) (found other : Listed) → eq_by_cmp listed_cmp found other ≡ true
+pub is_of-alike : (name version : List ℕ) (found other : Listed) → eq_by_cmp listed_cmp found other ≡ true
     → is_of name version found.pkg ≡ is_of name version other.pkg
 is_of-alike name version found other tied =
     let of : IsOf other.pkg.name other.pkg.version found.pkg =
@@ -64,7 +64,7 @@ is_of-alike name version found other tied =
     cc
 
 -- neither before the other is as much as tied
-ties-eq : (o : Ordering) → (not (is_lt (ordering_reverse o)) && not (is_lt o)) ≡ is_eq o
+pub ties-eq : (o : Ordering) → (not (is_lt (ordering_reverse o)) && not (is_lt o)) ≡ is_eq o
 ties-eq Less = refl
 ties-eq Equal = refl
 ties-eq Greater = refl

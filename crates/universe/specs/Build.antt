@@ -1,22 +1,24 @@
--- The universe of a request where nothing is installed at the start, no record of preferences is given and no release is
--- the target (apt_preferences(5)). Which request is refused is this project's own.
-use Rattle.std.specs.Prelude.{ℕ, Bool, false, not, List, [], map, Option, Some, None, bytes_eq}
+-- The universe of a request over the start and the indices, where no record of preferences is given and no release is the
+-- target (apt_preferences(5)). Which request is refused is this project's own.
+use Rattle.std.specs.Prelude.{ℕ, Bool, false, not, List, [], map, ◌&&◌, Option, Some, None, bytes_eq}
 use Rattle.std.specs.List.{list_any, find}
 use Rattle.std.specs.Option.{option_map, option_map_or}
 use Rattle.index.specs.Index.{ReadIndex}
 use Rattle.rules.specs.Available.{Index, Inputs}
+use Rattle.rules.specs.Database.{Record}
 use Rattle.rules.specs.Step.{Listed}
 use Rattle.rules.specs.declared.goal.Goal.{Goal}
 use Rattle.rules.specs.declared.goal.Goal.TheVariants as goal
 use Rattle.rules.specs.declared.goal.GoalLine.{GoalLine}
+use Rattle.universe.specs.Recorded.{is_recorded}
 
 -- the indices that were read
 abbrev pub indices_of : List ReadIndex → List Index
 indices_of indices = map (λ read. read.index) indices
 
--- the inputs of a request where nothing is installed or preferred
-abbrev pub inputs_of : List Index → List Goal → Inputs
-inputs_of indices goals = record { start = []; indices = indices; preferences = []; target = None; goals = goals }
+-- the inputs of a request where nothing is preferred
+abbrev pub inputs_of : List Record → List Index → List Goal → Inputs
+inputs_of start indices goals = record { start = start; indices = indices; preferences = []; target = None; goals = goals }
 
 -- the goals of the lines
 abbrev pub goals_of : List GoalLine → List Goal
@@ -35,10 +37,12 @@ named_by goal.NoRemove = None
 abbrev pub has_name : List Listed → List ℕ → Bool
 has_name listed name = list_any (λ found. bytes_eq found.pkg.name name) listed
 
--- the goal names a package, and no stanza has the name
-abbrev pub is_unknown : List Listed → Goal → Bool
-is_unknown listed asked = option_map_or (λ name. not (has_name listed name)) (named_by asked) false
+-- the goal names a package that no stanza has, and that is in no state but not-installed
+abbrev pub is_unknown : List Record → List Listed → Goal → Bool
+is_unknown start listed asked =
+    option_map_or (λ name. not (has_name listed name) && not (is_recorded start name)) (named_by asked) false
 
--- the line of the first goal that names a package that no stanza has
-abbrev pub first_unknown : List Listed → List GoalLine → Option ℕ
-first_unknown listed lines = option_map (λ asked. asked.line) (find (λ asked. is_unknown listed asked.goal) lines)
+-- the line of the first goal that names an unknown package
+abbrev pub first_unknown : List Record → List Listed → List GoalLine → Option ℕ
+first_unknown start listed lines =
+    option_map (λ asked. asked.line) (find (λ asked. is_unknown start listed asked.goal) lines)

@@ -1,13 +1,14 @@
--- Which stanzas of the indices are admitted where nothing is installed, and which of them are candidates (this project's
--- own, after apt-get(8) and apt_preferences(5)).
-use Rattle.std.specs.Prelude.{◌≡◌, ℕ, ℤ, Bool, false, true, List, map, ◌||◌, Option, Some, None, if◌then◌else◌}
-use Rattle.std.specs.List.{Any, Contains, list_any, filter, filter_map, find, flat_map}
+-- Which stanza of a version counts, which offer is to be chosen first and what goals ask for (this project's own, after
+-- apt-get(8) and apt_preferences(5)).
+use Rattle.std.specs.Prelude.{◌≡◌, ℕ, Bool, false, true, List, map, Option, Some, None, if◌then◌else◌}
+use Rattle.std.specs.List.{Any, Contains, list_any, filter_map, find}
 use Rattle.std.specs.List.Sorted.{IsPermutation, IsSorted, IsStrictlySortedBy}
-use Rattle.std.specs.Ordering.{flip_args, int_cmp, on, then_cmp}
+use Rattle.std.specs.Ordering.{flip_args, int_cmp, on, ordering_then, then_cmp}
 use Rattle.std.specs.declared.cmp.Ordering.{Ordering}
-use Rattle.rules.specs.Available.{Index, is_of}
+use Rattle.rules.specs.Available.{is_of}
 use Rattle.rules.specs.Name.{name_cmp}
-use Rattle.rules.specs.Priority.{IsUpTo, default_priority}
+use Rattle.rules.specs.Package.{Pkg}
+use Rattle.rules.specs.Priority.{IsUpTo}
 use Rattle.rules.specs.Step.{Listed}
 use Rattle.rules.specs.Universe.{Candidate, Pair}
 use Rattle.rules.specs.Version.{version_cmp}
@@ -16,6 +17,7 @@ use Rattle.rules.specs.declared.goal.Goal.TheVariants as goal
 use Rattle.rules.specs.declared.goal.Restriction.{Restriction}
 use Rattle.rules.specs.declared.op.Op.{Op}
 use Rattle.rules.specs.declared.op.Op.TheVariants as op
+use Rattle.universe.specs.Offer.{Offer}
 
 -- the pair of a stanza that counts alone
 abbrev pub listed_pair : Listed → Pair
@@ -24,6 +26,10 @@ listed_pair found = record { pkg = found.pkg; listed = Some found }
 -- the order of stanzas: by name and then by version
 abbrev pub listed_cmp : Listed → Listed → Ordering
 listed_cmp = then_cmp (on (λ found. found.pkg.name) name_cmp) (on (λ found. found.pkg.version) version_cmp)
+
+-- how the package compares with a name and a version
+abbrev pub pkg_order : Pkg → List ℕ → List ℕ → Ordering
+pkg_order pkg name version = ordering_then (name_cmp pkg.name name) (version_cmp pkg.version version)
 
 -- the earliest stanza of this version of the name
 abbrev pub stanza_of : List Listed → List ℕ → List ℕ → Option Listed
@@ -34,31 +40,14 @@ pub record IsOrdered (listed ordered : List Listed) : Type 0 where
   pub ascending : IsStrictlySortedBy listed_cmp ordered
   pub earliest : (name version : List ℕ) → stanza_of ordered name version ≡ stanza_of listed name version
 
--- a stanza, and the priority that its index gives
-pub record Offer : Type 0 where
-  pub listed : Listed
-  pub priority : ℤ
-
--- a stanza with a priority
-abbrev pub offer_at : ℤ → Listed → Offer
-offer_at priority listed = record { listed = listed; priority = priority }
-
--- the stanzas of an index with its default priority
-abbrev pub offers_in : Index → List Offer
-offers_in index = map (offer_at (default_priority index.release)) index.listed
-
--- the stanzas of the indices with their default priorities
-abbrev pub offers_of : List Index → List Offer
-offers_of indices = flat_map offers_in indices
-
 -- the order of offers of one name, the one to choose first: the greater priority, and of one priority the higher version
 abbrev pub choice_cmp : Offer → Offer → Ordering
 choice_cmp =
-    flip_args (then_cmp (on (λ offer. offer.priority) int_cmp) (on (λ offer. offer.listed.pkg.version) version_cmp))
+    flip_args (then_cmp (on (λ offer. offer.priority) int_cmp) (on (λ offer. offer.version) version_cmp))
 
 -- the order of names of offers
 abbrev pub offer_name_cmp : Offer → Offer → Ordering
-offer_name_cmp = on (λ offer. offer.listed.pkg.name) name_cmp
+offer_name_cmp = on (λ offer. offer.name) name_cmp
 
 -- the order of offers: by name, and of one name the one to choose first
 abbrev pub offer_cmp : Offer → Offer → Ordering
@@ -66,8 +55,8 @@ offer_cmp = then_cmp offer_name_cmp choice_cmp
 
 -- the other offer is of the same name, and this one isn't to be chosen before it
 unfoldable pub IsBeaten : Offer → Offer → Type 0
-IsBeaten offer other = (other.listed.pkg.name ≡ offer.listed.pkg.name)
-    × IsUpTo offer.listed.pkg.version offer.priority other.listed.pkg.version other.priority
+IsBeaten offer other = (other.name ≡ offer.name)
+    × IsUpTo offer.version offer.priority other.version other.priority
 
 -- the offer of each name that is to be chosen first, in the order of names
 pub record AreBest (offers best : List Offer) : Type 0 where
@@ -124,15 +113,14 @@ pub record AreExacts (sought exacts : List Exact) : Type 0 where
 abbrev pub is_sought : List Exact → Listed → Bool
 is_sought exacts found = list_any (λ exact. is_of exact.name exact.version found.pkg) exacts
 
+-- the version of an offer, as it is sought
+abbrev pub offered_exact : Offer → Exact
+offered_exact offer = record { name = offer.name; version = offer.version }
+
 -- the versions of the best offers
 abbrev pub best_exacts : List Offer → List Exact
-best_exacts best = map (λ offer. exact_at offer.listed) best
-
--- the stanzas of the best offers' versions, and those that are asked for
-abbrev pub admitted_among : List Offer → List Exact → List Listed → List Listed
-admitted_among best exacts ordered =
-    filter (λ found. is_sought (best_exacts best) found || is_sought exacts found) ordered
+best_exacts best = map offered_exact best
 
 -- the version of the offer as its name's candidate
 abbrev pub candidate_at : Offer → Candidate
-candidate_at offer = record { name = offer.listed.pkg.name; version = offer.listed.pkg.version }
+candidate_at offer = record { name = offer.name; version = offer.version }

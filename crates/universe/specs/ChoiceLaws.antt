@@ -5,7 +5,8 @@ use Rattle.std.proofs.lemmas.Cmp.{int_cmp_total}
 use Rattle.rules.specs.Step.{Listed}
 use Rattle.rules.specs.Universe.{Pair, pair_cmp}
 use Rattle.rules.specs.VersionOrderLaws.{version_cmp_total}
-use Rattle.universe.specs.Choice.{Exact, Offer, choice_cmp, exact_cmp, listed_cmp, offer_cmp, offer_name_cmp}
+use Rattle.universe.specs.Choice.{Exact, choice_cmp, exact_cmp, listed_cmp, offer_cmp, offer_name_cmp}
+use Rattle.universe.specs.Offer.{Offer}
 
 pub pair_cmp_total : IsTotalOrder pair_cmp
 pair_cmp_total = then_total
@@ -25,10 +26,10 @@ exact_cmp_total = then_total
 pub choice_cmp_total : IsTotalOrder choice_cmp
 choice_cmp_total = back_total (then_total
     (on_total (λ (offer : Offer). offer.priority) int_cmp_total)
-    (on_total (λ (offer : Offer). offer.listed.pkg.version) version_cmp_total))
+    (on_total (λ (offer : Offer). offer.version) version_cmp_total))
 
 pub offer_name_cmp_total : IsTotalOrder offer_name_cmp
-offer_name_cmp_total = on_total (λ (offer : Offer). offer.listed.pkg.name) nat_list_cmp_total
+offer_name_cmp_total = on_total (λ (offer : Offer). offer.name) nat_list_cmp_total
 
 pub offer_cmp_total : IsTotalOrder offer_cmp
 offer_cmp_total = then_total offer_name_cmp_total choice_cmp_total

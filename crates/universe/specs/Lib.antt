@@ -1,7 +1,11 @@
 pub mod Build
 pub mod Choice
 pub mod ChoiceLaws
+pub mod Chosen
 pub mod Error
+pub mod Offer
 pub mod Pair
+pub mod Recorded
+pub mod RecordedLaws
 pub mod Universe
 pub mod UniverseLaws

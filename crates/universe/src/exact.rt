@@ -5,7 +5,7 @@ ghost use Rattle.std.specs.Cmp.{eq_by_cmp_equiv, partial_equiv_from_equiv, po};
 ghost use Rattle.std.specs.List.{filter_map};
 ghost use Rattle.std.specs.List.Sorted.{IsSorted};
 ghost use Rattle.std.specs.Ordering.{as_partial_cmp, eq_by_cmp};
-ghost use Rattle.universe.specs.Choice.{AreExacts, best_exacts, exact_at, exact_by, exact_cmp, exact_of, is_exactly, is_sought};
+ghost use Rattle.universe.specs.Choice.{AreExacts, best_exacts, exact_at, exact_by, exact_cmp, exact_of, is_exactly, is_sought, offered_exact};
 ghost use Rattle.universe.specs.ChoiceLaws.{exact_cmp_total};
 
 use crate::offer::Offer;
@@ -95,23 +95,23 @@ pub fn exacts_of<'g>(alloc: Global, lines: &'g [GoalLine]) -> Result<Vec<Exact<'
     Ok(exacts)
 }
 
-fn exact_at<'a>(offer: &Offer<'_, 'a>) -> Exact<'a>
-    ensures { result ≡ exact_at offer.now.listed }
+fn offered_exact<'a>(offer: &Offer<'a>) -> Exact<'a>
+    ensures { result ≡ offered_exact offer.now }
 {
     Exact {
-        name: offer.entry().name(),
-        version: offer.entry().version().again(),
+        name: offer.name(),
+        version: offer.version().again(),
     }
 }
 
-fn versions_of<'a>(alloc: Global, best: &[Offer<'_, 'a>]) -> Result<Vec<Exact<'a>>, AllocError>
+fn versions_of<'a>(alloc: Global, best: &[Offer<'a>]) -> Result<Vec<Exact<'a>>, AllocError>
     ensures { IfOk result (λ exacts. exacts.items ≡ best_exacts best.now) }
 {
-    best.iter().map(|offer| exact_at(offer)).collect(alloc)
+    best.iter().map(|offer| offered_exact(offer)).collect(alloc)
 }
 
 /// The versions of the best offers, in order. About n log n comparisons of n offers.
-pub fn best_exacts<'a>(alloc: Global, best: &[Offer<'_, 'a>]) -> Result<Vec<Exact<'a>>, AllocError>
+pub fn best_exacts<'a>(alloc: Global, best: &[Offer<'a>]) -> Result<Vec<Exact<'a>>, AllocError>
     ensures { IfOk result (λ exacts. AreExacts (best_exacts best.now) exacts.items) }
 {
     let mut exacts = versions_of(alloc, best)?;

@@ -5,6 +5,7 @@
 
 mod built;
 mod candidate;
+mod chosen;
 mod error;
 mod exact;
 mod laws;
@@ -12,6 +13,7 @@ mod offer;
 mod order;
 mod pair;
 mod pairs;
+mod recorded;
 mod start;
 mod universe;
 
@@ -24,6 +26,3 @@ pub use pair::Pair;
 pub use pairs::Pairs;
 pub use start::Start;
 pub use universe::Universe;
-
-#[cfg(test)]
-mod tests;

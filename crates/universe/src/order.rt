@@ -1,16 +1,17 @@
 // The stanzas of the indices, in their order.
 
-ghost use Rattle.std.specs.Prelude.{◌≡◌, IfOk, map, refl};
+ghost use Rattle.std.specs.Prelude.{◌≡◌, IfOk, refl};
 ghost use Rattle.std.specs.Cmp.{eq_by_cmp_equiv, partial_equiv_from_equiv, po};
 ghost use Rattle.std.specs.List.Sorted.{IsStrictlySortedBy};
 ghost use Rattle.std.specs.Ordering.{as_partial_cmp, eq_by_cmp};
-ghost use Rattle.universe.specs.Build.{has_name};
-ghost use Rattle.universe.specs.Choice.{IsOrdered, listed_cmp};
+ghost use Rattle.std.specs.Option.{option_copied};
+ghost use Rattle.rules.specs.Available.{all_listed};
+ghost use Rattle.universe.specs.Build.{has_name, indices_of};
+ghost use Rattle.universe.specs.Choice.{IsOrdered, listed_cmp, pkg_order, stanza_of};
 ghost use Rattle.universe.specs.ChoiceLaws.{listed_cmp_total};
 
-use crate::offer::Offer;
 use debversion::Version;
-use index::{Entry, Listed};
+use index::{Entry, Index, Listed};
 use std::alloc::{AllocError, Global};
 use std::cmp::Ordering;
 use std::marker::Model;
@@ -53,33 +54,66 @@ impl<'p, 'a> Found<'p, 'a> {
     }
 }
 
-fn stanzas_of<'p, 'a>(
-    alloc: Global,
-    offers: &[Offer<'p, 'a>],
-) -> Result<Vec<Found<'p, 'a>>, AllocError>
-    ensures { IfOk result (λ found. found.items ≡ map (λ offer. offer.listed) offers.now) }
+fn stanzas_in<'p, 'a>(alloc: Global, index: &'p Index<'a>) -> Result<Vec<Found<'p, 'a>>, AllocError>
+    ensures { IfOk result (λ found. found.items ≡ index.now.index.listed) }
 {
-    offers
+    index
+        .packages()
         .iter()
-        .map(|offer| Found {
-            entry: offer.entry(),
-        })
+        .map(|entry| Found { entry })
         .collect(alloc)
 }
 
-/// The stanzas that are offered in their order, of equal ones the earliest alone. About n log n comparisons of n
-/// stanzas.
+fn stanzas_of<'p, 'a>(
+    alloc: Global,
+    indices: &'p [Index<'a>],
+) -> Result<Vec<Found<'p, 'a>>, AllocError>
+    ensures { IfOk result (λ found. found.items ≡ all_listed (indices_of indices.now)) }
+{
+    let mut found = Vec::new(alloc);
+    for index in indices {
+        let mut further = stanzas_in(alloc, index)?;
+        found.append(&mut further)?;
+    }
+    Ok(found)
+}
+
+/// The stanzas of the indices in their order, of equal ones the earliest alone. About n log n comparisons of n stanzas.
 pub fn in_order<'p, 'a>(
     alloc: Global,
-    offers: &[Offer<'p, 'a>],
+    indices: &'p [Index<'a>],
 ) -> Result<Vec<Found<'p, 'a>>, AllocError>
-    ensures { IfOk result (λ ordered. IsOrdered (map (λ offer. offer.listed) offers.now) ordered.items) }
+    ensures { IfOk result (λ ordered. IsOrdered (all_listed (indices_of indices.now)) ordered.items) }
 {
-    let mut found = stanzas_of(alloc, offers)?;
+    let mut found = stanzas_of(alloc, indices)?;
     // The sort is stable, so of equal stanzas the earliest stays in front, and it is the one that is kept.
     found.sort()?;
     found.dedup();
     Ok(found)
+}
+
+fn order_to(found: &Found<'_, '_>, name: &[u8], version: &Version<'_>) -> Ordering
+    ensures { result ≡ pkg_order found.now.pkg name.now version.now }
+{
+    match found.name().cmp(name) {
+        Ordering::Equal => found.version().cmp(version),
+        decided => decided,
+    }
+}
+
+/// The stanza of this version of the name, by a binary search.
+pub fn stanza_of<'k, 'p, 'a>(
+    ordered: &'k [Found<'p, 'a>],
+    name: &[u8],
+    version: &Version<'_>,
+) -> Option<&'k Found<'p, 'a>>
+    requires { IsStrictlySortedBy listed_cmp ordered.now }
+    ensures { option_copied result ≡ stanza_of ordered.now name.now version.now }
+{
+    match ordered.binary_search_by(|found| order_to(found, name, version)) {
+        Ok(place) => ordered.get(place),
+        Err(_) => None,
+    }
 }
 
 /// Whether a stanza has the name, by a binary search.

@@ -1,9 +1,0 @@
-mod answers;
-mod comparing;
-mod indices;
-mod judging;
-mod opening;
-mod refusals;
-mod streams;
-mod support;
-mod words;

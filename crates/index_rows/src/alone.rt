@@ -1,0 +1,35 @@
+//! Texts that are one stanza.
+use crate::texts::unescaped;
+use index::read_alone;
+use std::alloc::Global;
+use std::test::Fail;
+
+// A text, and the name of its package, or `-`. `$` stands for a newline.
+const ROWS: &str = "\
+Package: x$Version: 1$Architecture: all$→x
+$ $Package: x$Version: 1$Architecture: amd64→x
+Package: x$Version: 1$Architecture: all$$Package: y$Version: 1$Architecture: all$→-
+Package: x$Version: 1$Architecture: i386$→-
+Package: x$Version: 1$→-
+Package: x$Version: 1$Architecture: all$$y$→-
+→-
+";
+
+fn is_read(alloc: Global, row: &str) -> Result<bool, Fail> {
+    let Some((text, wanted)) = row.split_once('→') else {
+        return Ok(false);
+    };
+    let text = unescaped(alloc, text)?;
+    match read_alone(text.as_slice(), b"amd64") {
+        Some(entry) => Ok(entry.name() == wanted.as_bytes()),
+        None => Ok(wanted == "-"),
+    }
+}
+
+#[test]
+fn one_stanza_that_counts_is_a_package(rt: HostRuntime) -> Result<(), Fail> {
+    for row in ROWS.lines() {
+        assert!(rt; is_read(rt.alloc(), row)?, "{row}");
+    }
+    Ok(())
+}

@@ -1,0 +1,21 @@
+//! Texts of rows.
+use std::alloc::Global;
+use std::test::Fail;
+
+/// This many copies of a text, one after another.
+pub(crate) fn repeated(alloc: Global, part: &[u8], count: usize) -> Result<Vec<u8>, Fail> {
+    let mut text = Vec::new(alloc);
+    for _ in 0..count {
+        text.extend_from_slice(part)?;
+    }
+    Ok(text)
+}
+
+/// The bytes of a row's text, in which `$` stands for a newline.
+pub(crate) fn unescaped(alloc: Global, text: &str) -> Result<Vec<u8>, Fail> {
+    let mut bytes = Vec::new(alloc);
+    for byte in text.as_bytes() {
+        bytes.push(if *byte == b'$' { b'\n' } else { *byte })?;
+    }
+    Ok(bytes)
+}

@@ -1,0 +1,117 @@
+//! A host in memory, and runs of the program over it.
+use cli::{Host, ReadError, run};
+use std::alloc::{AllocError, Global};
+use std::test::Fail;
+
+#[derive(Drop)]
+struct File<'a> {
+    path: &'a str,
+    text: Vec<u8>,
+}
+
+/// Files by their paths, and the paths that were opened, in order, each followed by a space.
+#[derive(Drop)]
+pub(crate) struct Memory<'a> {
+    files: Vec<File<'a>>,
+    opened: Vec<u8>,
+}
+
+impl<'a> Memory<'a> {
+    pub(crate) fn new(alloc: Global) -> Memory<'a> {
+        Memory {
+            files: Vec::new(alloc),
+            opened: Vec::new(alloc),
+        }
+    }
+
+    /// Adds a file, in whose text `$` stands for a newline.
+    pub(crate) fn add(&mut self, alloc: Global, path: &'a str, text: &str) -> Result<(), Fail> {
+        let text = unescaped(alloc, text)?;
+        self.files.push(File { path, text })?;
+        Ok(())
+    }
+
+    pub(crate) fn opened(&self) -> &[u8] {
+        self.opened.as_slice()
+    }
+
+    fn note(&mut self, path: &[u8]) -> Result<(), AllocError> {
+        self.opened.extend_from_slice(path)?;
+        self.opened.push(b' ')?;
+        Ok(())
+    }
+}
+
+impl Host for Memory<'_> {
+    fn read(&mut self, alloc: Global, path: &[u8]) -> Result<Vec<u8>, ReadError> {
+        if self.note(path).is_err() {
+            return Err(ReadError::OutOfMemory);
+        }
+        for file in &self.files {
+            if file.path.as_bytes() == path {
+                let text = file.text.as_slice().to_vec(alloc);
+                return text.map_err(|_| ReadError::OutOfMemory);
+            }
+        }
+        Err(ReadError::Unreadable)
+    }
+}
+
+/// The bytes of a row's text.
+pub(crate) fn unescaped(alloc: Global, text: &str) -> Result<Vec<u8>, AllocError> {
+    let mut bytes = Vec::new(alloc);
+    for byte in text.as_bytes() {
+        bytes.push(if *byte == b'$' { b'\n' } else { *byte })?;
+    }
+    Ok(bytes)
+}
+
+/// The words of a line, which spaces part.
+pub(crate) fn words_in(alloc: Global, line: &str) -> Result<Vec<Vec<u8>>, AllocError> {
+    let mut all = Vec::new(alloc);
+    for word in line.split(' ') {
+        all.push(word.as_bytes().to_vec(alloc)?)?;
+    }
+    Ok(all)
+}
+
+/// What a run wrote, and its exit status.
+#[derive(Drop)]
+pub(crate) struct Printed {
+    pub(crate) out: Vec<u8>,
+    pub(crate) err: Vec<u8>,
+    pub(crate) status: u8,
+}
+
+impl Printed {
+    /// Whether this was printed: the exit status, standard output, a bar, and standard error.
+    pub(crate) fn is(&self, alloc: Global, wanted: &str) -> Result<bool, Fail> {
+        let mut shown = Vec::new(alloc);
+        shown.extend_from_slice(format!(in alloc; "{} ", self.status)?.as_bytes())?;
+        shown.extend_from_slice(self.out.as_slice())?;
+        shown.push(b'|')?;
+        shown.extend_from_slice(self.err.as_slice())?;
+        Ok(shown.as_slice() == unescaped(alloc, wanted)?.as_slice())
+    }
+}
+
+/// A run of the program on these words over this host.
+pub(crate) fn run_on(
+    alloc: Global,
+    words: &[Vec<u8>],
+    host: &mut Memory<'_>,
+) -> Result<Printed, AllocError> {
+    let mut out = Vec::new(alloc);
+    let mut err = Vec::new(alloc);
+    let status = run(alloc, words, host, &mut out, &mut err);
+    Ok(Printed { out, err, status })
+}
+
+/// A run on the words of this line over this host.
+pub(crate) fn run_line(
+    alloc: Global,
+    line: &str,
+    host: &mut Memory<'_>,
+) -> Result<Printed, AllocError> {
+    run_on(alloc, words_in(alloc, line)?.as_slice(), host)
+}

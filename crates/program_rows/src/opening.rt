@@ -1,0 +1,73 @@
+//! In which order files are opened, and what is refused where one can't be read.
+use crate::memory::{Memory, run_line};
+use crate::scenario::{CHECK_PLAN, next_column};
+use std::alloc::Global;
+use std::test::Fail;
+
+// The files of every run, but for one that may be missing, and one whose text may be refused at its first line.
+const FILES: &str = "\
+status→
+sources→File: index1$$File: index2$
+index1→Package: a$Version: 1$Architecture: all$
+index2→Package: b$Version: 1$Architecture: all$
+request→install a$
+plan→plan 1$unpack a 1$configure a$
+";
+
+// The file that is missing, the one that is refused, the files that are opened and the answer. A refusal of an earlier text
+// wins over a file that can't be read, and that over a refusal of a later text.
+const RUNS: &str = "\
+→→status sources index1 index2 request plan →0 yes$|
+status→→status →5 |debplan: status: E5 Read$
+sources→→status sources →5 |debplan: sources: E5 Read$
+index1→→status sources index1 →5 |debplan: index 1: E5 Read$
+index2→→status sources index1 index2 →5 |debplan: index 2: E5 Read$
+request→→status sources index1 index2 request →5 |debplan: request: E5 Read$
+plan→→status sources index1 index2 request plan →5 |debplan: plan: E5 Read$
+sources→status→status sources →3 |debplan: status: E2 BadLine 1$
+index1→sources→status sources →3 |debplan: sources: E2 BadLine 1$
+index2→index1→status sources index1 index2 →3 |debplan: index 1: E2 BadLine 1$
+plan→index2→status sources index1 index2 request plan →3 |debplan: index 2: E2 BadLine 1$
+plan→request→status sources index1 index2 request plan →3 |debplan: request: E16 BadRequest 1$
+index1→index2→status sources index1 →5 |debplan: index 1: E5 Read$
+";
+
+// The files without the missing one, and with the refused one.
+fn host_of<'a>(
+    alloc: Global,
+    files: &'a str,
+    missing: &str,
+    refused: &str,
+) -> Result<Memory<'a>, Fail> {
+    let mut host = Memory::new(alloc);
+    for file in files.lines() {
+        let mut text = file;
+        let path = next_column(&mut text)?;
+        if path == refused {
+            host.add(alloc, path, "x$")?;
+        } else if path != missing {
+            host.add(alloc, path, text)?;
+        }
+    }
+    Ok(host)
+}
+
+fn holds(alloc: Global, row: &str) -> Result<bool, Fail> {
+    let mut rest = row;
+    let missing = next_column(&mut rest)?;
+    let refused = next_column(&mut rest)?;
+    let opened = next_column(&mut rest)?;
+    let mut host = host_of(alloc, FILES, missing, refused)?;
+    let printed = run_line(alloc, CHECK_PLAN, &mut host)?;
+    Ok(host.opened() == opened.as_bytes() && printed.is(alloc, rest)?)
+}
+
+#[test]
+fn each_file_is_opened_once_at_its_turn_up_to_the_first_that_cannot_be_read(
+    rt: HostRuntime,
+) -> Result<(), Fail> {
+    for row in RUNS.lines() {
+        assert!(rt; holds(rt.alloc(), row)?, "{row}");
+    }
+    Ok(())
+}

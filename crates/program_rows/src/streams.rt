@@ -1,0 +1,123 @@
+//! Failures to write, and failures to read for want of memory.
+use crate::memory::{Memory, words_in};
+use crate::scenario::CHECK_PLAN;
+use cli::{Host, ReadError, refuse_for_memory, run};
+use std::alloc::Global;
+use std::io;
+use std::io::{ErrorKind, Write};
+use std::test::Fail;
+
+/// A writer that takes so many bytes, and then fails.
+#[derive(Drop)]
+struct Narrow {
+    room: usize,
+}
+
+impl Write for Narrow {
+    fn write(&mut self, text: &[u8]) -> io::Result<usize> {
+        let taken = self.room.min(text.len());
+        if taken == 0 {
+            return Err(io::Error::from(ErrorKind::Other));
+        }
+        self.room -= taken;
+        Ok(taken)
+    }
+
+    fn flush(&mut self) -> io::Result<()> {
+        Ok(())
+    }
+}
+
+/// A writer that keeps what it is given until it is flushed, and fails then.
+#[derive(Drop)]
+struct Unflushed;
+
+impl Write for Unflushed {
+    fn write(&mut self, text: &[u8]) -> io::Result<usize> {
+        Ok(text.len())
+    }
+
+    fn flush(&mut self) -> io::Result<()> {
+        Err(io::Error::from(ErrorKind::Other))
+    }
+}
+
+// The files of a run with this plan, in which `$` stands for a newline.
+fn host_with<'a>(alloc: Global, plan: &str) -> Result<Memory<'a>, Fail> {
+    let mut host = Memory::new(alloc);
+    host.add(alloc, "status", "")?;
+    host.add(alloc, "sources", "")?;
+    host.add(alloc, "request", "")?;
+    host.add(alloc, "plan", plan)?;
+    Ok(host)
+}
+
+// The exit status of a run with this plan over these writers.
+fn status_of<O: Write, E: Write>(
+    alloc: Global,
+    plan: &str,
+    out: &mut O,
+    err: &mut E,
+) -> Result<u8, Fail> {
+    let words = words_in(alloc, CHECK_PLAN)?;
+    let mut host = host_with(alloc, plan)?;
+    Ok(run(alloc, words.as_slice(), &mut host, out, err))
+}
+
+#[test]
+fn an_answer_that_cannot_be_written_is_a_failure_of_the_device(
+    rt: HostRuntime,
+) -> Result<(), Fail> {
+    let alloc = rt.alloc();
+    let refusal = b"debplan: output: E26 Write\n".as_slice();
+    for room in [0, 3] {
+        let mut err = Vec::new(alloc);
+        let status = status_of(alloc, "plan 1$", &mut Narrow { room }, &mut err)?;
+        assert!(rt; status == 5 && err.as_slice() == refusal, "{room}");
+    }
+    let mut err = Vec::new(alloc);
+    assert!(rt; status_of(alloc, "plan 1$", &mut Narrow { room: 4 }, &mut err)? == 0);
+    assert!(rt; err.is_empty());
+    assert!(rt; status_of(alloc, "plan 1$", &mut Unflushed, &mut err)? == 5);
+    assert!(rt; err.as_slice() == refusal);
+    Ok(())
+}
+
+#[test]
+fn a_refusal_that_cannot_be_written_keeps_its_status(rt: HostRuntime) -> Result<(), Fail> {
+    let alloc = rt.alloc();
+    let mut out = Vec::new(alloc);
+    let mut narrow = Narrow { room: 5 };
+    assert!(rt; status_of(alloc, "x$", &mut out, &mut narrow)? == 3);
+    let mut narrow = Narrow { room: 5 };
+    assert!(rt; status_of(alloc, "plan 1$", &mut out, &mut narrow)? == 0);
+    let mut shut = Narrow { room: 0 };
+    assert!(rt; status_of(alloc, "plan 1$", &mut shut, &mut Narrow { room: 0 })? == 5);
+    Ok(())
+}
+
+/// A host whose machine has no memory left for a file.
+#[derive(Drop)]
+struct Exhausted;
+
+impl Host for Exhausted {
+    fn read(&mut self, _alloc: Global, _path: &[u8]) -> Result<Vec<u8>, ReadError> {
+        Err(ReadError::OutOfMemory)
+    }
+}
+
+#[test]
+fn want_of_memory_is_refused_as_such(rt: HostRuntime) -> Result<(), Fail> {
+    let alloc = rt.alloc();
+    let words = words_in(alloc, CHECK_PLAN)?;
+    let refusal = b"debplan: memory: E1 OutOfMemory\n".as_slice();
+    let mut out = Vec::new(alloc);
+    let mut err = Vec::new(alloc);
+    let status = run(alloc, words.as_slice(), &mut Exhausted, &mut out, &mut err);
+    assert!(rt; status == 5 && out.is_empty());
+    assert!(rt; err.as_slice() == refusal);
+    let mut err = Vec::new(alloc);
+    assert!(rt; refuse_for_memory(&mut err) == 5);
+    assert!(rt; err.as_slice() == refusal);
+    Ok(())
+}

@@ -1,0 +1,102 @@
+//! The words of the command line.
+use crate::memory::{Memory, Printed, run_line, run_on};
+use std::test::Fail;
+
+// Words that are wrong.
+const FAULTS: &str = "\
+
+debplan
+debplan check-plan
+debplan --arch amd64 check-plan plan
+debplan check-plan --arch
+debplan check-plan --arch a --status s --sources s --request r --arch a plan
+debplan check-plan --arch a --status s --sources s --request r plan plan
+debplan check-plan --arch a --status s --sources s --request r
+debplan check-plan --status s --sources s --request r plan
+debplan check-plan --arch a --sources s --request r plan
+debplan check-plan --arch a --status s --request r plan
+debplan check-plan --arch a --status s --sources s plan
+debplan compare
+debplan compare 1 lt
+debplan compare 1 lt 2 3
+debplan compare 1 << 2
+debplan compare 1 LT 2
+debplan compare --arch a 1 lt 2
+";
+
+// Commands and options that aren't there.
+const UNKNOWN: &str = "\
+debplan candidate --arch a --status s --sources s foo
+debplan check-refutation --arch a --status s --sources s --request r file
+debplan solve --arch a --status s --sources s --request r
+debplan apply --arch a --status s --sources s --request r --journal j --output o plan
+debplan check --arch a --status s --sources s --request r plan
+debplan check-plan --arch a --status s --sources s --request r --preferences x plan
+debplan check-plan --arch a --status s --sources s --request r --target x plan
+debplan check-plan --arch a --status s --sources s --request r --limit x plan
+";
+
+// Options stand in any order, and may have an equals sign.
+const TAKEN: &str = "\
+debplan check-plan --arch a --status s --sources s --request r plan
+debplan check-plan plan --request=r --sources=s --status=s --arch=-
+";
+
+const HELP: &str = "\
+debplan --help
+debplan help
+debplan check-plan --help
+debplan help compare
+";
+
+// A text on standard error alone, and the status of a usage fault.
+fn is_fault(printed: &Printed) -> bool {
+    printed.status == 4 && printed.out.is_empty() && !printed.err.is_empty()
+}
+
+// A text on standard output alone.
+fn is_help(printed: &Printed) -> bool {
+    printed.status == 0 && printed.err.is_empty() && !printed.out.is_empty()
+}
+
+#[test]
+fn words_that_are_wrong_are_a_usage_fault(rt: HostRuntime) -> Result<(), Fail> {
+    for table in [FAULTS, UNKNOWN] {
+        for line in table.lines() {
+            let printed = run_line(rt.alloc(), line, &mut Memory::new(rt.alloc()))?;
+            assert!(rt; is_fault(&printed), "{line}");
+        }
+    }
+    Ok(())
+}
+
+#[test]
+fn words_that_are_right_are_obeyed(rt: HostRuntime) -> Result<(), Fail> {
+    for line in TAKEN.lines() {
+        let printed = run_line(rt.alloc(), line, &mut Memory::new(rt.alloc()))?;
+        assert!(rt;
+            printed.is(rt.alloc(), "5 |debplan: status: E5 Read$")?,
+            "{line}"
+        );
+    }
+    for line in HELP.lines() {
+        let printed = run_line(rt.alloc(), line, &mut Memory::new(rt.alloc()))?;
+        assert!(rt; is_help(&printed), "{line}");
+    }
+    Ok(())
+}
+
+// No words at all, and a word that isn't UTF-8.
+#[test]
+fn words_that_are_no_text_are_usage_faults(rt: HostRuntime) -> Result<(), Fail> {
+    let alloc = rt.alloc();
+    let mut words = Vec::new(alloc);
+    let none = run_on(alloc, words.as_slice(), &mut Memory::new(alloc))?;
+    assert!(rt; is_fault(&none));
+    for word in [b"debplan".as_slice(), b"compare", b"1", b"lt", b"\xff"] {
+        words.push(word.to_vec(alloc)?)?;
+    }
+    let printed = run_on(alloc, words.as_slice(), &mut Memory::new(alloc))?;
+    assert!(rt; is_fault(&printed));
+    Ok(())
+}

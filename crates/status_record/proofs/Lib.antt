@@ -1,0 +1,11 @@
+pub mod FilterLemmas
+pub mod FieldLemmas
+pub mod OriginLemmas
+pub mod KeptLemmas
+pub mod WrittenLemmas
+pub mod PassLemmas
+pub mod WordRows
+pub mod ValueLemmas
+pub mod SaysLemmas
+pub mod ReadLemmas
+pub mod ReadBackLemmas

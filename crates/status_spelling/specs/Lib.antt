@@ -1,0 +1,4 @@
+pub mod Spelling
+pub mod Writable
+pub mod ReadBack
+pub mod Touched

@@ -1,0 +1,12 @@
+pub mod NameLemmas
+pub mod PlaceLemmas
+pub mod TableLemmas
+pub mod LeftLemmas
+pub mod FoundLemmas
+pub mod GroupLemmas
+pub mod ForeignLemmas
+pub mod FaithfulLemmas
+pub mod AgainLemmas
+pub mod HandedLemmas
+pub mod StepLemmas
+pub mod FaithfulRows

@@ -1,0 +1,48 @@
+-- The slots of the status file by the names of their records (dpkg(1); Policy 5.6.1).
+use Rattle.std.specs.Prelude.{◌≡◌, ℕ, Bool, false, List, map, Option, ⊤, if◌then◌else◌}
+use Rattle.std.specs.List.{find, list_any}
+use Rattle.rules.specs.Database.{Record}
+use Rattle.rules.specs.Entry.{Entry, records_of}
+use Rattle.rules.specs.Step.{is_named}
+use Rattle.status_text.specs.Slot.{FileSlot, entries_of}
+use Rattle.status_text.specs.declared.slot.Slot.TheVariants.{Recorded, Foreign}
+
+-- the status file as it is stored: its slots in their order, for an architecture
+pub record Store : Type 0 where
+  pub arch : List ℕ
+  pub slots : List FileSlot
+
+-- the records of slots
+abbrev pub slot_records : List FileSlot → List Record
+slot_records slots = records_of (entries_of slots)
+
+-- the names of the records of slots
+abbrev pub names_of : List FileSlot → List (List ℕ)
+names_of slots = map (λ entry. entry.found.name) (entries_of slots)
+
+-- the entry of the name, if there is one
+abbrev pub entry_named : List ℕ → List FileSlot → Option Entry
+entry_named name slots = find (λ entry. is_named name entry.found) (entries_of slots)
+
+-- the slot has a record of this name
+abbrev pub is_slot_named : List ℕ → FileSlot → Bool
+is_slot_named name (Recorded entry) = is_named name entry.found
+is_slot_named name (Foreign stanza) = false
+
+-- a slot has a record of this name
+abbrev pub has_name : List ℕ → List FileSlot → Bool
+has_name name slots = list_any (is_slot_named name) slots
+
+-- the slot, with its entry changed if the record passes the test
+abbrev pub changed_slot : (Record → Bool) → (Entry → Entry) → FileSlot → FileSlot
+changed_slot test change (Recorded entry) = Recorded (if test entry.found then change entry else entry)
+changed_slot test change (Foreign stanza) = Foreign stanza
+
+-- the slots with each entry whose record passes the test changed
+abbrev pub changed_slots : (Record → Bool) → (Entry → Entry) → List FileSlot → List FileSlot
+changed_slots test change slots = map (changed_slot test change) slots
+
+-- no slot has a record of the name of this one
+abbrev pub IsNew : FileSlot → List FileSlot → Type 0
+IsNew (Recorded entry) slots = has_name entry.found.name slots ≡ false
+IsNew (Foreign stanza) slots = ⊤

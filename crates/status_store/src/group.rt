@@ -1,0 +1,66 @@
+//! The configuring of a group (dpkg(1)), in place.
+ghost use Rattle.std.specs.Prelude.{◌≡◌, ◌&&◌, None};
+ghost use Rattle.std.specs.Option.{option_copied};
+ghost use Rattle.rules.specs.Entry.{touched_entry};
+ghost use Rattle.rules.specs.Step.{configured, is_among, is_named};
+ghost use Rattle.status_store.specs.Applicable as Spec;
+ghost use Rattle.status_store.specs.Applicable.{first_unready, has_record};
+ghost use Rattle.status_store.specs.Places.{AreDistinct};
+ghost use Rattle.status_store.specs.Slots.{changed_slots, names_of, slot_records};
+
+use crate::table::Table;
+use rules::Name;
+use status_record::Record;
+
+fn is_configurable(record: &Record<'_>) -> bool
+    ensures { result ≡ Spec.is_configurable «record».now.found }
+{
+    record.state().is_unconfigured() && record.flag().is_sound()
+}
+
+// Configures the package of the name, if it is unpacked or half-configured with flag ok.
+fn configure_one(table: &mut Table<'_>, name: &[u8])
+    ensures { table.new ≡ changed_slots (λ found. is_named name.now found && Spec.is_configurable found) (touched_entry configured) table.old }
+{
+    match table.find(name) {
+        Some(old) => {
+            if is_configurable(old) {
+                let left = old.configured();
+                table.write(left);
+            }
+        }
+        None => {}
+    }
+}
+
+fn is_ready(table: &Table<'_>, name: &[u8]) -> bool
+    ensures { result ≡ has_record Spec.is_configurable name.now (slot_records table.now) }
+{
+    match table.find(name) {
+        Some(found) => is_configurable(found),
+        None => false,
+    }
+}
+
+/// The first of the names whose package isn't unpacked or half-configured with flag ok.
+pub fn first_unready<'s>(table: &Table<'_>, names: &'s [Name]) -> Option<&'s Name>
+    ensures { option_copied result ≡ first_unready Spec.is_configurable names.now (slot_records table.now) }
+{
+    for name in names {
+        if !is_ready(table, name.as_bytes()) {
+            return Some(name);
+        }
+    }
+    None
+}
+
+/// Configures the packages of the names, each of which is unpacked or half-configured with flag ok.
+pub fn configure_each(table: &mut Table<'_>, names: &[Name])
+    requires ready { first_unready Spec.is_configurable names.now (slot_records table.old) ≡ None }
+    requires distinct { AreDistinct (names_of table.old) }
+    ensures { table.new ≡ changed_slots (is_among names.now) (touched_entry configured) table.old }
+{
+    for name in names {
+        configure_one(table, name.as_bytes());
+    }
+}

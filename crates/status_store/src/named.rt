@@ -1,0 +1,92 @@
+//! The actions of dpkg (dpkg(1)) on the record of a name, in place.
+ghost use Rattle.std.specs.Prelude.{◌≡◌, false, not, OnErr, OnOk, if◌then◌else◌};
+ghost use Rattle.std.specs.List.{filter};
+ghost use Rattle.rules.specs.Entry.{touched_entry};
+ghost use Rattle.rules.specs.Step.{deconfigured, is_named, removed};
+ghost use Rattle.status_store.specs.Applicable as Spec;
+ghost use Rattle.status_store.specs.Applicable.{has_record};
+ghost use Rattle.status_store.specs.Left.{slots_after_unpack};
+ghost use Rattle.status_store.specs.Slots.{changed_slots, has_name, is_slot_named, slot_records};
+
+use crate::table::Table;
+use index::Entry;
+use status_record::Record;
+use status_text::Slot;
+use std::alloc::AllocError;
+
+fn is_removable(record: &Record<'_>) -> bool
+    ensures { result ≡ Spec.is_removable «record».now.found }
+{
+    record.state().is_present() && record.flag().is_sound()
+}
+
+/// Unpacks a package of an index. Memory alone can fail, and then all stays as it was; none is taken where a record of
+/// the name is there.
+pub fn unpack_listed<'a>(table: &mut Table<'a>, entry: &Entry<'a>) -> Result<(), AllocError>
+    ensures ok { OnOk result (table.new ≡ slots_after_unpack entry.now table.old) }
+    ensures err { OnErr result (table.new ≡ table.old) }
+    ensures new { OnErr result (has_name entry.now.pkg.name table.old ≡ false) }
+{
+    match table.find(entry.name()) {
+        Some(old) => {
+            let unpacked = old.unpacked_over(entry);
+            table.write(unpacked);
+            Ok(())
+        }
+        None => table.push(Slot::Recorded(Record::unpacked(entry))),
+    }
+}
+
+/// Takes back the configuring of an installed package. Answers whether it is installed; nothing is changed if not.
+pub fn deconfigure_named(table: &mut Table<'_>, name: &[u8]) -> bool
+    ensures ready { result ≡ has_record Spec.is_deconfigurable name.now (slot_records table.old) }
+    ensures left { table.new ≡ (if result then changed_slots (is_named name.now) (touched_entry deconfigured) table.old else table.old) }
+{
+    match table.find(name) {
+        Some(old) => {
+            if !old.is_installed() {
+                return false;
+            }
+            let left = old.deconfigured();
+            table.write(left);
+            true
+        }
+        None => false,
+    }
+}
+
+/// Removes a present package whose flag is ok. Answers whether it is so; nothing is changed if not.
+pub fn remove_named(table: &mut Table<'_>, name: &[u8]) -> bool
+    ensures ready { result ≡ has_record Spec.is_removable name.now (slot_records table.old) }
+    ensures left { table.new ≡ (if result then changed_slots (is_named name.now) (touched_entry removed) table.old else table.old) }
+{
+    match table.find(name) {
+        Some(old) => {
+            if !is_removable(old) {
+                return false;
+            }
+            let left = old.removed();
+            table.write(left);
+            true
+        }
+        None => false,
+    }
+}
+
+/// Deletes what is left of a removed package. Answers whether its configuration files alone are left; nothing is changed
+/// if not.
+pub fn purge_named(table: &mut Table<'_>, name: &[u8]) -> bool
+    ensures ready { result ≡ has_record Spec.is_purgeable name.now (slot_records table.old) }
+    ensures left { table.new ≡ (if result then filter (λ slot. not (is_slot_named name.now slot)) table.old else table.old) }
+{
+    match table.find(name) {
+        Some(old) => {
+            if !old.state().is_removed() {
+                return false;
+            }
+            table.delete(name);
+            true
+        }
+        None => false,
+    }
+}

@@ -1,0 +1,230 @@
+//! What the clauses do not say: printed refusals, worked texts, and that the calls succeed. The texts and what actions
+//! leave were worked out by hand from dpkg(1) and Debian Policy 5; the architecture is amd64.
+use crate::{ApplyError, Database, Step};
+use debversion::Version;
+use rules::{Name, Names, VersionText, is_name};
+use std::alloc::Global;
+use std::str;
+use std::test::Fail;
+
+const ARCH: &[u8] = b"amd64";
+
+// The bytes of a part of a row, where `$` stands for a newline.
+fn unescaped(alloc: Global, text: &str) -> Result<Vec<u8>, Fail> {
+    let mut bytes = Vec::new(alloc);
+    for byte in text.as_bytes() {
+        bytes.push(if *byte == b'$' { b'\n' } else { *byte })?;
+    }
+    Ok(bytes)
+}
+
+fn parts_of(alloc: Global, row: &str) -> Result<Vec<Vec<u8>>, Fail> {
+    let mut parts = Vec::new(alloc);
+    for part in row.split('→') {
+        parts.push(unescaped(alloc, part)?)?;
+    }
+    Ok(parts)
+}
+
+fn name_of(alloc: Global, word: &str) -> Result<Option<Name>, Fail> {
+    if !is_name(word.as_bytes()) {
+        return Ok(None);
+    }
+    Ok(Some(Name::copied_from(alloc, word.as_bytes())?))
+}
+
+fn version_of(alloc: Global, word: &str) -> Result<Option<VersionText>, Fail> {
+    match Version::parse(word.as_bytes()) {
+        Ok(version) => Ok(Some(VersionText::copied_from(alloc, version.text())?)),
+        Err(_) => Ok(None),
+    }
+}
+
+fn unpack_of(alloc: Global, words: &str) -> Result<Option<Step>, Fail> {
+    let Some((name, version)) = words.split_once(' ') else {
+        return Ok(None);
+    };
+    match (name_of(alloc, name)?, version_of(alloc, version)?) {
+        (Some(name), Some(version)) => Ok(Some(Step::Unpack(name, version))),
+        _ => Ok(None),
+    }
+}
+
+fn configure_of(alloc: Global, word: &str) -> Result<Option<Step>, Fail> {
+    let Some(name) = name_of(alloc, word)? else {
+        return Ok(None);
+    };
+    let mut names = Vec::new(alloc);
+    names.push(name)?;
+    Ok(Some(Step::Configure(Names::new(names))))
+}
+
+fn step_of(alloc: Global, line: &str) -> Result<Option<Step>, Fail> {
+    let Some((action, words)) = line.split_once(' ') else {
+        return Ok(None);
+    };
+    match action {
+        "unpack" => unpack_of(alloc, words),
+        "deconfigure" => Ok(name_of(alloc, words)?.map(Step::Deconfigure)),
+        "configure" => configure_of(alloc, words),
+        "remove" => Ok(name_of(alloc, words)?.map(Step::Remove)),
+        "purge" => Ok(name_of(alloc, words)?.map(Step::Purge)),
+        _ => Ok(None),
+    }
+}
+
+// What taking the step answers, as it is printed: nothing where it was taken.
+fn taken<'a>(
+    alloc: Global,
+    db: &mut Database<'a>,
+    line: &[u8],
+    stanza: &'a [u8],
+) -> Result<String, Fail> {
+    let mut shown = String::new(alloc);
+    let Some(step) = step_of(alloc, str::from_utf8(line)?)? else {
+        shown.push_str("no step")?;
+        return Ok(shown);
+    };
+    let given = if stanza.is_empty() {
+        None
+    } else {
+        Some(stanza)
+    };
+    if let Err(refused) = db.apply(&step, given) {
+        write!(shown, "{refused}")?;
+    }
+    Ok(shown)
+}
+
+// The text after the steps, or the first refusal.
+fn text_after(alloc: Global, status: &[u8], steps: &[Vec<u8>]) -> Result<Vec<u8>, Fail> {
+    let mut db = Database::read(alloc, status, ARCH)?;
+    for pair in steps.chunks(2) {
+        if let [line, stanza] = pair {
+            let refused = taken(alloc, &mut db, line.as_slice(), stanza.as_slice())?;
+            if !refused.is_empty() {
+                return Ok(refused.as_bytes().to_vec(alloc)?);
+            }
+        }
+    }
+    Ok(db.text(alloc)?)
+}
+
+fn is_left(alloc: Global, row: &str) -> Result<bool, Fail> {
+    let parts = parts_of(alloc, row)?;
+    match parts.as_slice() {
+        [status, wanted, steps @ ..] => {
+            let text = text_after(alloc, status.as_slice(), steps)?;
+            Ok(text.as_slice() == wanted.as_slice())
+        }
+        _ => Ok(false),
+    }
+}
+
+// The status file, the text or the refusal that is wanted, and the steps, each with what is handed in; `$` stands for a
+// newline.
+const LEFT: &str = "\
+→Package: foo$Status: install ok unpacked$Version: 1.0$Architecture: all$Depends: bar$Description: x$ y$$→unpack foo 1.0→Package: foo$Version: 1.0$Architecture: all$Depends: bar$Filename: pool/foo.deb$Size: 10$Description: x$ y$
+Package: q$Status: install ok installed$Architecture: all$Version: 1$Conffiles:$ /etc/q 0$$Package: z$Status: install ok installed$Version:   1$Architecture: all$$→Package: q$Status: install ok half-configured$Architecture: all$Version: 1$Config-Version: 1$Conffiles:$ /etc/q 0$$Package: z$Status: install ok installed$Version:   1$Architecture: all$$→deconfigure q→
+Package: q$Status: install ok installed$Architecture: all$Version: 1$Conffiles:$ /etc/q 0$$Package: z$Status: install ok installed$Version:   1$Architecture: all$$→Package: q$Status: install ok unpacked$Architecture: all$Version: 2$Config-Version: 1$Conffiles:$ /etc/q 0$$Package: z$Status: install ok installed$Version:   1$Architecture: all$$→deconfigure q→→unpack q 2→Package: q$Architecture: all$Version: 2$
+Package: q$Status: install ok installed$Architecture: all$Version: 1$Conffiles:$ /etc/q 0$$Package: z$Status: install ok installed$Version:   1$Architecture: all$$→Package: q$Status: install ok installed$Architecture: all$Version: 2$Conffiles:$ /etc/q 0$$Package: z$Status: install ok installed$Version:   1$Architecture: all$$→deconfigure q→→unpack q 2→Package: q$Architecture: all$Version: 2$→configure q→
+→Package: foo$Status: deinstall ok config-files$Version: 1.0$Architecture: all$Depends: bar$Description: x$ y$$→unpack foo 1.0→Package: foo$Version: 1.0$Architecture: all$Depends: bar$Filename: pool/foo.deb$Size: 10$Description: x$ y$→remove foo→
+→→unpack foo 1.0→Package: foo$Version: 1.0$Architecture: all$→remove foo→→purge foo→
+Package: h$Status: hold ok not-installed$→Package: h$Status: hold ok not-installed$$Package: a$Status: install ok unpacked$Version: 1$Architecture: amd64$$→unpack a 1→Package: a$Version: 1$Architecture: amd64$
+Package: a$Status: deinstall ok config-files$$$$Package: x$Status: unknown ok not-installed$Architecture: i386$$Package: b$Status: purge ok config-files→Package: x$Status: unknown ok not-installed$Architecture: i386$$Package: b$Status: purge ok config-files$$→purge a→
+Package: h$Status: hold ok not-installed$→Package: h$Status: install ok unpacked$Architecture: all$Version: 1.0$$→unpack h 0:1.00-0→$Package: h$Architecture: all$Version: 1.0$$
+→E24 NotApplicable a→unpack a 1→
+→E24 NotApplicable a→unpack a 1→Package: a$Architecture: i386$Version: 1$
+→E24 NotApplicable a→unpack a 1→Package: b$Architecture: all$Version: 1$
+→E24 NotApplicable a→unpack a 1→Package: a$Architecture: all$Version: 2$
+→E24 NotApplicable a→unpack a 1→Package: a$Architecture: all$Version: 1$$Package: b$Architecture: all$Version: 1$
+→E24 NotApplicable a→purge a→
+Package: a$Status: install reinstreq installed$Architecture: all$Version: 1$→E24 NotApplicable a→remove a→
+Package: a$Status: install reinstreq unpacked$Architecture: all$Version: 1$→E24 NotApplicable a→configure a→
+Package: a$Status: install ok installed$Architecture: all$Version: 1$→E24 NotApplicable a→configure a→
+Package: a$Status: install ok unpacked$Architecture: all$Version: 1$→E24 NotApplicable a→deconfigure a→
+Package: a$Status: install ok installed$Architecture: all$Version: 1$→E24 NotApplicable a→purge a→
+";
+
+#[test]
+fn steps_leave_these_texts(rt: HostRuntime) -> Result<(), Fail> {
+    for row in LEFT.lines() {
+        assert!(rt; is_left(rt.alloc(), row)?, "{row}");
+    }
+    Ok(())
+}
+
+// Whether the text, read again, is its own text, as is that of its copy.
+fn is_read_again(alloc: Global, text: &[u8]) -> Result<bool, Fail> {
+    let db = Database::read(alloc, text, ARCH)?;
+    let copy = db.try_copy(alloc)?;
+    Ok(db.text(alloc)?.as_slice() == text && copy.text(alloc)?.as_slice() == text)
+}
+
+// Whether the text that the steps of a row leave, if they are taken, is read again.
+fn is_left_again(alloc: Global, row: &str) -> Result<bool, Fail> {
+    let parts = parts_of(alloc, row)?;
+    match parts.as_slice() {
+        [status, _, steps @ ..] => {
+            let text = text_after(alloc, status.as_slice(), steps)?;
+            match text.as_slice() {
+                [b'E', ..] => Ok(true),
+                left => is_read_again(alloc, left),
+            }
+        }
+        _ => Ok(false),
+    }
+}
+
+#[test]
+fn what_steps_leave_is_read_again(rt: HostRuntime) -> Result<(), Fail> {
+    for row in LEFT.lines() {
+        assert!(rt; is_left_again(rt.alloc(), row)?, "{row}");
+    }
+    Ok(())
+}
+
+#[test]
+fn names_and_records_are_found(rt: HostRuntime) -> Result<(), Fail> {
+    let text =
+        b"Package: b\nStatus: install ok installed\nArchitecture: all\nVersion: 1\n\nPackage: x\nStatus: unknown ok not-installed\nArchitecture: i386\n\nPackage: a\nStatus: hold ok not-installed\n";
+    let db = Database::read(rt.alloc(), text, ARCH)?;
+    assert_eq!(rt; db.names().len(), 2);
+    assert!(rt; matches!(db.names(), [b"b", b"a"]));
+    assert!(rt; db.record(b"x").is_none());
+    if let Some(record) = db.record(b"a") {
+        assert!(rt; record.is_held() && !record.is_present());
+    }
+    let copy = db.try_copy(rt.alloc())?;
+    assert!(rt; copy.text(rt.alloc())?.as_slice() == db.text(rt.alloc())?.as_slice());
+    Ok(())
+}
+
+#[test]
+fn a_refused_name_is_lent(rt: HostRuntime) -> Result<(), Fail> {
+    let mut db = Database::read(rt.alloc(), b"", ARCH)?;
+    if let Some(step) = step_of(rt.alloc(), "remove a")? {
+        match db.apply(&step, None) {
+            Err(ApplyError::NotApplicable(name)) => assert!(rt; name.as_bytes() == b"a".as_slice()),
+            _ => assert!(rt; false),
+        }
+    }
+    Ok(())
+}
+
+#[test]
+fn a_refused_growth_is_want_of_memory(rt: HostRuntime) -> Result<(), Fail> {
+    let stanza = b"Package: a\nArchitecture: all\nVersion: 1\n";
+    let Some(step) = step_of(rt.alloc(), "unpack a 1")? else {
+        return Ok(());
+    };
+    let mut db = Database::read(rt.alloc(), b"", ARCH)?;
+    match db.apply(&step, Some(stanza)) {
+        Ok(()) => assert_eq!(rt; db.names().len(), 1),
+        Err(refused) => {
+            assert!(rt; matches!(refused, ApplyError::OutOfMemory));
+            assert_eq!(rt; db.names().len(), 0);
+        }
+    }
+    Ok(())
+}

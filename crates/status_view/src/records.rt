@@ -1,0 +1,82 @@
+//! The records of a database with their packages.
+ghost use Rattle.std.specs.Prelude.{◌≡◌, None, Some, IfOk, map};
+ghost use Rattle.std.specs.Option.{option_copied};
+ghost use Rattle.rules.specs.Entry.{records_of};
+ghost use Rattle.status_view.specs.Packages.{packages_of, present_pkg};
+
+use debversion::Version;
+use relation::Pkg;
+use status::PackageRecord;
+use status_record::Record;
+use std::alloc::{AllocError, Global};
+
+fn version_again<'a>(version: &Option<Version<'a>>) -> Option<Version<'a>>
+    ensures { result ≡ version.now }
+{
+    match version {
+        Some(version) => Some(version.again()),
+        None => None,
+    }
+}
+
+// The record of a package, which is present.
+fn with_package<'p, 'a>(record: &Record<'a>, pkg: &'p Pkg<'a>) -> PackageRecord<'p, 'a>
+    requires { present_pkg «record».now.found ≡ Some pkg.now }
+    ensures { result ≡ «record».now.found }
+{
+    PackageRecord::present(
+        pkg,
+        record.state(),
+        record.want(),
+        record.flag(),
+        version_again(record.config_version()),
+        record.is_essential(),
+    )
+}
+
+// The record of a package that isn't present.
+fn without_package<'p, 'a>(record: &Record<'a>) -> PackageRecord<'p, 'a>
+    requires { present_pkg «record».now.found ≡ None }
+    ensures { result ≡ «record».now.found }
+{
+    let _is_present = record.is_present();
+    PackageRecord::absent(
+        record.name(),
+        record.state(),
+        record.want(),
+        record.flag(),
+        version_again(record.version()),
+        version_again(record.config_version()),
+        record.is_essential(),
+    )
+}
+
+// The record with its package, if it is present.
+fn package_record<'p, 'a>(record: &Record<'a>, pkg: &'p Option<Pkg<'a>>) -> PackageRecord<'p, 'a>
+    requires { pkg.now ≡ present_pkg «record».now.found }
+    ensures { result ≡ «record».now.found }
+{
+    if let Some(pkg) = pkg {
+        return with_package(record, pkg);
+    }
+    without_package(record)
+}
+
+/// The records, each with its package of those that were parsed, as the checkers of plans read and change them. Linear in
+/// the records. Memory alone can fail.
+pub fn view<'p, 'a>(
+    alloc: Global,
+    records: &[&Record<'a>],
+    packages: &'p [Option<Pkg<'a>>],
+) -> Result<Vec<PackageRecord<'p, 'a>>, AllocError>
+    requires { packages.now ≡ packages_of (map (λ found. found.now) records.now) }
+    ensures { IfOk result (λ view. view.items ≡ records_of (map (λ found. found.now) records.now)) }
+{
+    let mut view = Vec::new(alloc);
+    let mut place = 0;
+    for record in records {
+        view.push(package_record(record, &packages[place]))?;
+        place += 1;
+    }
+    Ok(view)
+}
