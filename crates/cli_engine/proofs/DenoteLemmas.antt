@@ -9,7 +9,7 @@ use Rattle.rules.specs.Entry.{Entry, records_of}
 use Rattle.rules.specs.Universe.{IsUniverse, Universe}
 use Rattle.rules.specs.Verdict.{IsBuiltOn, UniverseIsBuilt}
 use Rattle.rules.specs.declared.goal.GoalLine.{GoalLine}
-use Rattle.universe.specs.Build.{goals_of, inputs_of}
+use Rattle.universe_build.specs.Build.{goals_of, inputs_of}
 use Rattle.cli_engine.specs.Answer.{HasStatus, IsFirstRefusal, IsRequested}
 use Rattle.cli_engine.specs.Indices.{index_then, indices_from, read_indices, with_indices}
 use Rattle.cli_engine.specs.Reading.{out_of_memory}

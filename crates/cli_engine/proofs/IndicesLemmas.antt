@@ -13,7 +13,7 @@ use Rattle.rules.specs.declared.release.Release.{Release}
 use Rattle.stanza.specs.Stanza.{StanzaText, items_of}
 use Rattle.stanza.specs.declared.error.StanzaError.{StanzaError}
 use Rattle.cli_engine.specs.Indices.{index_then, indices_from, with_indices}
-use Rattle.universe.specs.Build.{indices_of}
+use Rattle.universe_build.specs.Build.{indices_of}
 use Rattle.cli_engine.specs.Reading.{out_of_memory}
 use Rattle.cli_engine.specs.declared.refusal.Refusal.{Refusal}
 use mathlib.Core.Logic.{inl, inr}

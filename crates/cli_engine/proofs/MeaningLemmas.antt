@@ -6,9 +6,9 @@ use Rattle.rules.specs.Entry.{records_of}
 use Rattle.rules.specs.Universe.{IsUniverse, Universe, starts_of}
 use Rattle.rules.specs.declared.goal.GoalLine.{GoalLine}
 use Rattle.status_text.specs.Slot.{entries_of}
-use Rattle.universe.specs.Build.{first_unknown, goals_of, inputs_of}
-use Rattle.universe.specs.Error.{IsTooLarge}
-use Rattle.universe.specs.UniverseLaws.{OneListOfPairs}
+use Rattle.universe_build.specs.Build.{first_unknown, goals_of, inputs_of}
+use Rattle.universe_build.specs.Error.{IsTooLarge}
+use Rattle.universe_build.specs.UniverseLaws.{OneListOfPairs}
 use Rattle.universe_request.specs.Request.{read_request}
 use Rattle.cli_engine.specs.Answer.{AreRead, Denotes, IsFault, IsRequestFault, IsRequested}
 use Rattle.cli_engine.specs.Indices.{read_indices}

@@ -10,8 +10,8 @@ use Rattle.rules.specs.declared.goal.GoalLine.{GoalLine}
 use Rattle.rules.specs.declared.step.Step.{Step}
 use Rattle.rules.specs.declared.step.Verdict.{Verdict}
 use Rattle.status_text.specs.Slot.{FileSlot, entries_of}
-use Rattle.universe.specs.Build.{first_unknown, goals_of}
-use Rattle.universe.specs.Error.{IsBuilt, IsTooLarge}
+use Rattle.universe_build.specs.Build.{first_unknown, goals_of}
+use Rattle.universe_build.specs.Error.{IsBuilt, IsTooLarge}
 use Rattle.universe_request.specs.Request.{read_request}
 use Rattle.cli_engine.specs.Indices.{read_indices}
 use Rattle.cli_engine.specs.Texts.{Texts, status_of, sources_of, first_later_goal, read_early_plan}

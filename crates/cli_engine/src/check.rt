@@ -5,7 +5,7 @@ ghost use Rattle.std.specs.List.{All};
 ghost use Rattle.plancheck.specs.Single.{IsSingle};
 ghost use Rattle.rules.specs.Verdict.{IsBuiltOn, IsVerdict};
 ghost use Rattle.status_store.specs.Slots.{slot_records};
-ghost use Rattle.universe.specs.Build.{indices_of};
+ghost use Rattle.universe_build.specs.Build.{indices_of};
 ghost use Rattle.cli_engine.specs.Answer.{AreRead, Denotes, IsAnswer, IsFirstRefusal};
 ghost use Rattle.cli_engine.specs.Inputs.{AreJudged, texts_of};
 

@@ -2,7 +2,7 @@
 
 ghost use Rattle.cli_engine.specs.Meaning.{HasOneMeaning, MeaningIsNotRefused};
 
-use universe::one_list_of_pairs;
+use universe_build::one_list_of_pairs;
 
 /// Texts have one meaning: the pairs, the goals and the facts of the start that they denote.
 pub fn texts_have_one_meaning()

@@ -4,8 +4,8 @@ ghost use Rattle.std.specs.Prelude.{◌≡◌, IfErr, IfOk, List, Ok, map};
 ghost use Rattle.rules.specs.Database.{HasDistinctNames};
 ghost use Rattle.rules.specs.Entry.{records_of};
 ghost use Rattle.rules.specs.declared.goal.GoalLine.{GoalLine as LineOf};
-ghost use Rattle.universe.specs.Build.{indices_of};
-ghost use Rattle.universe.specs.Error.{IsBuilt};
+ghost use Rattle.universe_build.specs.Build.{indices_of};
+ghost use Rattle.universe_build.specs.Error.{IsBuilt};
 ghost use Rattle.cli_engine.specs.Answer.{IsBuildFault, IsRequestFault, IsRequested};
 ghost use Rattle.cli_engine.specs.Reading.{IsFaultOf, OrMemory, with_fault};
 ghost use Rattle.cli_engine.specs.Texts as Spec;
@@ -17,7 +17,8 @@ use index::Index;
 use rules::{Goal, GoalLine};
 use status_record::Record;
 use std::alloc::Global;
-use universe::{Universe, UniverseError, build};
+use universe::Universe;
+use universe_build::{UniverseError, build};
 use universe_request::{Request, RequestError, RequestFault};
 
 fn goals_in(alloc: Global, text: &[u8], arch: &[u8]) -> Result<Vec<GoalLine>, Fault>

@@ -9,7 +9,8 @@ use status_store::Database;
 use std::alloc::Global;
 use std::str;
 use std::test::Fail;
-use universe::{Universe, UniverseError, build};
+use universe::Universe;
+use universe_build::{UniverseError, build};
 
 fn op_of(word: &str) -> Op {
     match word {

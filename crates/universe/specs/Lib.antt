@@ -1,11 +1,3 @@
-pub mod Build
-pub mod Choice
-pub mod ChoiceLaws
-pub mod Chosen
-pub mod Error
-pub mod Offer
 pub mod Pair
-pub mod Recorded
-pub mod RecordedLaws
+pub mod PairLaws
 pub mod Universe
-pub mod UniverseLaws

@@ -1,7 +1,7 @@
 -- The universe of the request is built on the records of the database.
 use Rattle.std.proofs.Common.{map}
 use Rattle.status_text.specs.Slot.{entries_of}
-use Rattle.universe.specs.Build.{indices_of}
+use Rattle.universe_build.specs.Build.{indices_of}
 use Rattle.cli_engine.specs.Inputs.{texts_of}
 use Rattle.cli_engine.proofs.DenoteLemmas.{built_on}
 use Rattle.cli_engine.proofs.check.universe_of.Goals as goal

@@ -1,0 +1,180 @@
+-- The records in the order of their names, the pairs in their order, and what a binary search finds among records and
+-- stanzas.
+use Rattle.std.proofs.Common.{◌≡◌, ℕ, ◌+◌, ◌<◌, [], arith, Bool, true, false, not, IsSome, unwrap_or, ◌&&◌, List, length, get_or, Ok, Err, Option, Some, None, refl, sym, ap, subst, ◌∙◌, bytes_eq}
+use Rattle.std.specs.Cmp.{Equal-is}
+use Rattle.std.specs.Cmp.Lexicographic.{nat_list_cmp_total}
+use Rattle.std.specs.List.{Contains, dedup, find, slice_get}
+use Rattle.std.specs.Option.{option_map}
+use Rattle.std.specs.List.Sorted.{IsBinarySearchResult, IsPermutation, IsSearchInRange, IsSorted, IsStable, IsStrictlySortedBy, ties}
+use Rattle.std.specs.Ordering.{eq_by_cmp, is_eq, is_lt, ordering_reverse}
+use Rattle.std.specs.declared.cmp.Ordering.{Ordering}
+use Rattle.std.specs.declared.cmp.Ordering.TheVariants.{Less}
+use Rattle.std.proofs.lemmas.List.Elements.{filter_agree}
+use Rattle.std.proofs.lemmas.List.Kept.{Contains-from_dedup, IsStrictlySortedBy-dedup}
+use Rattle.std.proofs.lemmas.List.Sorted.{Contains-permutation, IsPermutation-sym, searchable_from_sorted}
+use Rattle.std.proofs.lemmas.Map.Text.{is_eq-slice_cmp}
+use Rattle.rules.specs.Available.{is_of, same_version}
+use Rattle.rules.specs.Database.{Record}
+use Rattle.rules.specs.ElementLaws.{Any-intro}
+use Rattle.rules.specs.Name.{name_cmp}
+use Rattle.rules.specs.NamedLaws.{bytes_eq-true}
+use Rattle.rules.specs.Package.{Pkg}
+use Rattle.rules.specs.Step.{Listed, is_named, no_relations}
+use Rattle.rules.specs.Universe.{IsOf, Pair, pair_cmp}
+use Rattle.rules.specs.Version.{version_cmp}
+use Rattle.rules.specs.declared.status.Flag.TheVariants.{Sound}
+use Rattle.rules.specs.declared.status.State.TheVariants.{NotInstalled}
+use Rattle.rules.specs.declared.status.Want.TheVariants.{Unknown}
+use Rattle.universe_build.specs.Choice.{listed_cmp, pkg_order, stanza_of}
+use Rattle.universe.specs.PairLaws.{pair_cmp_total}
+use Rattle.universe_build.specs.ChoiceLaws.{listed_cmp_total}
+use Rattle.universe_build.specs.Chosen.{ArePairs}
+use Rattle.universe_build.specs.Recorded.{IsByName, record_cmp}
+use Rattle.universe_build.specs.RecordedLaws.{record_cmp_total}
+use Rattle.universe_build.proofs.Finding.{AllPairs-rising, find-dedup, find-exists, find-filter, find-some, first_of_all, sorted-one}
+use Rattle.universe_build.proofs.Ordered.{same_pair}
+use Rattle.universe_build.proofs.Searching.{slice_get-found, searched_find, searched_none}
+use Rattle.universe_build.proofs.StanzaOrder.{is_eq-then, is_of-alike, is_of-from, is_of-parts, listed_cmp-tied, of_itself, ties-eq}
+
+-- the stanza of a package, where nothing else counts
+abbrev bare : Pkg → Listed
+bare pkg = record { pkg = pkg; is_essential = true; stanza = record { fields = []; bytes = None } }
+
+-- pairs in order that are freed of repetitions have each version once
+pub ArePairs-from_sort : (pairs sorted ordered : List Pair) → IsSorted pair_cmp sorted → IsPermutation pairs sorted
+    → ordered ≡ dedup (eq_by_cmp pair_cmp) sorted → ArePairs pairs ordered
+ArePairs-from_sort pairs sorted ordered up moved same = subst (ArePairs pairs) (sym same) (record {
+  ascending = IsStrictlySortedBy-dedup pair_cmp_total (λ x y. refl) sorted up;
+  drawn = λ pair within. Contains-permutation sorted pairs pair (IsPermutation-sym pairs sorted moved)
+      (Contains-from_dedup (eq_by_cmp pair_cmp) sorted pair within);
+  covered = λ pair within.
+      let p : Pair → Bool = λ (other : Pair). is_of pair.pkg.name pair.pkg.version other.pkg in
+      let own : p pair ≡ true = is_of-from pair.pkg.name pair.pkg.version pair.pkg (of_itself pair.pkg) in
+      let first = find-exists p sorted pair (Contains-permutation pairs sorted pair moved within) own in
+      let there = find-some p (dedup (eq_by_cmp pair_cmp) sorted) first.0
+      (find-dedup (eq_by_cmp pair_cmp) p
+      (λ x k tied. is_of-alike pair.pkg.name pair.pkg.version (bare x.pkg) (bare k.pkg) tied) sorted ∙ first.1) in
+      Any-intro (λ (other : Pair). IsOf pair.pkg.name pair.pkg.version other.pkg) (dedup (eq_by_cmp pair_cmp) sorted) first.0 there.0
+      (is_of-parts pair.pkg.name pair.pkg.version first.0.pkg there.1);
+})
+
+-- records that tie have one name
+is_named-alike : (name : List ℕ) (found other : Record) → eq_by_cmp record_cmp found other ≡ true
+    → is_named name found ≡ is_named name other
+is_named-alike name found other tied =
+    let named : found.name ≡ other.name =
+    bytes_eq-true found.name other.name (sym (is_eq-slice_cmp found.name other.name) ∙ tied) in
+    ap (λ (n : List ℕ). bytes_eq n name) named
+
+-- a record of the name, where nothing else counts
+abbrev called : List ℕ → Record
+called name = record {
+  name = name;
+  state = NotInstalled;
+  want = Unknown;
+  flag = Sound;
+  version = [];
+  config_version = None;
+  relations = no_relations;
+  is_essential = true;
+}
+
+ties_is_named : (name : List ℕ) (found : Record)
+    → ties (λ x y. is_lt (record_cmp x y)) (called name) found ≡ is_named name found
+ties_is_named name found =
+    ap (λ (o : Ordering). not (is_lt o) && not (is_lt (record_cmp found (called name)))) (record_cmp_total.antisymm (called name) found)
+    ∙ ties-eq (record_cmp found (called name))
+    ∙ is_eq-slice_cmp found.name name
+
+-- a stable sort finds what the list found
+find-stable_record : (name : List ℕ) (db sorted : List Record) → IsStable record_cmp db sorted
+    → find (is_named name) sorted ≡ find (is_named name) db
+find-stable_record name db sorted stable =
+    let t : Record → Bool = ties (λ x y. is_lt (record_cmp x y)) (called name) in
+    find-filter (is_named name) sorted
+    ∙ ap first_of_all (sym (filter_agree t (is_named name) (ties_is_named name) sorted) ∙ stable (called name) ∙ filter_agree t (is_named name) (ties_is_named name) db)
+    ∙ sym (find-filter (is_named name) db)
+
+-- a stable sort by name that is freed of repetitions has the record of each name
+pub IsByName-from_sort : (db sorted known : List Record) → IsSorted record_cmp sorted → IsStable record_cmp db sorted
+    → known ≡ dedup (eq_by_cmp record_cmp) sorted → IsByName db known
+IsByName-from_sort db sorted known up stable same = subst (IsByName db) (sym same) (record {
+  ascending = IsStrictlySortedBy-dedup record_cmp_total (λ x y. refl) sorted up;
+  same = λ name. find-dedup (eq_by_cmp record_cmp) (is_named name) (λ x k tied. is_named-alike name x k tied) sorted
+      ∙ find-stable_record name db sorted stable;
+})
+
+-- what is strictly in order is in order
+not_back : {X : Type 0} (R : X → X → Ordering) → ((x y : X) → R x y ≡ ordering_reverse (R y x)) → (xs : List X)
+    → IsStrictlySortedBy R xs → IsSorted R xs
+not_back R turns xs ascending k d low high =
+    let below : R (get_or xs k d) (get_or xs (k + 1) d) ≡ Less =
+    AllPairs-rising R xs ascending k (k + 1) d (omega arith) high in
+    ap is_lt (turns (get_or xs (k + 1) d) (get_or xs k d) ∙ ap ordering_reverse below)
+
+-- of one name there is one record in order
+pub one_record : (known : List Record) (name : List ℕ) → IsStrictlySortedBy record_cmp known → (found other : Record) → Contains known found
+    → Contains known other → is_named name found ≡ true → is_named name other ≡ true → found ≡ other
+one_record known name ascending found other one two named named' = sorted-one record_cmp_total known ascending found other one two
+    ((Equal-is (record_cmp found other)).0
+    (is_eq-slice_cmp found.name other.name ∙ ap (bytes_eq found.name) (bytes_eq-true other.name name named') ∙ named))
+
+-- what a place that is within gives is the element there
+some-map : {A B : Type 0} (f : A → B) (o : Option A) → IsSome o → IsSome (option_map f o)
+some-map f None some = absurd (let e : false ≡ true = some in cc)
+some-map f (Some x) some = refl
+
+pub got : {A X : Type 0} (f : A → X) (o : Option A) (xs : List X) (i : ℕ) → i < length xs → IsSome o
+    → ((d : X) → unwrap_or (option_map f o) d ≡ get_or xs i d) → option_map f o ≡ slice_get xs i
+got {A} {X} f o xs i within some is = at (option_map f o) (some-map f o some) is
+  where
+    at : (p : Option X) → IsSome p → ((d : X) → unwrap_or p d ≡ get_or xs i d) → p ≡ slice_get xs i
+    at None none by = absurd (let e : false ≡ true = none in cc)
+    at (Some x) here by =
+        let there = slice_get-found (λ (y : X). x ≡ y) xs i within (λ d. by d) in
+        ap Some there.3 ∙ sym there.1
+
+-- the record at the place that a binary search finds is that of the name
+pub searched_record : (known : List Record) (name : List ℕ) (i : ℕ) → IsStrictlySortedBy record_cmp known
+    → IsSearchInRange (Ok i) (length known) → IsBinarySearchResult (λ (found : Record). name_cmp found.name name) known (Ok i)
+    → slice_get known i ≡ find (is_named name) known
+searched_record known name i ascending within found = searched_find (is_named name) (λ (found : Record). name_cmp found.name name) known i
+    (λ found. is_eq-slice_cmp found.name name) (λ found other. one_record known name ascending found other) within found
+
+pub searched_no_record : (known : List Record) (name : List ℕ) (i : ℕ) → IsStrictlySortedBy record_cmp known
+    → IsSearchInRange (Err i) (length known) → IsBinarySearchResult (λ (found : Record). name_cmp found.name name) known (Err i)
+    → None ≡ find (is_named name) known
+searched_no_record known name i ascending within found = sym (searched_none (is_named name) (λ (found : Record). name_cmp found.name name) known i
+    (λ found. is_eq-slice_cmp found.name name)
+    (searchable_from_sorted nat_list_cmp_total (λ (found : Record). found.name) known name
+    (not_back record_cmp record_cmp_total.antisymm known ascending)) within found)
+
+-- of one version of a name there is one stanza in order
+one_stanza : (ordered : List Listed) (name version : List ℕ) → IsStrictlySortedBy listed_cmp ordered → (found other : Listed)
+    → Contains ordered found → Contains ordered other → is_of name version found.pkg ≡ true → is_of name version other.pkg ≡ true
+    → found ≡ other
+one_stanza ordered name version ascending found other one two of of' = sorted-one listed_cmp_total ordered ascending found other one two
+    (listed_cmp-tied found other (same_pair name version found other (is_of-parts name version found.pkg of) (is_of-parts name version other.pkg of')))
+
+-- the order ties just the packages of the name and the version
+pkg_order-ties : (name version : List ℕ) (found : Listed) → is_eq (pkg_order found.pkg name version) ≡ is_of name version found.pkg
+pkg_order-ties name version found = is_eq-then (name_cmp found.pkg.name name) (version_cmp found.pkg.version version)
+    ∙ ap (λ (b : Bool). b && same_version found.pkg.version version) (is_eq-slice_cmp found.pkg.name name)
+
+-- the stanza at the place that a binary search finds is that of the version
+pub searched_stanza : (ordered : List Listed) (name version : List ℕ) (i : ℕ) → IsStrictlySortedBy listed_cmp ordered
+    → IsSearchInRange (Ok i) (length ordered) → IsBinarySearchResult (λ (found : Listed). pkg_order found.pkg name version) ordered (Ok i)
+    → slice_get ordered i ≡ stanza_of ordered name version
+searched_stanza ordered name version i ascending within found =
+    searched_find (λ (found : Listed). is_of name version found.pkg) (λ (found : Listed). pkg_order found.pkg name version) ordered i
+    (pkg_order-ties name version) (λ found other. one_stanza ordered name version ascending found other) within found
+
+pub searched_no_stanza : (ordered : List Listed) (name version : List ℕ) (i : ℕ) → IsStrictlySortedBy listed_cmp ordered
+    → IsSearchInRange (Err i) (length ordered) → IsBinarySearchResult (λ (found : Listed). pkg_order found.pkg name version) ordered (Err i)
+    → None ≡ stanza_of ordered name version
+searched_no_stanza ordered name version i ascending within found =
+    sym (searched_none (λ (found : Listed). is_of name version found.pkg) (λ (found : Listed). pkg_order found.pkg name version) ordered i
+    (pkg_order-ties name version)
+    (searchable_from_sorted listed_cmp_total (λ (found : Listed). found) ordered
+    (bare (record { name = name; version = version; relations = no_relations }))
+    (not_back listed_cmp listed_cmp_total.antisymm ordered ascending)) within found)

@@ -1,0 +1,201 @@
+-- What a binary search in a sorted list finds, and that the stanzas in order have the names of all.
+use Rattle.std.proofs.Common.{◌≡◌, ℕ, zero, suc, ◌+◌, ◌<◌, ◌≤◌, Bool, true, false, not, ◌&&◌, List, [], ◌∷◌, length, get_or, Result, Ok, Err, Option, Some, None, refl, sym, ap, ◌∙◌, arith, bytes_eq}
+use Rattle.std.specs.Prelude.{is_ok}
+use Rattle.std.specs.Cmp.Lexicographic.{nat_list_cmp_total}
+use Rattle.std.specs.List.{Any, Contains, find, list_any, slice_get}
+use Rattle.std.specs.List.Sorted.{IsBinarySearchResult, IsNonDecreasingBy, IsSearchInRange, IsSorted, IsSortedBy, IsStrictlySortedBy}
+use Rattle.std.specs.Option.{option_map, option_map_or}
+use Rattle.std.specs.Ordering.{is_eq, is_lt, ordering_index, ordering_reverse, ordering_then}
+use Rattle.std.specs.declared.cmp.Ordering.{Ordering}
+use Rattle.std.specs.declared.cmp.Ordering.TheVariants.{Less, Equal, Greater}
+use Rattle.std.proofs.lemmas.Bool.{cases_lt, false_from_ne_true}
+use Rattle.std.proofs.lemmas.List.Elements.{Contains-get_or}
+use Rattle.std.proofs.lemmas.List.Sorted.{searchable_from_sorted}
+use Rattle.std.proofs.lemmas.Map.Text.{is_eq-slice_cmp}
+use Rattle.rules.specs.Available.{is_of, same_version}
+use Rattle.rules.specs.ElementLaws.{Any-elim, Any-from_list_any, Contains-head, Contains-rest, list_any-from_contains}
+use Rattle.rules.specs.Database.{Record}
+use Rattle.rules.specs.Name.{name_cmp}
+use Rattle.rules.specs.State.{is_not_installed_state}
+use Rattle.rules.specs.Step.{Listed}
+use Rattle.rules.specs.Version.{version_cmp}
+use Rattle.rules.specs.declared.goal.Goal.{Goal}
+use Rattle.rules.specs.declared.goal.GoalLine.{GoalLine}
+use Rattle.universe_build.specs.Build.{first_unknown, has_name, is_unknown, named_by}
+use Rattle.universe_build.specs.Choice.{Exact, IsOrdered, exact_at, exact_cmp, is_sought, listed_cmp}
+use Rattle.universe_build.specs.ChoiceLaws.{exact_cmp_total}
+use Rattle.universe_build.proofs.Ordered.{found_ordered, ordered_stanza}
+use Rattle.universe_build.specs.Recorded.{IsByName, is_recorded}
+use Rattle.universe_build.proofs.Finding.{AllPairs-rising, find-exists, find-some}
+use Rattle.universe_build.proofs.StanzaOrder.{is_eq-then, of_itself}
+use mathlib.Core.Logic.{inl, inr}
+
+-- a binary search tells whether an element passes, where just those that are found equal pass
+pub searched_any : {X : Type 0} (test : X → Bool) (ord : X → Ordering) (xs : List X) (r : Result ℕ ℕ)
+    → ((x : X) → is_eq (ord x) ≡ test x) → IsNonDecreasingBy (λ x. ordering_index (ord x)) xs
+    → IsSearchInRange r (length xs) → IsBinarySearchResult ord xs r → is_ok r ≡ list_any test xs
+searched_any {X} test ord xs (Ok i) same rises within found = sym (some xs within found)
+  where
+    some : (ys : List X) → i < length ys → ((d : X) → ord (get_or ys i d) ≡ Equal) → list_any test ys ≡ true
+    some [] within found = absurd (omega arith)
+    some (y ∷ ys) within found = list_any-from_contains test (y ∷ ys) (get_or (y ∷ ys) i y)
+        (Contains-get_or (y ∷ ys) i y within)
+        (sym (same (get_or (y ∷ ys) i y)) ∙ ap is_eq (found y))
+searched_any {X} test ord xs (Err i) same rises within found =
+    sym (false_from_ne_true (list_any test xs) (λ some.
+    Any-elim' (Any-from_list_any test xs some)))
+  where
+    parts : ((k : ℕ) (d : X) → 0 ≤ k → k < i → ord (get_or xs k d) ≡ Less)
+        × ((k : ℕ) (d : X) → i ≤ k → k < length xs → ord (get_or xs k d) ≡ Greater)
+    parts = found rises
+
+    unlike : (x : X) → test x ≡ true → (o : Ordering) → is_eq o ≡ false → ord x ≡ o → ⊥
+    unlike x passes o other is =
+        let e : true ≡ false = sym passes ∙ sym (same x) ∙ ap is_eq is ∙ other in cc
+
+    Any-elim' : Any (λ x. test x ≡ true) xs → ⊥
+    Any-elim' (k, x, inside, is, passes) = elim (cases_lt k i) [
+      | inl below ↦ unlike x passes Less refl (ap ord (sym is) ∙ parts.0 k x (omega arith) below)
+      | inr above ↦ unlike x passes Greater refl (ap ord (sym is) ∙ parts.1 k x above inside)
+    ]
+
+-- of two in a row, the second isn't before the first
+not_before : (o v : Ordering) → ordering_then o v ≡ Less → is_lt (ordering_reverse o) ≡ false
+not_before Less v first = refl
+not_before Equal v first = refl
+not_before Greater v first = absurd (let e : Greater ≡ Less = first in cc)
+
+-- stanzas in order are in the order of their names
+sorted_names : (ordered : List Listed) → IsStrictlySortedBy listed_cmp ordered
+    → IsSortedBy (λ a b. is_lt (name_cmp a.pkg.name b.pkg.name)) ordered
+sorted_names ordered ascending k d low high =
+    let first : Listed = get_or ordered k d in
+    let next : Listed = get_or ordered (k + 1) d in
+    let below : listed_cmp first next ≡ Less = AllPairs-rising listed_cmp ordered ascending k (k + 1) d (omega arith) high in
+    ap is_lt (nat_list_cmp_total.antisymm next.pkg.name first.pkg.name)
+    ∙ not_before (name_cmp first.pkg.name next.pkg.name) (version_cmp first.pkg.version next.pkg.version) below
+
+-- a binary search among stanzas in order tells whether one has the name
+pub searched_name : (ordered : List Listed) (name : List ℕ) (r : Result ℕ ℕ) → IsStrictlySortedBy listed_cmp ordered
+    → IsSearchInRange r (length ordered) → IsBinarySearchResult (λ found. name_cmp found.pkg.name name) ordered r
+    → is_ok r ≡ has_name ordered name
+searched_name ordered name r ascending within found =
+    searched_any (λ (found : Listed). bytes_eq found.pkg.name name) (λ (found : Listed). name_cmp found.pkg.name name) ordered r
+    (λ found. is_eq-slice_cmp found.pkg.name name)
+    (searchable_from_sorted nat_list_cmp_total (λ (found : Listed). found.pkg.name) ordered name (sorted_names ordered ascending))
+    within found
+
+-- tied either way round
+is_eq-reverse : (o : Ordering) → is_eq (ordering_reverse o) ≡ is_eq o
+is_eq-reverse Less = refl
+is_eq-reverse Equal = refl
+is_eq-reverse Greater = refl
+
+-- what is sought ties with just the stanzas of that name and version
+exact_ties : (exact : Exact) (found : Listed)
+    → is_eq (exact_cmp exact (exact_at found)) ≡ is_of exact.name exact.version found.pkg
+exact_ties exact found = ap is_eq (exact_cmp_total.antisymm exact (exact_at found))
+    ∙ is_eq-reverse (exact_cmp (exact_at found) exact)
+    ∙ is_eq-then (name_cmp found.pkg.name exact.name) (version_cmp found.pkg.version exact.version)
+    ∙ ap (λ (b : Bool). b && same_version found.pkg.version exact.version) (is_eq-slice_cmp found.pkg.name exact.name)
+
+-- a binary search in what is sought tells whether the stanza is one
+pub searched_exact : (exacts : List Exact) (found : Listed) (r : Result ℕ ℕ) → IsSorted exact_cmp exacts
+    → IsSearchInRange r (length exacts) → IsBinarySearchResult (λ exact. exact_cmp exact (exact_at found)) exacts r
+    → is_ok r ≡ is_sought exacts found
+searched_exact exacts found r ascending within at =
+    searched_any (λ (exact : Exact). is_of exact.name exact.version found.pkg) (λ (exact : Exact). exact_cmp exact (exact_at found))
+    exacts r (λ exact. exact_ties exact found)
+    (searchable_from_sorted exact_cmp_total (λ (exact : Exact). exact) exacts (exact_at found) ascending) within at
+
+-- one test passes where the other does
+same_tests : (a b : Bool) → (a ≡ true → b ≡ true) → (b ≡ true → a ≡ true) → a ≡ b
+same_tests true b to back = sym (to refl)
+same_tests false true to back = back refl
+same_tests false false to back = refl
+
+-- the stanzas in order have the names of all stanzas
+has_name-ordered : (listed ordered : List Listed) → IsOrdered listed ordered → (name : List ℕ)
+    → has_name ordered name ≡ has_name listed name
+has_name-ordered listed ordered is name = same_tests (has_name ordered name) (has_name listed name)
+    (λ some. Any-elim named ordered (has_name listed name ≡ true)
+    (λ found within passes.
+    let at = find-some (λ (other : Listed). is_of found.pkg.name found.pkg.version other.pkg) listed found
+    (found_ordered listed ordered is found within found.pkg.name found.pkg.version (of_itself found.pkg)) in
+    list_any-from_contains has listed found at.0 passes)
+    (Any-from_list_any has ordered some))
+    (λ some. Any-elim named listed (has_name ordered name ≡ true)
+    (λ found within passes.
+    let there = ordered_stanza listed ordered is found within found.pkg.name found.pkg.version (of_itself found.pkg) in
+    list_any-from_contains has ordered there.0 there.1 (ap (λ (n : List ℕ). bytes_eq n name) there.2.0 ∙ passes))
+    (Any-from_list_any has listed some))
+  where
+    has : Listed → Bool
+    has found = bytes_eq found.pkg.name name
+
+    named : Listed → Type 0
+    named found = has found ≡ true
+
+-- two tests that agree find the same
+pub find-agree : {X : Type 0} (p q : X → Bool) → ((x : X) → p x ≡ q x) → (xs : List X) → find p xs ≡ find q xs
+find-agree p q same [] = refl
+find-agree p q same (x ∷ xs) =
+    let here : p x ≡ q x = same x in
+    let rest : find p xs ≡ find q xs = find-agree p q same xs in
+    cc
+
+-- among records and stanzas that have the same names a goal is unknown alike
+is_unknown-agree : (start known : List Record) (listed other : List Listed)
+    → ((name : List ℕ) → is_recorded start name ≡ is_recorded known name)
+    → ((name : List ℕ) → has_name listed name ≡ has_name other name) → (asked : Goal)
+    → is_unknown start listed asked ≡ is_unknown known other asked
+is_unknown-agree start known listed other alike same asked = at (named_by asked)
+  where
+    at : (o : Option (List ℕ)) → option_map_or (λ name. not (has_name listed name) && not (is_recorded start name)) o false
+        ≡ option_map_or (λ name. not (has_name other name) && not (is_recorded known name)) o false
+    at None = refl
+    at (Some name) = ap (λ (b : Bool). not b && not (is_recorded start name)) (same name)
+        ∙ ap (λ (b : Bool). not (has_name other name) && not b) (alike name)
+
+-- among the records and the stanzas in order the first unknown name is that among all
+pub first_unknown-ordered : (start known : List Record) (listed ordered : List Listed) → IsByName start known
+    → IsOrdered listed ordered → (lines : List GoalLine) → first_unknown known ordered lines ≡ first_unknown start listed lines
+first_unknown-ordered start known listed ordered are is lines = ap (option_map (λ (asked : GoalLine). asked.line))
+    (find-agree (λ (asked : GoalLine). is_unknown known ordered asked.goal) (λ (asked : GoalLine). is_unknown start listed asked.goal)
+    (λ asked. is_unknown-agree known start ordered listed
+    (λ name. ap (λ (o : Option Record). option_map_or (λ found. not (is_not_installed_state found.state)) o false) (are.same name))
+    (has_name-ordered listed ordered is) asked.goal) lines)
+
+-- a place that is within has an element
+pub slice_get-found : {X : Type 0} (P : X → Type 0) (xs : List X) (i : ℕ) → i < length xs → ((d : X) → P (get_or xs i d))
+    → (x : X) × (slice_get xs i ≡ Some x) × Contains xs x × P x
+slice_get-found P [] i within holds = absurd (omega arith)
+slice_get-found P (x ∷ xs) zero within holds = (x, refl, Contains-head x xs, holds x)
+slice_get-found {X} P (x ∷ xs) (suc i) within holds =
+    let later = slice_get-found P xs i (omega arith) (λ d. holds d) in
+    (later.0, later.1, Contains-rest x xs later.0 later.2, later.3)
+
+-- the element at the place that a binary search finds is the one that passes, where no other does
+pub searched_find : {X : Type 0} (test : X → Bool) (ord : X → Ordering) (xs : List X) (i : ℕ)
+    → ((x : X) → is_eq (ord x) ≡ test x)
+    → ((x y : X) → Contains xs x → Contains xs y → test x ≡ true → test y ≡ true → x ≡ y)
+    → i < length xs → ((d : X) → ord (get_or xs i d) ≡ Equal) → slice_get xs i ≡ find test xs
+searched_find test ord xs i same one within found =
+    let at = slice_get-found (λ x. ord x ≡ Equal) xs i within found in
+    let passes : test at.0 ≡ true = sym (same at.0) ∙ ap is_eq at.3 in
+    let first = find-exists test xs at.0 at.2 passes in
+    let there = find-some test xs first.0 first.1 in
+    at.1 ∙ ap Some (one at.0 first.0 at.2 there.0 passes there.1) ∙ sym first.1
+
+-- where a binary search finds nothing, nothing passes
+pub searched_none : {X : Type 0} (test : X → Bool) (ord : X → Ordering) (xs : List X) (i : ℕ)
+    → ((x : X) → is_eq (ord x) ≡ test x) → IsNonDecreasingBy (λ x. ordering_index (ord x)) xs
+    → IsSearchInRange (Err i) (length xs) → IsBinarySearchResult ord xs (Err i) → find test xs ≡ None
+searched_none {X} test ord xs i same rises within found = at (find test xs) refl
+  where
+    at : (o : Option X) → find test xs ≡ o → find test xs ≡ None
+    at None none = none
+    at (Some x) some =
+        let there = find-some test xs x some in
+        absurd (let e : false ≡ true = searched_any test ord xs (Err i) same rises within found
+        ∙ list_any-from_contains test xs x there.0 there.1 in cc)

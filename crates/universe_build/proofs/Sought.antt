@@ -1,0 +1,38 @@
+-- What is sought in order keeps the same stanzas as what is sought.
+use Rattle.std.proofs.Common.{◌≡◌, Bool, ◌||◌, List, [], ◌∷◌, map, Option, refl, sym, ap, subst, ◌∙◌}
+use Rattle.std.specs.List.{cons_option, filter, filter_map}
+use Rattle.std.specs.List.Sorted.{IsPermutation}
+use Rattle.std.proofs.lemmas.List.Elements.{filter_agree}
+use Rattle.std.proofs.lemmas.List.Sorted.{list_any-IsPermutation}
+use Rattle.rules.specs.Available.{is_of}
+use Rattle.rules.specs.Step.{Listed}
+use Rattle.rules.specs.declared.goal.GoalLine.{GoalLine}
+use Rattle.universe_build.specs.Build.{goals_of}
+use Rattle.universe_build.specs.Choice.{AreExacts, Exact, best_exacts, exact_of, exacts_of, is_sought}
+use Rattle.universe_build.specs.Offer.{Offer}
+use Rattle.universe_build.specs.Chosen.{admitted_among}
+
+-- what is left of changed elements by a filter that changes
+filter_map-map : {X Y Z : Type 0} (h : Y → Option Z) (f : X → Y) (xs : List X)
+    → filter_map h (map f xs) ≡ filter_map (λ x. h (f x)) xs
+filter_map-map h f [] = refl
+filter_map-map h f (x ∷ xs) = ap (cons_option (h (f x))) (filter_map-map h f xs)
+
+-- what is sought in order keeps the same stanzas
+pub admitted_alike : (lines : List GoalLine) (best : List Offer) (chosen asked : List Exact) (ordered kept : List Listed)
+    → AreExacts (best_exacts best) chosen → AreExacts (filter_map (λ line. exact_of line.goal) lines) asked
+    → kept ≡ filter (λ found. is_sought chosen found || is_sought asked found) ordered
+    → kept ≡ admitted_among best (exacts_of (goals_of lines)) ordered
+admitted_alike lines best chosen asked ordered kept of_best of_goals same =
+    let own : List Exact = exacts_of (goals_of lines) in
+    let goals_same : filter_map (λ (line : GoalLine). exact_of line.goal) lines ≡ own =
+    sym (filter_map-map exact_of (λ (line : GoalLine). line.goal) lines) in
+    let moved : IsPermutation own asked = subst (λ (e : List Exact). IsPermutation e asked) goals_same of_goals.same in
+    same ∙ filter_agree
+    (λ (found : Listed). is_sought chosen found || is_sought asked found) (λ (found : Listed). is_sought (best_exacts best) found || is_sought own found)
+    (λ found.
+    let test : Exact → Bool = λ (exact : Exact). is_of exact.name exact.version found.pkg in
+    let first : is_sought (best_exacts best) found ≡ is_sought chosen found = list_any-IsPermutation test (best_exacts best) chosen of_best.same in
+    let second : is_sought own found ≡ is_sought asked found = list_any-IsPermutation test own asked moved in
+    ap (λ (b : Bool). b || is_sought asked found) (sym first)
+    ∙ ap (λ (b : Bool). is_sought (best_exacts best) found || b) (sym second)) ordered

@@ -1,0 +1,11 @@
+-- What is sought, sorted.
+use Rattle.std.proofs.Common.{List, subst}
+use Rattle.std.specs.List.Sorted.{IsPermutation}
+use Rattle.universe_build.specs.Choice.{Exact}
+use Rattle.universe_build.proofs.exact.best_exacts.Goals as goal
+
+pub returns : goal.returns
+returns c = record {
+  ascending = c.in_ok-sort.ensures.sorted;
+  same = subst (λ (sought : List Exact). IsPermutation sought c.sort.new.self.items) c.in_ok-exacts.ensures c.sort.ensures.permutation;
+}

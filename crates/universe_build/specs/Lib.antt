@@ -1,0 +1,9 @@
+pub mod Build
+pub mod Choice
+pub mod ChoiceLaws
+pub mod Chosen
+pub mod Error
+pub mod Offer
+pub mod Recorded
+pub mod RecordedLaws
+pub mod UniverseLaws

@@ -1,0 +1,108 @@
+// The universe of a request over the records of the start and the indices.
+
+ghost use Rattle.std.specs.Prelude.{◌≡◌, IfOk, IfErr, map};
+ghost use Rattle.std.specs.List.Sorted.{IsStrictlySortedBy};
+ghost use Rattle.std.specs.Option.{option_copied};
+ghost use Rattle.rules.specs.Database.{HasDistinctNames};
+ghost use Rattle.rules.specs.Entry.{records_of};
+ghost use Rattle.universe_build.specs.Build.{first_unknown, goals_of, indices_of, is_unknown, named_by};
+ghost use Rattle.universe_build.specs.Choice.{listed_cmp};
+ghost use Rattle.universe_build.specs.Error.{IsBuilt, IsUniverseFault};
+ghost use Rattle.universe_build.specs.Recorded.{record_cmp};
+
+use crate::chosen::pairs_of;
+use crate::error::UniverseError;
+use crate::offer::{best_of, candidates_of, offers_of, upward};
+use crate::order::{Found, has_name, in_order};
+use crate::recorded::{Recorded, by_name, is_recorded, records_in, starts_of};
+use index::Index;
+use rules::{Goal, GoalLine, PAIRS};
+use status_record::Record;
+use std::alloc::{AllocError, Global};
+use universe::{Pairs, Universe};
+
+fn named_by(goal: &Goal) -> Option<&[u8]>
+    ensures { option_copied result ≡ named_by goal.now }
+{
+    match goal {
+        Goal::Install(name, _) | Goal::Remove(name) | Goal::Purge(name) | Goal::Upgrade(name) => {
+            Some(name.as_bytes())
+        }
+        Goal::UpgradeAll | Goal::NoRemove => None,
+    }
+}
+
+fn is_unknown(known: &[Recorded<'_, '_>], ordered: &[Found<'_, '_>], goal: &Goal) -> bool
+    requires known { IsStrictlySortedBy record_cmp known.now }
+    requires ordered { IsStrictlySortedBy listed_cmp ordered.now }
+    ensures { result ≡ is_unknown known.now ordered.now goal.now }
+{
+    match named_by(goal) {
+        None => false,
+        Some(name) => !has_name(ordered, name) && !is_recorded(known, name),
+    }
+}
+
+fn first_unknown(
+    known: &[Recorded<'_, '_>],
+    ordered: &[Found<'_, '_>],
+    lines: &[GoalLine],
+) -> Option<usize>
+    requires known { IsStrictlySortedBy record_cmp known.now }
+    requires ordered { IsStrictlySortedBy listed_cmp ordered.now }
+    ensures { result ≡ first_unknown known.now ordered.now lines.now }
+{
+    lines
+        .iter()
+        .find(|asked| is_unknown(known, ordered, &asked.goal))
+        .map(|asked| asked.line)
+}
+
+fn goals_of(alloc: Global, lines: Vec<GoalLine>) -> Result<Vec<Goal>, AllocError>
+    ensures { IfOk result (λ goals. goals.items ≡ goals_of lines.items) }
+{
+    lines.into_iter().map(|asked| asked.goal).collect(alloc)
+}
+
+/// The universe of the goals over the records of the start and the indices, where no record of preferences is given and no
+/// release is the target. The priority of a version is the greatest that a place with it gives by default: of the status
+/// file 100, of an index 500, or of a NotAutomatic index 100 with ButAutomaticUpgrades and 1 without (apt_preferences(5)).
+/// Of equal versions the one that stands counts, then the stanza of the earlier index, and then the earlier stanza. The
+/// relations of the admitted pairs alone are read.
+///
+/// It refuses the first goal that names a package that no stanza has and that is in no state but not-installed, then more
+/// than 1,000,000 admitted pairs, and growths that are refused. About n log n comparisons of n stanzas and records, and for
+/// m goals about m log n and n log m more.
+pub fn build<'a>(
+    alloc: Global,
+    start: &[&Record<'a>],
+    indices: &[Index<'a>],
+    goals: Vec<GoalLine>,
+) -> Result<Universe<'a>, UniverseError>
+    requires { HasDistinctNames (records_of (map (λ r. r.now) start.now)) }
+    ensures ok { IfOk result (λ u. IsBuilt (records_of (map (λ r. r.now) start.now)) (indices_of indices.now) goals.items u) }
+    ensures err { IfErr result (λ e. IsUniverseFault (records_of (map (λ r. r.now) start.now)) (indices_of indices.now) goals.items e) }
+{
+    let recorded = records_in(alloc, start)?;
+    let starts = starts_of(alloc, recorded.as_slice())?;
+    let offers = offers_of(alloc, recorded.as_slice(), indices)?;
+    let known = by_name(recorded)?;
+    let ordered = in_order(alloc, indices)?;
+    if let Some(line) = first_unknown(known.as_slice(), ordered.as_slice(), goals.as_slice()) {
+        return Err(UniverseError::UnknownName(line));
+    }
+    let best = best_of(upward(known.as_slice(), offers))?;
+    let pairs = pairs_of(
+        alloc,
+        known.as_slice(),
+        ordered,
+        best.as_slice(),
+        goals.as_slice(),
+    )?;
+    if pairs.len() > PAIRS {
+        return Err(UniverseError::TooLarge);
+    }
+    let candidates = candidates_of(alloc, best.as_slice())?;
+    let goals = goals_of(alloc, goals)?;
+    Ok(Universe::new(Pairs::new(pairs), goals, starts, candidates))
+}

@@ -1,0 +1,170 @@
+// The pairs that a request chooses from: those of what stands, and those of the stanzas that are chosen or asked for.
+
+ghost use Rattle.std.specs.Prelude.{◌≡◌, ◌||◌, IfOk, map};
+ghost use Rattle.std.specs.List.{filter};
+ghost use Rattle.std.specs.List.Sorted.{IsSorted, IsStrictlySortedBy};
+ghost use Rattle.universe_build.specs.Build.{goals_of};
+ghost use Rattle.universe_build.specs.Choice.{exact_cmp, exacts_of, is_sought, listed_cmp, listed_pair};
+ghost use Rattle.universe_build.specs.Chosen.{ArePairs, admitted_among, chosen_pairs, is_free, standing_pair, standing_stanza, standing_pairs};
+ghost use Rattle.universe_build.specs.Recorded.{record_cmp};
+
+use crate::exact::{Exact, best_exacts, exacts_of, is_sought};
+use crate::offer::Offer;
+use crate::order::{Found, stanza_of};
+use crate::recorded::{Recorded, is_held, stands_as};
+use index::Listed;
+use rules::GoalLine;
+use std::alloc::{AllocError, Global};
+use universe::Pair;
+
+// Whether the stanza is of a version that doesn't stand, of a name that isn't held.
+fn is_free(known: &[Recorded<'_, '_>], found: &Found<'_, '_>) -> bool
+    requires { IsStrictlySortedBy record_cmp known.now }
+    ensures { result ≡ is_free known.now found.now }
+{
+    !stands_as(known, found.name(), found.version()) && !is_held(known, found.name())
+}
+
+// Whether the stanza is of a version that is chosen or asked for.
+fn is_wanted(chosen: &[Exact<'_>], asked: &[Exact<'_>], found: &Found<'_, '_>) -> bool
+    requires chosen { IsSorted exact_cmp chosen.now }
+    requires asked { IsSorted exact_cmp asked.now }
+    ensures { result ≡ (is_sought chosen.now found.now || is_sought asked.now found.now) }
+{
+    is_sought(chosen, found) || is_sought(asked, found)
+}
+
+// Of stanzas in their order those that are free.
+fn free_of<'p, 'a>(known: &[Recorded<'_, '_>], ordered: Vec<Found<'p, 'a>>) -> Vec<Found<'p, 'a>>
+    requires { IsStrictlySortedBy record_cmp known.now }
+    ensures { result.items ≡ filter (is_free known.now) ordered.entry.items }
+{
+    let mut free = ordered;
+    free.retain(|found| is_free(known, found));
+    free
+}
+
+// Of stanzas in their order those that are wanted.
+fn wanted_of<'p, 'a>(
+    chosen: &[Exact<'_>],
+    asked: &[Exact<'_>],
+    ordered: Vec<Found<'p, 'a>>,
+) -> Vec<Found<'p, 'a>>
+    requires chosen { IsSorted exact_cmp chosen.now }
+    requires asked { IsSorted exact_cmp asked.now }
+    ensures { result.items ≡ filter (λ found. is_sought chosen.now found || is_sought asked.now found) ordered.entry.items }
+{
+    let mut kept = ordered;
+    kept.retain(|found| is_wanted(chosen, asked, found));
+    kept
+}
+
+// The stanzas of the best offers' versions, and those that the goals ask for with `=`.
+fn admitted<'p, 'a>(
+    alloc: Global,
+    ordered: Vec<Found<'p, 'a>>,
+    best: &[Offer<'a>],
+    lines: &[GoalLine],
+) -> Result<Vec<Found<'p, 'a>>, AllocError>
+    ensures { IfOk result (λ kept. kept.items ≡ admitted_among best.now (exacts_of (goals_of lines.now)) ordered.entry.items) }
+{
+    let chosen = best_exacts(alloc, best)?;
+    let asked = exacts_of(alloc, lines)?;
+    Ok(wanted_of(chosen.as_slice(), asked.as_slice(), ordered))
+}
+
+// The pairs of the stanzas, whose relations are read here.
+fn listed_pairs<'a>(alloc: Global, kept: &[Found<'_, 'a>]) -> Result<Vec<Pair<'a>>, AllocError>
+    ensures { IfOk result (λ pairs. pairs.items ≡ map listed_pair kept.now) }
+{
+    let mut pairs = Vec::new(alloc);
+    for found in kept {
+        let listed = found.listed(alloc)?;
+        pairs.push(Pair::listed_alone(listed))?;
+    }
+    Ok(pairs)
+}
+
+// The stanza of the record's version in the indices, if there is one.
+fn stanza_by<'a>(
+    alloc: Global,
+    ordered: &[Found<'_, 'a>],
+    found: &Recorded<'_, 'a>,
+) -> Result<Option<Listed<'a>>, AllocError>
+    requires { IsStrictlySortedBy listed_cmp ordered.now }
+    ensures { IfOk result (λ listed. listed ≡ standing_stanza ordered.now found.now) }
+{
+    let Some(version) = found.standing() else {
+        return Ok(None);
+    };
+    match stanza_of(ordered, found.name(), &version) {
+        None => Ok(None),
+        Some(stanza) => {
+            let listed = stanza.listed(alloc)?;
+            Ok(Some(listed))
+        }
+    }
+}
+
+// The pair of the record, if its package stands.
+fn standing_pair<'a>(
+    alloc: Global,
+    ordered: &[Found<'_, 'a>],
+    found: &Recorded<'_, 'a>,
+) -> Result<Option<Pair<'a>>, AllocError>
+    requires { IsStrictlySortedBy listed_cmp ordered.now }
+    ensures { IfOk result (λ pair. pair ≡ standing_pair ordered.now found.now) }
+{
+    let listed = stanza_by(alloc, ordered, found)?;
+    match found.standing_pkg(alloc)? {
+        None => Ok(None),
+        Some(pkg) => Ok(Some(Pair::standing(pkg, listed))),
+    }
+}
+
+// The pairs of what stands.
+fn standing_pairs<'a>(
+    alloc: Global,
+    known: &[Recorded<'_, 'a>],
+    ordered: &[Found<'_, 'a>],
+) -> Result<Vec<Pair<'a>>, AllocError>
+    requires { IsStrictlySortedBy listed_cmp ordered.now }
+    ensures { IfOk result (λ pairs. pairs.items ≡ standing_pairs ordered.now known.now) }
+{
+    let mut pairs = Vec::new(alloc);
+    for found in known {
+        if let Some(pair) = standing_pair(alloc, ordered, found)? {
+            pairs.push(pair)?;
+        }
+    }
+    Ok(pairs)
+}
+
+fn in_order<'a>(pairs: Vec<Pair<'a>>) -> Result<Vec<Pair<'a>>, AllocError>
+    ensures { IfOk result (λ ordered. ArePairs pairs.entry.items ordered.items) }
+{
+    let mut ordered = pairs;
+    ordered.sort()?;
+    // No two are of one name and version, so nothing is dropped: that each is before the next is seen from this call alone.
+    ordered.dedup();
+    Ok(ordered)
+}
+
+/// The pairs of what stands, and of what is chosen or asked for and free, in order. About n log n comparisons of n stanzas.
+pub fn pairs_of<'a>(
+    alloc: Global,
+    known: &[Recorded<'_, 'a>],
+    ordered: Vec<Found<'_, 'a>>,
+    best: &[Offer<'a>],
+    lines: &[GoalLine],
+) -> Result<Vec<Pair<'a>>, AllocError>
+    requires known { IsStrictlySortedBy record_cmp known.now }
+    requires ordered { IsStrictlySortedBy listed_cmp ordered.items }
+    ensures { IfOk result (λ pairs. ArePairs (chosen_pairs known.now ordered.entry.items best.now (exacts_of (goals_of lines.now))) pairs.items) }
+{
+    let mut pairs = standing_pairs(alloc, known, ordered.as_slice())?;
+    let kept = admitted(alloc, free_of(known, ordered), best, lines)?;
+    let mut listed = listed_pairs(alloc, kept.as_slice())?;
+    pairs.append(&mut listed)?;
+    in_order(pairs)
+}
