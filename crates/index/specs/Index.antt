@@ -1,20 +1,18 @@
 -- An index: the stanzas of a Packages file that count for an architecture, with their packages (Debian Policy 5.3,
 -- 5.6.1 and 5.6.8). That the others are skipped, after their Package was tested, is this project's own.
-use Rattle.std.specs.Prelude.{ℕ, ◌+◌, Bool, false, ◌||◌, List, [], ◌∷◌, ◌++◌, length, Option, Some, None, Result, Ok, Err, codes, bytes_eq, nat_le, nat_lt, if◌then◌else◌}
-use Rattle.std.specs.List.{list_any}
+use Rattle.std.specs.Prelude.{ℕ, ◌+◌, Bool, false, List, [], ◌∷◌, ◌++◌, length, Option, Some, None, Result, Ok, Err, codes, nat_le, nat_lt, if◌then◌else◌}
+use Rattle.package_stanza.specs.Stanza.{counts_for, is_essential, read_stanza}
 use Rattle.relation.specs.PkgFields.{fields_of}
 use Rattle.relation.specs.PkgText.{pkg_name_fault, read_fields}
 use Rattle.relation.specs.declared.error.PkgFault.{PkgFault}
 use Rattle.rules.specs.Available.{Index}
 use Rattle.rules.specs.Package.{Pkg}
-use Rattle.rules.specs.Stanza.{marks_essential}
 use Rattle.rules.specs.Step.{Listed}
 use Rattle.rules.specs.declared.release.Release.{Release}
 use Rattle.rules.specs.declared.limits.TheConstants.{TEXT_BYTES, PACKAGES}
 use Rattle.stanza.specs.declared.error.StanzaError.{StanzaError}
 use Rattle.stanza.specs.Field.{FieldText, value_named}
 use Rattle.stanza.specs.Stanza.{StanzaText, items_of}
-use Rattle.index.specs.Listed.{field_of, read_stanza}
 use Rattle.index.specs.declared.error.IndexFault.{IndexFault}
 use Rattle.index.specs.declared.error.IndexFault.TheVariants as fault
 
@@ -27,14 +25,6 @@ pub record ReadStanzas : Type 0 where
 pub record ReadIndex : Type 0 where
   pub index : Index
   pub skipped : ℕ
-
--- a field marks the package essential
-abbrev pub is_essential : List FieldText → Bool
-is_essential fields = list_any (λ field. marks_essential (field_of field)) fields
-
--- the architecture counts: it is `all` or the configured one
-abbrev pub counts_for : List ℕ → List ℕ → Bool
-counts_for arch value = bytes_eq value (codes "all") || bytes_eq value arch
 
 -- a stanza with its package, if that isn't refused
 abbrev pub listed_with : StanzaText → Result Pkg PkgFault → Result (Option Listed) IndexFault

@@ -1,4 +1,3 @@
-pub mod Listed
 pub mod Error
 pub mod Sources
 pub mod Index

@@ -3,7 +3,7 @@
 ghost use Rattle.std.specs.Prelude.{◌≡◌, IfOk, MatchResult, None, Ok, Some};
 ghost use Rattle.relation.specs.PkgFields.{fields_of};
 ghost use Rattle.relation.specs.PkgText.{pkg_fault, pkg_of, read_pkg};
-ghost use Rattle.index.specs.Listed.{read_stanza};
+ghost use Rattle.package_stanza.specs.Stanza.{read_stanza};
 
 use crate::listed::Listed;
 use relation::{Pkg, PkgError, PkgFault, PkgFields, Version};
@@ -28,7 +28,7 @@ impl<'a> Model for Entry<'a> {
     ghost use Rattle.relation.specs.PkgFields.{fields_of};
     ghost use Rattle.relation.specs.PkgText.{pkg_fault, pkg_of, value_in};
     ghost use Rattle.rules.specs.Step.{Listed as ListedValue};
-    ghost use Rattle.index.specs.Listed.{read_stanza};
+    ghost use Rattle.package_stanza.specs.Stanza.{read_stanza};
 
     ghost Value = { ListedValue };
 

@@ -1,45 +1,14 @@
 //! One item of an index's text: whether its stanza counts, and what it gives.
-ghost use Rattle.std.specs.Prelude.{◌≡◌, ◌||◌, Err, MatchResult, None, Ok, Some};
+ghost use Rattle.std.specs.Prelude.{◌≡◌, Err, MatchResult, None, Ok, Some};
 ghost use Rattle.relation.specs.PkgFields.{fields_of};
 ghost use Rattle.relation.specs.PkgText.{pkg_fault, pkg_of, read_fields};
-ghost use Rattle.rules.specs.Stanza.{is_called, marks_essential};
 ghost use Rattle.index.specs.Index as Spec;
-ghost use Rattle.index.specs.Listed.{field_of, read_stanza};
 
 use crate::entry::Entry;
 use crate::error::IndexFault;
+use package_stanza::{counts_for, is_essential};
 use relation::PkgFields;
-use stanza::{Field, Stanza, StanzaError};
-
-fn is_called(name: &[u8], field: &Field<'_>) -> bool
-    ensures { result ≡ is_called name.now (field_of field.now) }
-{
-    field.name().eq_ignore_ascii_case(name)
-}
-
-fn marks_essential(field: &Field<'_>) -> bool
-    ensures { result ≡ marks_essential (field_of field.now) }
-{
-    (is_called(b"Essential", field) || is_called(b"Protected", field))
-        && field.value() == b"yes".as_slice()
-}
-
-fn is_essential(stanza: &Stanza<'_>) -> bool
-    ensures { result ≡ Spec.is_essential stanza.now.fields }
-{
-    for field in stanza.fields() {
-        if marks_essential(&field) {
-            return true;
-        }
-    }
-    false
-}
-
-fn counts_for(arch: &[u8], value: &[u8]) -> bool
-    ensures { result ≡ Spec.counts_for arch.now value.now }
-{
-    value == b"all".as_slice() || value == arch
-}
+use stanza::{Stanza, StanzaError};
 
 // The stanza, which counts, with the package of these fields.
 fn read_listed<'a>(

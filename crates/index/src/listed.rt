@@ -1,7 +1,7 @@
 // A stanza of an index with its package.
 
 ghost use Rattle.std.specs.Prelude.{◌≡◌};
-ghost use Rattle.index.specs.Listed.{read_stanza};
+ghost use Rattle.package_stanza.specs.Stanza.{read_stanza};
 
 use relation::Pkg;
 use stanza::Stanza;
@@ -17,7 +17,7 @@ pub struct Listed<'a> {
 
 impl<'a> Model for Listed<'a> {
     ghost use Rattle.rules.specs.Step.{Listed as ListedValue};
-    ghost use Rattle.index.specs.Listed.{read_stanza};
+    ghost use Rattle.package_stanza.specs.Stanza.{read_stanza};
 
     ghost Value = { ListedValue };
 

@@ -1,6 +1,6 @@
 -- The stanza of a record, by its origin: as it was read, touched, and as the donor of fields Conffiles.
 use Rattle.std.proofs.Common.{◌≡◌, List, Option, None, refl, sym, ap, ◌∙◌, codes}
-use Rattle.index.specs.Listed.{read_stanza}
+use Rattle.package_stanza.specs.Stanza.{read_stanza}
 use Rattle.rules.specs.Database.{Record}
 use Rattle.rules.specs.Entry.{written_config_version, touched_stanza, unpacked_stanza}
 use Rattle.rules.specs.Stanza.{Field, Stanza, fields_called}

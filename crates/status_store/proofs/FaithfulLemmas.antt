@@ -3,7 +3,7 @@ use Rattle.std.proofs.Common.{◌≡◌, ℕ, Bool, true, false, List, [], ◌�
 use Rattle.std.specs.Prelude.{Contains}
 use Rattle.std.specs.List.{AllByRecursion}
 use Rattle.std.specs.Option.{option_and_then}
-use Rattle.index.specs.Listed.{read_stanza}
+use Rattle.package_stanza.specs.Stanza.{read_stanza}
 use Rattle.rules.specs.ElementLaws.{Contains-head, Contains-rest}
 use Rattle.rules.specs.Entry.{Entry}
 use Rattle.rules.specs.VersionFault.{first_fault}

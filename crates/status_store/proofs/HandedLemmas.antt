@@ -3,8 +3,8 @@ use Rattle.std.proofs.Common.{◌≡◌, ℕ, Bool, true, false, List, [], ◌�
 use Rattle.std.specs.Prelude.{Contains}
 use Rattle.std.specs.Option.{option_or}
 use Rattle.index.specs.Alone.{alone_in, unless_refused}
-use Rattle.index.specs.Index.{counts_for, is_essential, listed_with, read_entry, read_listed, read_native, unless_name_fault}
-use Rattle.index.specs.Listed.{read_stanza}
+use Rattle.index.specs.Index.{listed_with, read_entry, read_listed, read_native, unless_name_fault}
+use Rattle.package_stanza.specs.Stanza.{counts_for, is_essential, read_stanza}
 use Rattle.index.specs.declared.error.IndexFault.{IndexFault}
 use Rattle.relation.specs.PkgFields.{fields_of}
 use Rattle.relation.specs.PkgText.{pkg_fault, pkg_name_fault, pkg_of, pkg_version_fault, relations_fault, unless_fault}

@@ -2,7 +2,7 @@
 -- not-installed stanza of another architecture is this project's own.
 use Rattle.std.specs.Prelude.{ℕ, List, [], ◌∷◌, ◌++◌}
 use Rattle.std.specs.List.{flat_map}
-use Rattle.index.specs.Listed.{read_stanza}
+use Rattle.package_stanza.specs.Stanza.{read_stanza}
 use Rattle.rules.specs.Entry.{Entry}
 use Rattle.rules.specs.Stanza.{Stanza}
 use Rattle.status_text.specs.declared.slot.Slot.{Slot}

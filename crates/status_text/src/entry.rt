@@ -1,12 +1,9 @@
 //! One stanza of the status file: its slot, or its first refusal.
 ghost use Rattle.std.specs.Prelude.{◌≡◌, IfErr, IfOk, IsTrue, MatchResult, None, Ok, Some};
 ghost use Rattle.std.specs.Option.{option_and_then};
-ghost use Rattle.index.specs.Index as Index;
-ghost use Rattle.index.specs.Listed.{field_of};
 ghost use Rattle.relation.specs.PkgFields.{fields_of};
 ghost use Rattle.relation.specs.PkgText.{pkg_name_fault, version_fault};
 ghost use Rattle.rules.specs.Name.{is_name};
-ghost use Rattle.rules.specs.Stanza.{is_called, marks_essential};
 ghost use Rattle.status_text.specs.Error.{IsStatusFault};
 ghost use Rattle.status_text.specs.Mark.{name_in};
 ghost use Rattle.status_text.specs.Record as Spec;
@@ -21,33 +18,10 @@ use crate::record::StatusRecord;
 use crate::seen::Seen;
 use crate::slot::Slot;
 use debversion::Version;
+use package_stanza::is_essential;
 use relation::{PkgFault, PkgFields, RequiredField};
 use rules::State;
 use stanza::{Field, Stanza};
-
-fn is_called(name: &[u8], field: &Field<'_>) -> bool
-    ensures { result ≡ is_called name.now (field_of field.now) }
-{
-    field.name().eq_ignore_ascii_case(name)
-}
-
-fn marks_essential(field: &Field<'_>) -> bool
-    ensures { result ≡ marks_essential (field_of field.now) }
-{
-    (is_called(b"Essential", field) || is_called(b"Protected", field))
-        && field.value() == b"yes".as_slice()
-}
-
-fn is_essential(stanza: &Stanza<'_>) -> bool
-    ensures { result ≡ Index.is_essential stanza.now.fields }
-{
-    for field in stanza.fields() {
-        if marks_essential(&field) {
-            return true;
-        }
-    }
-    false
-}
 
 // The version that the field spells, if there is one.
 fn version_in<'a>(field: &Option<Field<'a>>) -> Result<Option<Version<'a>>, PkgFault>

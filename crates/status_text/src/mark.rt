@@ -1,7 +1,6 @@
 //! What the field Status of a stanza says of its package, and whether the stanza counts.
 ghost use Rattle.std.specs.Prelude.{◌≡◌, codes};
 ghost use Rattle.stanza.specs.Field as FieldSpec;
-ghost use Rattle.index.specs.Index as Index;
 ghost use Rattle.relation.specs.PkgFields.{field_named};
 ghost use Rattle.status_text.specs.Mark as Spec;
 ghost use Rattle.status_text.specs.Mark.{name_in};
@@ -9,6 +8,7 @@ ghost use Rattle.status_text.specs.Mark.{name_in};
 use crate::error::{RequiredField, StatusFault};
 use crate::name::PackageName;
 use crate::words::{StateWord, StatusWords, read_words};
+use package_stanza::counts_for;
 use relation::PkgFields;
 use rules::{Flag, State, Want};
 use stanza::{Field, Stanza};
@@ -67,12 +67,6 @@ pub fn mark_in<'a>(name: &'a [u8], stanza: &Stanza<'a>) -> Result<Mark, StatusFa
             Some(words) => mark_of(name, words),
         },
     }
-}
-
-fn counts_for(arch: &[u8], value: &[u8]) -> bool
-    ensures { result ≡ Index.counts_for arch.now value.now }
-{
-    value == b"all".as_slice() || value == arch
 }
 
 /// Whether the stanza of the package of this name, which is in this state, has a record.

@@ -1,5 +1,5 @@
 use Rattle.std.proofs.Common.{ap, refl, ◌∙◌}
-use Rattle.index.specs.Listed.{read_stanza}
+use Rattle.package_stanza.specs.Stanza.{read_stanza}
 use Rattle.status_record.proofs.OriginLemmas.{unpacked_as}
 use Rattle.status_record.proofs.record.Record.of_entry.Goals as goal
 
