@@ -7,8 +7,6 @@ mod compare;
 mod feed;
 mod parse;
 mod spelling;
-#[cfg(test)]
-mod tests;
 mod version;
 
 pub use rules::{BadVersion, Op};

@@ -8,8 +8,6 @@ mod group;
 mod laws;
 mod plan;
 mod step_line;
-#[cfg(test)]
-mod tests;
 
 pub use error::{PlanError, PlanFault};
 pub use laws::a_plan_is_the_text_of_its_steps;

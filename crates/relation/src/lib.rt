@@ -12,8 +12,6 @@ mod matching;
 mod parse;
 mod pkg;
 mod provided;
-#[cfg(test)]
-mod tests;
 
 pub use atom::{Atom, Clause};
 pub use debversion::{Op, Version};

@@ -8,8 +8,6 @@ mod cut;
 mod error;
 mod refusal;
 mod shape;
-#[cfg(test)]
-mod tests;
 
 pub use cut::{
     Separator, cut_part, inside_of, is_blank, is_foreign, name_len, split_name, split_operator,

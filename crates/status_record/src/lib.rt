@@ -8,8 +8,6 @@ mod fields;
 mod laws;
 mod origin;
 mod record;
-#[cfg(test)]
-mod tests;
 mod words;
 mod write;
 

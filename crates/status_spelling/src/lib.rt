@@ -4,8 +4,6 @@
 #![tactic(auto)]
 
 pub mod laws;
-#[cfg(test)]
-mod tests;
 mod write;
 
 pub use write::{write_bytes, write_field};

@@ -10,8 +10,6 @@ mod group;
 mod laws;
 mod named;
 mod table;
-#[cfg(test)]
-mod tests;
 
 pub use database::Database;
 pub use error::{ApplyError, StepName};

@@ -11,8 +11,6 @@ mod read;
 mod record;
 mod seen;
 mod slot;
-#[cfg(test)]
-mod tests;
 mod words;
 
 pub use error::{RequiredField, StatusError, StatusFault};

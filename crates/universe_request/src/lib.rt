@@ -5,8 +5,6 @@
 mod error;
 mod goal_text;
 mod request;
-#[cfg(test)]
-mod tests;
 mod words;
 
 pub use error::{RequestError, RequestFault};

@@ -1,6 +1,7 @@
 //! Values of relation fields: what they spell, and that a parser refuses what the check refuses.
-use super::{shown_atoms, shown_clauses, shown_items, unescaped};
-use crate::{Form, RelationError, check, parse_atoms, parse_clauses, parse_provides};
+use crate::shown::{shown_atoms, shown_clauses, shown_items};
+use crate::texts::unescaped;
+use relation::{Form, RelationError, check, parse_atoms, parse_clauses, parse_provides};
 use std::alloc::Global;
 use std::process::Abort;
 use std::test::Fail;

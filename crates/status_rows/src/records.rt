@@ -1,7 +1,8 @@
 //! What the clauses do not say: that the calls succeed, and worked stanzas. The rows were written by hand: the words are
 //! those of dpkg(1), the architecture is amd64, and `$` stands for a newline.
-use crate::Record;
+use crate::texts::unescaped;
 use index::{Entry, read_alone};
+use status_record::Record;
 use status_text::{Slot, read_status};
 use std::alloc::Global;
 use std::str;
@@ -11,15 +12,6 @@ const ARCH: &[u8] = b"amd64";
 
 const UNPACKED: &[u8] =
     b"Filename: f\nPackage: x\nVersion: 2\nArchitecture: all\nsha256: 0\nConffiles:\n /etc/new n\nDepends: y, z\nDescription: d\n more\n";
-
-// The bytes of a row's text.
-fn unescaped(alloc: Global, text: &str) -> Result<Vec<u8>, Fail> {
-    let mut bytes = Vec::new(alloc);
-    for byte in text.as_bytes() {
-        bytes.push(if *byte == b'$' { b'\n' } else { *byte })?;
-    }
-    Ok(bytes)
-}
 
 // The record after an action: `u` unpacks over it, `d` deconfigures, `c` configures and `r` removes it.
 fn after<'a>(record: &Record<'a>, entry: &Entry<'a>, action: u8) -> Record<'a> {

@@ -1,6 +1,6 @@
 // Rows from the standards, from dpkg and from counting by hand.
 
-use super::*;
+use debversion::{BadVersion, Op, Version};
 use std::alloc::AllocError;
 use std::cmp::Ordering;
 

@@ -1,5 +1,6 @@
 //! Texts of plans, each with what it is to be read as. The format is this project's own; lines were counted by hand.
-use crate::{PlanError, PlanFault, read_plan};
+use crate::texts::unescaped;
+use plantext::{PlanError, PlanFault, read_plan};
 use rules::Step;
 use std::alloc::Global;
 use std::process::Abort;
@@ -44,15 +45,6 @@ fn shown(alloc: Global, text: &[u8]) -> Result<String, Fail> {
         }
         Err(error) => Ok(format!(in alloc; "{error}")?),
     }
-}
-
-// The bytes of a row's text, in which `$` stands for a newline.
-fn unescaped(alloc: Global, text: &str) -> Result<Vec<u8>, Fail> {
-    let mut bytes = Vec::new(alloc);
-    for byte in text.as_bytes() {
-        bytes.push(if *byte == b'$' { b'\n' } else { *byte })?;
-    }
-    Ok(bytes)
 }
 
 // The text before the arrow is read or refused as is said behind it.

@@ -1,6 +1,9 @@
 //! Packages of stanzas, their refusals, and which package matches which atom.
-use super::{shown_atoms, shown_clauses, shown_items, unescaped};
-use crate::{Pkg, PkgError, PkgFields, RelationError, parse_atoms, parse_clauses, parse_provides};
+use crate::shown::{shown_atoms, shown_clauses, shown_items};
+use crate::texts::unescaped;
+use relation::{
+    Pkg, PkgError, PkgFields, RelationError, parse_atoms, parse_clauses, parse_provides,
+};
 use stanza::Stanzas;
 use std::alloc::Global;
 use std::str;

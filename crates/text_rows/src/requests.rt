@@ -1,11 +1,12 @@
 //! Requests, each with what it is to be read as. The format is this project's own, its atoms are those of Policy
 //! 7.1; lines were counted by hand.
-use crate::{GoalLine, Request, RequestError, RequestFault};
+use crate::texts::unescaped;
 use rules::{Goal, Name, Op, Restriction};
 use std::alloc::Global;
 use std::process::Abort;
 use std::str;
 use std::test::Fail;
+use universe_request::{GoalLine, Request, RequestError, RequestFault};
 
 const ARCH: &[u8] = b"amd64";
 
@@ -62,15 +63,6 @@ fn shown(alloc: Global, text: &[u8]) -> Result<String, Fail> {
         shown.push_str(";")?;
     }
     Ok(shown)
-}
-
-// The bytes of a row's text, in which `$` stands for a newline.
-fn unescaped(alloc: Global, text: &str) -> Result<Vec<u8>, Fail> {
-    let mut bytes = Vec::new(alloc);
-    for byte in text.as_bytes() {
-        bytes.push(if *byte == b'$' { b'\n' } else { *byte })?;
-    }
-    Ok(bytes)
 }
 
 // The text before the arrow is read or refused as is said behind it.

@@ -1,22 +1,14 @@
 //! What the clauses do not say: printed refusals, worked texts, and that the calls succeed. The texts and what actions
 //! leave were worked out by hand from dpkg(1) and Debian Policy 5; the architecture is amd64.
-use crate::{ApplyError, Database, Step};
+use crate::texts::unescaped;
 use debversion::Version;
 use rules::{Name, Names, VersionText, is_name};
+use status_store::{ApplyError, Database, Step};
 use std::alloc::Global;
 use std::str;
 use std::test::Fail;
 
 const ARCH: &[u8] = b"amd64";
-
-// The bytes of a part of a row, where `$` stands for a newline.
-fn unescaped(alloc: Global, text: &str) -> Result<Vec<u8>, Fail> {
-    let mut bytes = Vec::new(alloc);
-    for byte in text.as_bytes() {
-        bytes.push(if *byte == b'$' { b'\n' } else { *byte })?;
-    }
-    Ok(bytes)
-}
 
 fn parts_of(alloc: Global, row: &str) -> Result<Vec<Vec<u8>>, Fail> {
     let mut parts = Vec::new(alloc);

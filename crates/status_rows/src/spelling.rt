@@ -1,5 +1,6 @@
 //! What the clauses don't say: that the calls succeed, and the texts of a few fields and stanzas, written by hand.
-use crate::{write_bytes, write_field};
+use crate::texts::unescaped;
+use status_spelling::{write_bytes, write_field};
 use std::alloc::Global;
 use std::test::Fail;
 
@@ -14,15 +15,6 @@ fn the_readme_example(rt: HostRuntime) -> Result<(), Fail> {
         b"Package: foo\nConffiles:\n /etc/foo 0\nVersion:   1\n".as_slice()
     );
     Ok(())
-}
-
-// The bytes of a row's text, in which `$` stands for a newline.
-fn unescaped(alloc: Global, text: &str) -> Result<Vec<u8>, Fail> {
-    let mut bytes = Vec::new(alloc);
-    for byte in text.as_bytes() {
-        bytes.push(if *byte == b'$' { b'\n' } else { *byte })?;
-    }
-    Ok(bytes)
 }
 
 // The field before the arrow, its name and its value behind a `=`, has the text behind it.

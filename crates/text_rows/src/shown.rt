@@ -1,8 +1,5 @@
-//! Rows from Policy 7.1 and 7.5 and by hand: what the clauses do not say. Offsets were counted in the row's text.
-mod fields;
-mod packages;
-
-use crate::{Atom, Clause, Op, Provided};
+//! Atoms, clauses and items as a row spells them.
+use relation::{Atom, Clause, Op, Provided};
 use std::alloc::Global;
 use std::str;
 use std::test::Fail;
@@ -30,7 +27,7 @@ fn write_atom(shown: &mut String, atom: &Atom<'_>) -> Result<(), Fail> {
 }
 
 /// The atoms, each as its name, a `!` where it is foreign, and its restriction; a comma stands between them.
-fn shown_atoms(alloc: Global, atoms: &[Atom<'_>]) -> Result<String, Fail> {
+pub(crate) fn shown_atoms(alloc: Global, atoms: &[Atom<'_>]) -> Result<String, Fail> {
     let mut shown = String::new(alloc);
     for atom in atoms {
         if !shown.is_empty() {
@@ -42,7 +39,7 @@ fn shown_atoms(alloc: Global, atoms: &[Atom<'_>]) -> Result<String, Fail> {
 }
 
 /// The clauses, each in brackets.
-fn shown_clauses(alloc: Global, clauses: &[Clause<'_>]) -> Result<String, Fail> {
+pub(crate) fn shown_clauses(alloc: Global, clauses: &[Clause<'_>]) -> Result<String, Fail> {
     let mut shown = String::new(alloc);
     for clause in clauses {
         shown.push_str("[")?;
@@ -53,7 +50,7 @@ fn shown_clauses(alloc: Global, clauses: &[Clause<'_>]) -> Result<String, Fail> 
 }
 
 /// The items, each as its name, a `!` where it is foreign, and its version behind a `=`.
-fn shown_items(alloc: Global, items: &[Provided<'_>]) -> Result<String, Fail> {
+pub(crate) fn shown_items(alloc: Global, items: &[Provided<'_>]) -> Result<String, Fail> {
     let mut shown = String::new(alloc);
     for item in items {
         if !shown.is_empty() {
@@ -69,13 +66,4 @@ fn shown_items(alloc: Global, items: &[Provided<'_>]) -> Result<String, Fail> {
         }
     }
     Ok(shown)
-}
-
-// The bytes of a row's text, in which `$` stands for a newline.
-fn unescaped(alloc: Global, text: &str) -> Result<Vec<u8>, Fail> {
-    let mut bytes = Vec::new(alloc);
-    for byte in text.as_bytes() {
-        bytes.push(if *byte == b'$' { b'\n' } else { *byte })?;
-    }
-    Ok(bytes)
 }

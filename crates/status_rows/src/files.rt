@@ -1,8 +1,7 @@
 //! What the clauses do not say: printed refusals, worked texts and their readings, and that the calls succeed. Lines and
 //! offsets were counted in the row's text; the words are those of dpkg(1), and the architecture is amd64.
-use crate::words::{StateWord, StatusWords, read_words};
-use crate::{Slot, StatusError, StatusRecord, read_status};
-use rules::{Flag, State, Want};
+use crate::texts::unescaped;
+use status_text::{Slot, StatusError, StatusRecord, read_status};
 use std::alloc::Global;
 use std::str;
 use std::test::Fail;
@@ -55,67 +54,39 @@ fn shown(alloc: Global, text: &str) -> Result<String, Fail> {
     Ok(shown)
 }
 
-fn plain(want: Want, flag: Flag, state: State) -> Option<StatusWords> {
-    let state = StateWord::Plain(state);
-    Some(StatusWords { want, flag, state })
-}
-
-// dpkg(1), "Package states", "Package selection states" and "Package flags"; `ok` is the flag of none.
-fn words_named(value: &str) -> Option<StatusWords> {
-    let triggers = StatusWords {
-        want: Want::Install,
-        flag: Flag::Sound,
-        state: StateWord::Triggers,
-    };
-    match value {
-        "unknown ok not-installed" => plain(Want::Unknown, Flag::Sound, State::NotInstalled),
-        "install ok config-files" => plain(Want::Install, Flag::Sound, State::ConfigFiles),
-        "hold\treinstreq half-installed" => {
-            plain(Want::Hold, Flag::ReinstallRequired, State::HalfInstalled)
-        }
-        "deinstall \t ok unpacked" => plain(Want::Deinstall, Flag::Sound, State::Unpacked),
-        "purge ok half-configured" => plain(Want::Purge, Flag::Sound, State::HalfConfigured),
-        "install ok installed" => plain(Want::Install, Flag::Sound, State::Installed),
-        "install ok triggers-awaited" | "install ok triggers-pending" => Some(triggers),
-        _ => None,
-    }
-}
-
+// dpkg(1), "Package states", "Package selection states" and "Package flags"; `ok` is the flag of none, and words are parted by
+// spaces and tabs. `$` stands for a newline.
 const WORDS: &str = "\
-unknown ok not-installed
-install ok config-files
-hold\treinstreq half-installed
-deinstall \t ok unpacked
-purge ok half-configured
-install ok installed
-install ok triggers-awaited
-install ok triggers-pending
+unknown ok not-installed→Unknown Sound NotInstalled
+install ok config-files→Install Sound ConfigFiles
+deinstall \t ok config-files→Deinstall Sound ConfigFiles
+purge reinstreq config-files→Purge ReinstallRequired ConfigFiles
+hold\tok not-installed→Hold Sound NotInstalled
+hold\treinstreq half-installed$Version: 1$Architecture: all→Hold ReinstallRequired HalfInstalled 1
+deinstall \t ok unpacked$Version: 1$Architecture: all→Deinstall Sound Unpacked 1
+purge ok half-configured$Version: 1$Architecture: all→Purge Sound HalfConfigured 1
+install ok installed$Version: 1$Architecture: all→Install Sound Installed 1 config 1
 ";
 
-#[test]
-fn three_words_of_the_lists_are_read(rt: HostRuntime) {
-    for value in WORDS.lines() {
-        assert!(rt;
-            read_words(value.as_bytes()) == words_named(value),
-            "{value}"
-        );
-    }
+// The stanza of `a` with this Status, with its other fields behind it, has this record.
+fn is_said(alloc: Global, row: &str) -> Result<bool, Fail> {
+    let Some((status, wanted)) = row.split_once('→') else {
+        return Ok(false);
+    };
+    let mut text = unescaped(alloc, "Package: a$Status: ")?;
+    text.extend_from_slice(unescaped(alloc, status)?.as_slice())?;
+    let mut record = String::from_str(alloc, "a ")?;
+    record.push_str(wanted)?;
+    record.push_str(";")?;
+    Ok(shown(alloc, str::from_utf8(text.as_slice())?)? == record)
 }
 
 #[test]
-fn other_words_are_refused(rt: HostRuntime) {
-    let rows = [
-        "",
-        "install ok",
-        "ok install installed",
-        "install ok installed ok",
-        "Install ok installed",
-        "install\nok installed",
-        "install ok installe",
-    ];
-    for value in rows {
-        assert_eq!(rt; read_words(value.as_bytes()), None, "of {value}");
+fn three_words_of_the_lists_are_read(rt: HostRuntime) -> Result<(), Fail> {
+    for row in WORDS.lines() {
+        assert!(rt; is_said(rt.alloc(), row)?, "{row}");
     }
+    Ok(())
 }
 
 #[test]
@@ -147,7 +118,14 @@ fn records_are_those_of_the_text(rt: HostRuntime) -> Result<(), Fail> {
 
 // `$` stands for a newline.
 const REFUSED: &str = "\
+Package: x$Status:$→E12 BadStatus 2
 Package: x$Status: install ok$→E12 BadStatus 2
+Package: x$Status: ok install installed$→E12 BadStatus 2
+Package: x$Status: install ok installed ok$→E12 BadStatus 2
+Package: x$Status: Install ok installed$→E12 BadStatus 2
+Package: x$Status: install$ ok installed$→E12 BadStatus 2
+Package: x$Status: install ok installe$→E12 BadStatus 2
+Package: x$Status: install ok triggers-awaited$→E15 TriggerState x
 Package: x$Status: install ok triggers-pending$→E15 TriggerState x
 Package: x$Version: 1$Status: install ok installed$Architecture: i386$→E14 ForeignArchitecture x
 Package: x$Status: purge ok config-files$Architecture: i386$→E14 ForeignArchitecture x
@@ -163,15 +141,6 @@ Package: x$Status: install ok installed$Architecture: all$Version: 1$Provides: _
 Package: x$$Package$→E9 MissingField 1 Status
 Package: x$Package$→E2 BadLine 2
 ";
-
-// The bytes of a row's text.
-fn unescaped(alloc: Global, text: &str) -> Result<Vec<u8>, Fail> {
-    let mut bytes = Vec::new(alloc);
-    for byte in text.as_bytes() {
-        bytes.push(if *byte == b'$' { b'\n' } else { *byte })?;
-    }
-    Ok(bytes)
-}
 
 fn is_shown(alloc: Global, row: &str) -> Result<bool, Fail> {
     let Some((text, wanted)) = row.split_once('→') else {
