@@ -5,6 +5,8 @@
 #[cfg(test)]
 mod fields;
 #[cfg(test)]
+mod operators;
+#[cfg(test)]
 mod packages;
 #[cfg(test)]
 mod plans;
