@@ -9,7 +9,7 @@ use relation::{
 };
 use stanza::Stanzas;
 use std::alloc::Global;
-use std::time::Instant;
+use std::time::{Duration, Instant};
 
 const ARCHITECTURE: &[u8] = b"amd64";
 
@@ -23,18 +23,30 @@ struct RelationField<'a> {
 /// Measures, over all relation fields of the text, the test that takes no memory, and the reading.
 pub fn measure(rt: &HostRuntime, text: &[u8]) -> Result<()> {
     let fields = fields_in(rt.alloc(), text)?;
-    let start = Instant::now(rt)?;
-    check_all(fields.as_slice())?;
-    let checked = start.elapsed(rt)?;
-    let start = Instant::now(rt)?;
-    let atoms = parse_all(rt.alloc(), fields.as_slice())?;
-    let parsed = start.elapsed(rt)?;
+    let checked = time_of_check(rt, fields.as_slice())?;
+    let (parsed, atoms) = time_of_parse(rt, fields.as_slice())?;
     let count = fields.len();
     println!(rt; "fields {count} atoms {atoms}")?;
-    print_time(rt, "relations checked", checked)?;
-    print_share(rt, "relations checked", checked, atoms, "atom")?;
-    print_time(rt, "relations parsed", parsed)?;
-    print_share(rt, "relations parsed", parsed, atoms, "atom")?;
+    print_cost(rt, "relations checked", checked, atoms)?;
+    print_cost(rt, "relations parsed", parsed, atoms)
+}
+
+fn time_of_check(rt: &HostRuntime, fields: &[RelationField<'_>]) -> Result<Duration> {
+    let start = Instant::now(rt)?;
+    check_all(fields)?;
+    Ok(start.elapsed(rt)?)
+}
+
+// The time, and how many atoms were read.
+fn time_of_parse(rt: &HostRuntime, fields: &[RelationField<'_>]) -> Result<(Duration, usize)> {
+    let start = Instant::now(rt)?;
+    let atoms = parse_all(rt.alloc(), fields)?;
+    Ok((start.elapsed(rt)?, atoms))
+}
+
+fn print_cost(rt: &HostRuntime, subject: &str, time: Duration, atoms: usize) -> Result<()> {
+    print_time(rt, subject, time)?;
+    print_share(rt, subject, time, atoms, "atom")?;
     Ok(())
 }
 

@@ -10,17 +10,30 @@ use std::time::Instant;
 pub fn measure(rt: &HostRuntime, text: &[u8]) -> Result<()> {
     let start = Instant::now(rt)?;
     let database = database_of(rt, text)?;
-    let read = start.elapsed(rt)?;
+    print_time(rt, "status read", start.elapsed(rt)?)?;
+    let written = measure_writing(rt, &database)?;
+    print_counts(rt, &database, text, written.as_slice())
+}
+
+// The text of the database, whose time is printed.
+fn measure_writing(rt: &HostRuntime, database: &Database<'_>) -> Result<Vec<u8>> {
     let start = Instant::now(rt)?;
     let written = database.text(rt.alloc())?;
-    let wrote = start.elapsed(rt)?;
-    let again = database_of(rt, written.as_slice())?;
+    print_time(rt, "status written", start.elapsed(rt)?)?;
+    Ok(written)
+}
+
+fn print_counts(
+    rt: &HostRuntime,
+    database: &Database<'_>,
+    text: &[u8],
+    written: &[u8],
+) -> Result<()> {
+    let again = database_of(rt, written)?;
     let records = database.names().len();
-    let is_same = written.as_slice() == text;
-    let is_stable = is_read_again(rt, &database, &again, written.as_slice())?;
+    let is_same = written == text;
+    let is_stable = is_read_again(rt, database, &again, written)?;
     println!(rt; "records {records} same {is_same} stable {is_stable}")?;
-    print_time(rt, "status read", read)?;
-    print_time(rt, "status written", wrote)?;
     Ok(())
 }
 

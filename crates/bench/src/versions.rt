@@ -7,7 +7,7 @@ use anyhow::{Context, Result, bail};
 use debversion::{BadVersion, Version};
 use std::alloc::{AllocError, Global};
 use std::cmp::Ordering;
-use std::time::Instant;
+use std::time::{Duration, Instant};
 
 /// How many pairs were of which order.
 #[derive(Clone, Copy, Default)]
@@ -24,20 +24,32 @@ type Versions<'a> = (Version<'a>, Version<'a>);
 /// Measures, over the pairs of the text, reading both versions and comparing them, and then comparing alone.
 pub fn measure(rt: &HostRuntime, text: &[u8]) -> Result<()> {
     let texts = texts_of(rt.alloc(), text)?;
-    let start = Instant::now(rt)?;
-    let tally = compare_texts(texts.as_slice())?;
-    let read = start.elapsed(rt)?;
-    let versions = versions_of(rt.alloc(), texts.as_slice())?;
-    let start = Instant::now(rt)?;
-    let again = compare(versions.as_slice());
-    let compared = start.elapsed(rt)?;
+    let read = measure_reading(rt, texts.as_slice())?;
+    let compared = measure_comparing(rt, texts.as_slice())?;
     let pairs = texts.len();
-    print_tally(rt, "pairs", pairs, tally)?;
-    print_tally(rt, "compared", versions.len(), again)?;
     print_time(rt, "versions read and compared", read)?;
     print_share(rt, "versions read and compared", read, pairs, "pair")?;
     print_share(rt, "versions compared", compared, pairs, "pair")?;
     Ok(())
+}
+
+// The time of reading and comparing all pairs, whose orders are counted.
+fn measure_reading(rt: &HostRuntime, texts: &[Texts<'_>]) -> Result<Duration> {
+    let start = Instant::now(rt)?;
+    let tally = compare_texts(texts)?;
+    let time = start.elapsed(rt)?;
+    print_tally(rt, "pairs", texts.len(), tally)?;
+    Ok(time)
+}
+
+// The time of comparing all pairs once they are read.
+fn measure_comparing(rt: &HostRuntime, texts: &[Texts<'_>]) -> Result<Duration> {
+    let versions = versions_of(rt.alloc(), texts)?;
+    let start = Instant::now(rt)?;
+    let tally = compare(versions.as_slice());
+    let time = start.elapsed(rt)?;
+    print_tally(rt, "compared", versions.len(), tally)?;
+    Ok(time)
 }
 
 fn print_tally(rt: &HostRuntime, subject: &str, pairs: usize, tally: Tally) -> Result<()> {

@@ -1,17 +1,10 @@
 //! Texts of plans, each with what it is to be read as. The format is this project's own; lines were counted by hand.
-use crate::texts::unescaped;
+use crate::texts::{is_printed, unescaped, write_named};
 use plantext::{PlanError, PlanFault, read_plan};
 use rules::Step;
-use std::alloc::Global;
+use std::alloc::{AllocError, Global};
 use std::process::Abort;
-use std::str;
 use std::test::Fail;
-
-fn write_named(shown: &mut String, action: &str, name: &[u8]) -> Result<(), Fail> {
-    shown.push_str(action)?;
-    shown.push_str(str::from_utf8(name)?)?;
-    Ok(())
-}
 
 fn write_step(shown: &mut String, step: &Step) -> Result<(), Fail> {
     match step {
@@ -190,16 +183,12 @@ fn a_byte_that_is_no_text_is_refused(rt: HostRuntime) {
 }
 
 #[test]
-fn refusals_are_printed_with_their_codes(rt: HostRuntime) -> Result<(), Fail> {
+fn refusals_are_printed_with_their_codes(rt: HostRuntime) -> Result<(), AllocError> {
     let alloc = rt.alloc();
-    let bad = format!(in alloc; "{}", PlanFault::BadPlan(7))?;
-    assert_eq!(rt; bad.as_str(), "E18 BadPlan 7");
-    let large = format!(in alloc; "{}", PlanFault::TooLarge)?;
-    assert_eq!(rt; large.as_str(), "E10 TooLarge");
-    let too_large = format!(in alloc; "{}", PlanError::from(PlanFault::TooLarge))?;
-    assert_eq!(rt; too_large.as_str(), "E10 TooLarge");
-    let memory = format!(in alloc; "{}", PlanError::OutOfMemory)?;
-    assert_eq!(rt; memory.as_str(), "E1 OutOfMemory");
+    assert!(rt; is_printed(alloc, &PlanFault::BadPlan(7), "E18 BadPlan 7")?);
+    assert!(rt; is_printed(alloc, &PlanFault::TooLarge, "E10 TooLarge")?);
+    assert!(rt; is_printed(alloc, &PlanError::from(PlanFault::TooLarge), "E10 TooLarge")?);
+    assert!(rt; is_printed(alloc, &PlanError::OutOfMemory, "E1 OutOfMemory")?);
     Ok(())
 }
 

@@ -1,8 +1,8 @@
 //! Requests, each with what it is to be read as. The format is this project's own, its atoms are those of Policy
 //! 7.1; lines were counted by hand.
-use crate::texts::unescaped;
-use rules::{Goal, Name, Op, Restriction};
-use std::alloc::Global;
+use crate::texts::{is_printed, unescaped, write_named};
+use rules::{Goal, Op, Restriction};
+use std::alloc::{AllocError, Global};
 use std::process::Abort;
 use std::str;
 use std::test::Fail;
@@ -20,12 +20,6 @@ fn op_text(op: Op) -> &'static str {
     }
 }
 
-fn write_named(shown: &mut String, action: &str, name: &Name) -> Result<(), Fail> {
-    shown.push_str(action)?;
-    shown.push_str(str::from_utf8(name.as_bytes())?)?;
-    Ok(())
-}
-
 fn write_restriction(shown: &mut String, restriction: &Option<Restriction>) -> Result<(), Fail> {
     if let Some(restriction) = restriction {
         shown.push_str(op_text(restriction.op))?;
@@ -37,12 +31,12 @@ fn write_restriction(shown: &mut String, restriction: &Option<Restriction>) -> R
 fn write_goal(shown: &mut String, goal: &Goal) -> Result<(), Fail> {
     match goal {
         Goal::Install(name, restriction) => {
-            write_named(shown, "I:", name)?;
+            write_named(shown, "I:", name.as_bytes())?;
             write_restriction(shown, restriction)?;
         }
-        Goal::Remove(name) => write_named(shown, "R:", name)?,
-        Goal::Purge(name) => write_named(shown, "P:", name)?,
-        Goal::Upgrade(name) => write_named(shown, "U:", name)?,
+        Goal::Remove(name) => write_named(shown, "R:", name.as_bytes())?,
+        Goal::Purge(name) => write_named(shown, "P:", name.as_bytes())?,
+        Goal::Upgrade(name) => write_named(shown, "U:", name.as_bytes())?,
         Goal::UpgradeAll => shown.push_str("A")?,
         Goal::NoRemove => shown.push_str("N")?,
     }
@@ -208,16 +202,18 @@ fn every_other_line_is_refused(rt: HostRuntime) -> Result<(), Fail> {
 }
 
 #[test]
-fn refusals_are_printed_with_their_codes(rt: HostRuntime) -> Result<(), Fail> {
+fn refusals_are_printed_with_their_codes(rt: HostRuntime) -> Result<(), AllocError> {
     let alloc = rt.alloc();
-    let bad = format!(in alloc; "{}", RequestFault::BadRequest(7))?;
-    assert_eq!(rt; bad.as_str(), "E16 BadRequest 7");
-    let large = format!(in alloc; "{}", RequestFault::TooLarge)?;
-    assert_eq!(rt; large.as_str(), "E10 TooLarge");
-    let too_large = format!(in alloc; "{}", RequestError::from(RequestFault::TooLarge))?;
-    assert_eq!(rt; too_large.as_str(), "E10 TooLarge");
-    let memory = format!(in alloc; "{}", RequestError::OutOfMemory)?;
-    assert_eq!(rt; memory.as_str(), "E1 OutOfMemory");
+    assert!(rt; is_printed(alloc, &RequestFault::BadRequest(7), "E16 BadRequest 7")?);
+    assert!(rt; is_printed(alloc, &RequestFault::TooLarge, "E10 TooLarge")?);
+    assert!(rt;
+        is_printed(
+            alloc,
+            &RequestError::from(RequestFault::TooLarge),
+            "E10 TooLarge"
+        )?
+    );
+    assert!(rt; is_printed(alloc, &RequestError::OutOfMemory, "E1 OutOfMemory")?);
     Ok(())
 }
 
