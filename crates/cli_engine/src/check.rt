@@ -48,12 +48,12 @@ fn read_texts<'a>(
 }
 
 // The universe that the request is answered from, over the database and the indices.
-fn universe_of<'a>(
+fn universe_of<'p, 'a>(
     alloc: Global,
     database: &Database<'a>,
-    indices: &[Index<'a>],
+    indices: &'p [Index<'a>],
     inputs: &Inputs<'_, 'a>,
-) -> Result<Universe<'a>, Refusal>
+) -> Result<Universe<'p, 'a>, Refusal>
     requires { AreRead (texts_of inputs.now) (slot_records database.now.slots) (indices_of indices.now) }
     ensures ok { IfOk result (λ u. Denotes (texts_of inputs.now) u (slot_records database.now.slots)) }
     ensures built { IfOk result (λ u. IsBuiltOn (slot_records database.now.slots) u) }
@@ -75,10 +75,10 @@ fn universe_of<'a>(
 }
 
 // Judges the steps from this database on.
-fn judge<'p, 'a>(
+fn judge<'a>(
     alloc: Global,
-    database: &'p Database<'a>,
-    universe: &'p Universe<'a>,
+    database: &Database<'a>,
+    universe: &Universe<'_, 'a>,
     steps: &[Step],
 ) -> Result<Verdict, AllocError>
     requires built { IsBuiltOn (slot_records database.now.slots) universe.now }

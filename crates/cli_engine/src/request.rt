@@ -58,12 +58,12 @@ fn first_later_goal(lines: &[GoalLine]) -> Option<Later>
 }
 
 // Builds the universe of the goals.
-fn built<'a>(
+fn built<'p, 'a>(
     alloc: Global,
     start: &[&Record<'a>],
-    indices: &[Index<'a>],
+    indices: &'p [Index<'a>],
     lines: Vec<GoalLine>,
-) -> Result<Universe<'a>, Fault>
+) -> Result<Universe<'p, 'a>, Fault>
     requires { HasDistinctNames (records_of (map (λ r. r.now) start.now)) }
     ensures ok { IfOk result (λ u. IsBuilt (records_of (map (λ r. r.now) start.now)) (indices_of indices.now) lines.items u) }
     ensures err { IfErr result (λ f. OrMemory (IsBuildFault (records_of (map (λ r. r.now) start.now)) (indices_of indices.now) lines.items) f) }
@@ -78,13 +78,13 @@ fn built<'a>(
 
 /// The universe that the request is answered from, over these records, whose names are distinct, and these indices; goals other than to install are refused today,
 /// after every other refusal of the text.
-pub(crate) fn read_request<'a>(
+pub(crate) fn read_request<'p, 'a>(
     alloc: Global,
     start: &[&Record<'a>],
-    indices: &[Index<'a>],
+    indices: &'p [Index<'a>],
     text: &[u8],
     arch: &[u8],
-) -> Result<Universe<'a>, Fault>
+) -> Result<Universe<'p, 'a>, Fault>
     requires { HasDistinctNames (records_of (map (λ r. r.now) start.now)) }
     ensures ok { IfOk result (λ u. (lines : List LineOf)
         × IsRequested arch.now text.now (records_of (map (λ r. r.now) start.now)) (indices_of indices.now) lines u) }

@@ -1,8 +1,8 @@
 -- A group of one name has no proper part.
-use Rattle.std.proofs.Common.{◌≡◌, ℕ, ◌<◌, List, [], ◌∷◌, length, sym, subst, ap, ◌∙◌, arith}
-use Rattle.std.specs.List.{All, Any, Contains}
+use Rattle.std.proofs.Common.{◌≡◌, ℕ, List, [], ◌∷◌, length, sym, subst, ◌∙◌, arith}
+use Rattle.std.specs.List.{Contains}
 use Rattle.std.proofs.lemmas.List.Elements.{All-contains}
-use Rattle.rules.specs.Configure.{GroupPasses, IsIndivisible, IsProperPart}
+use Rattle.rules.specs.Configure.{IsIndivisible, IsProperPart}
 use Rattle.rules.specs.Database.{Record}
 use Rattle.rules.specs.ElementLaws.{Any-elim, Contains-cons, Contains-head, Contains-nil}
 use mathlib.Core.Logic.{inl, inr}

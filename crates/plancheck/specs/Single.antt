@@ -1,5 +1,5 @@
 -- The steps that are judged today: of a configuring, those of one name.
-use Rattle.std.specs.Prelude.{◌≡◌, ℕ, ⊤, length}
+use Rattle.std.specs.Prelude.{◌≡◌, ⊤, length}
 use Rattle.rules.specs.declared.step.Step.{Step}
 use Rattle.rules.specs.declared.step.Step.TheVariants as step
 

@@ -1,15 +1,18 @@
 // A whole plan: its start, its steps one after another, and its end (Policy 7).
 
-ghost use Rattle.std.specs.Prelude.{◌≡◌, IfOk, MatchOption};
+ghost use Rattle.std.specs.Prelude.{◌≡◌, IfOk, MatchOption, map};
 ghost use Rattle.std.specs.List.{All};
 ghost use Rattle.rules.specs.Database.{HasDistinctNames, IsQuiet};
 ghost use Rattle.rules.specs.Run.{Run, StopsAt};
+ghost use Rattle.rules.specs.Universe.{listed_for};
 ghost use Rattle.rules.specs.Verdict.{IsBuiltOn, IsVerdict};
 ghost use Rattle.plancheck.specs.End.{IsEndVerdict};
 ghost use Rattle.plancheck.specs.Single.{IsSingle};
 
 use crate::quiet::is_quiet;
+use crate::stanzas::{stanza_at, stanzas_for};
 use crate::step::{apply, legal};
+use index::Listed;
 use plancheck_end::first_against;
 use rules::{Rule, Step, Verdict, good_where_nothing_is_against};
 use status::{PackageRecord, try_copy};
@@ -20,22 +23,25 @@ use universe::Universe;
 // step is allowed, the records are left as the steps leave them.
 fn run<'p, 'a>(
     db: &mut Vec<PackageRecord<'p, 'a>>,
-    universe: &'p Universe<'a>,
+    universe: &Universe<'_, 'a>,
     steps: &[Step],
+    stanzas: &'p [Option<Listed<'a>>],
 ) -> Result<Option<(usize, Rule)>, AllocError>
     requires distinct { HasDistinctNames db.old.items }
     requires single { All IsSingle steps.now }
+    requires stanzas { stanzas.now ≡ map (listed_for universe.now) steps.now }
     ensures { IfOk result (λ stop. MatchOption stop
         (Run universe.now db.old.items steps.now db.new.items)
         (λ found. StopsAt universe.now db.old.items steps.now found.0 found.1)) }
 {
     let mut number = 0;
     for step in steps {
+        let listed = stanza_at(stanzas, number);
         number += 1;
-        if let Some(rule) = legal(db.as_slice(), universe, step) {
+        if let Some(rule) = legal(db.as_slice(), universe, listed, step) {
             return Ok(Some((number, rule)));
         }
-        apply(db, universe, step)?;
+        apply(db, universe, listed, step)?;
     }
     Ok(None)
 }
@@ -43,7 +49,7 @@ fn run<'p, 'a>(
 // What is answered of the end of the run.
 fn end_verdict(
     alloc: Global,
-    universe: &Universe<'_>,
+    universe: &Universe<'_, '_>,
     db: &[PackageRecord<'_, '_>],
 ) -> Result<Verdict, AllocError>
     ensures { IfOk result (λ verdict. IsEndVerdict universe.now db.now verdict) }
@@ -54,21 +60,23 @@ fn end_verdict(
     }
 }
 
-// What is answered of the run from a quiet start.
+// What is answered of the run from a quiet start, with the stanzas that the steps unpack.
 fn run_verdict<'p, 'a>(
     alloc: Global,
     start: &[PackageRecord<'p, 'a>],
-    universe: &'p Universe<'a>,
+    universe: &Universe<'_, 'a>,
     steps: &[Step],
+    stanzas: &'p [Option<Listed<'a>>],
 ) -> Result<Verdict, AllocError>
     requires built { IsBuiltOn start.now universe.now }
     requires single { All IsSingle steps.now }
     requires quiet { IsQuiet start.now }
+    requires stanzas { stanzas.now ≡ map (listed_for universe.now) steps.now }
     ensures { IfOk result (λ verdict. IsVerdict universe.now start.now steps.now verdict) }
 {
     good_where_nothing_is_against();
     let mut db = try_copy(alloc, start)?;
-    let stop = run(&mut db, universe, steps)?;
+    let stop = run(&mut db, universe, steps, stanzas)?;
     match stop {
         Some((number, rule)) => Ok(Verdict::Step(number, rule)),
         None => {
@@ -78,13 +86,30 @@ fn run_verdict<'p, 'a>(
     }
 }
 
+// What is answered of the run from a quiet start, for which the stanzas that the steps unpack are read.
+fn quiet_verdict<'p, 'a>(
+    alloc: Global,
+    start: &[PackageRecord<'p, 'a>],
+    universe: &Universe<'_, 'a>,
+    steps: &[Step],
+) -> Result<Verdict, AllocError>
+    requires built { IsBuiltOn start.now universe.now }
+    requires single { All IsSingle steps.now }
+    requires quiet { IsQuiet start.now }
+    ensures { IfOk result (λ verdict. IsVerdict universe.now start.now steps.now verdict) }
+{
+    let stanzas = stanzas_for(alloc, universe, steps)?;
+    run_verdict(alloc, start, universe, steps, stanzas.as_slice())
+}
+
 /// Judges a plan from this start, on which the universe is built: whether each step is legal when its turn comes
-/// and the end is good, and else what is first against it. Memory alone can fail. For each step the cost is
-/// that of its rules, and the end is linear in the records for each atom of an installed package.
+/// and the end is good, and else what is first against it. Memory alone can fail. Of the stanzas of the universe those that
+/// the steps unpack are read, each once for each step. For each step the cost is that of its rules, and the end is linear
+/// in the records for each atom of an installed package.
 pub fn check_plan<'p, 'a>(
     alloc: Global,
     start: &[PackageRecord<'p, 'a>],
-    universe: &'p Universe<'a>,
+    universe: &Universe<'_, 'a>,
     steps: &[Step],
 ) -> Result<Verdict, AllocError>
     requires built { IsBuiltOn start.now universe.now }
@@ -92,7 +117,7 @@ pub fn check_plan<'p, 'a>(
     ensures { IfOk result (λ verdict. IsVerdict universe.now start.now steps.now verdict) }
 {
     if is_quiet(start) {
-        run_verdict(alloc, start, universe, steps)
+        quiet_verdict(alloc, start, universe, steps)
     } else {
         Ok(Verdict::Start)
     }

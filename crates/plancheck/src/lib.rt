@@ -8,6 +8,7 @@ mod configure;
 mod held;
 mod quiet;
 mod remove;
+mod stanzas;
 mod step;
 mod table;
 mod unpack;

@@ -7,65 +7,66 @@ ghost use Rattle.rules.specs.Legal.{Allowed, IsFirstFailing};
 ghost use Rattle.rules.specs.LegalLaws.{ActsOnPresent};
 ghost use Rattle.rules.specs.Run.{after};
 ghost use Rattle.rules.specs.Step.{after_unpack};
-ghost use Rattle.rules.specs.Universe.{listed_of};
-ghost use Rattle.rules.specs.VersionFault.{first_fault};
+ghost use Rattle.rules.specs.Universe.{listed_for, listed_of};
 ghost use Rattle.rules.specs.declared.step.Step.TheVariants.{Remove, Unpack};
 ghost use Rattle.plancheck.specs.Single.{IsSingle};
 
+use crate::stanzas::version_of;
 use crate::table::{
     configure_failing, deconfigure_failing, purge_failing, remove_failing, unpack_failing,
 };
-use debversion::Version;
 use index::Listed;
 use rules::{Name, Rule, Step, VersionText, allowed_acts_on_present, distinct_names_kept};
 use status::{PackageRecord, configure, deconfigure, purge, remove, unpack};
 use std::alloc::AllocError;
 use universe::Universe;
 
-// The version of the text.
-fn version_of(text: &VersionText) -> Version<'_>
-    ensures { result ≡ text.now }
-{
-    match Version::parse(text.as_bytes()) {
-        Ok(version) => version,
-        Err(_) => unreachable!(),
-    }
-}
-
 // The first rule that an unpacking of the version fails.
 #[tactic(auto, unfolding(rules::specs::Legal::Allowed, rules::specs::Legal::IsFirstFailing))]
 fn unpack_stop(
     db: &[PackageRecord<'_, '_>],
-    universe: &Universe<'_>,
+    universe: &Universe<'_, '_>,
+    listed: Option<&Listed<'_>>,
     name: &Name,
     version: &VersionText,
 ) -> Option<Rule>
+    requires { option_copied listed ≡ listed_of universe.now name.now version.now }
     ensures { MatchOption result (Allowed universe.now db.now (Unpack name.now version.now))
         (λ rule. IsFirstFailing universe.now db.now (Unpack name.now version.now) rule) }
 {
     let version = version_of(version);
-    let listed = universe.listed_of(name.as_bytes(), &version);
     unpack_failing(db, listed, name.as_bytes(), &version)
 }
 
 // The first rule that a removal of the name fails.
 #[tactic(auto, unfolding(rules::specs::Legal::Allowed, rules::specs::Legal::IsFirstFailing))]
-fn remove_stop(db: &[PackageRecord<'_, '_>], universe: &Universe<'_>, name: &Name) -> Option<Rule>
+fn remove_stop(
+    db: &[PackageRecord<'_, '_>],
+    universe: &Universe<'_, '_>,
+    name: &Name,
+) -> Option<Rule>
     ensures { MatchOption result (Allowed universe.now db.now (Remove name.now))
         (λ rule. IsFirstFailing universe.now db.now (Remove name.now) rule) }
 {
     remove_failing(db, name.as_bytes())
 }
 
-/// The first rule that the step fails, if there is one. The cost is that of the action's rules.
+/// The first rule that the step fails, if there is one. Of a step that unpacks, `listed` is the stanza, read already. The
+/// cost is that of the action's rules.
 #[tactic(auto, unfolding(rules::specs::Legal::Allowed, rules::specs::Legal::IsFirstFailing, crate::specs::Single::IsSingle))]
-pub fn legal(db: &[PackageRecord<'_, '_>], universe: &Universe<'_>, step: &Step) -> Option<Rule>
-    requires { IsSingle step.now }
+pub fn legal(
+    db: &[PackageRecord<'_, '_>],
+    universe: &Universe<'_, '_>,
+    listed: Option<&Listed<'_>>,
+    step: &Step,
+) -> Option<Rule>
+    requires listed { option_copied listed ≡ listed_for universe.now step.now }
+    requires single { IsSingle step.now }
     ensures { MatchOption result (Allowed universe.now db.now step.now)
         (λ rule. IsFirstFailing universe.now db.now step.now rule) }
 {
     match step {
-        Step::Unpack(name, version) => unpack_stop(db, universe, name, version),
+        Step::Unpack(name, version) => unpack_stop(db, universe, listed, name, version),
         Step::Deconfigure(name) => deconfigure_failing(db, name.as_bytes()),
         Step::Configure(names) => configure_failing(db, names.as_slice()),
         Step::Remove(name) => remove_stop(db, universe, name),
@@ -90,17 +91,16 @@ fn unpack_listed<'p, 'a>(
 #[tactic(auto, unfolding(rules::specs::LegalLaws::ActsOnPresent))]
 fn leave<'p, 'a>(
     db: &mut Vec<PackageRecord<'p, 'a>>,
-    universe: &'p Universe<'a>,
+    universe: &Universe<'_, 'a>,
+    listed: Option<&'p Listed<'a>>,
     step: &Step,
 ) -> Result<(), AllocError>
-    requires { ActsOnPresent step.now db.old.items }
+    requires listed { option_copied listed ≡ listed_for universe.now step.now }
+    requires present { ActsOnPresent step.now db.old.items }
     ensures { IfOk result (λ _. db.new.items ≡ after universe.now db.old.items step.now) }
 {
     match step {
-        Step::Unpack(name, version) => {
-            let listed = universe.listed_of(name.as_bytes(), &version_of(version));
-            unpack_listed(db, listed)?;
-        }
+        Step::Unpack(_, _) => unpack_listed(db, listed)?,
         Step::Deconfigure(name) => deconfigure(db.as_mut_slice(), name.as_bytes()),
         Step::Configure(names) => configure(db.as_mut_slice(), names.as_slice()),
         Step::Remove(name) => remove(db.as_mut_slice(), name.as_bytes()),
@@ -109,12 +109,15 @@ fn leave<'p, 'a>(
     Ok(())
 }
 
-/// Takes an allowed step. Linear in the records. Memory alone can fail.
+/// Takes an allowed step. Of a step that unpacks, `listed` is the stanza, whose package the record then lends. Linear in
+/// the records. Memory alone can fail.
 pub fn apply<'p, 'a>(
     db: &mut Vec<PackageRecord<'p, 'a>>,
-    universe: &'p Universe<'a>,
+    universe: &Universe<'_, 'a>,
+    listed: Option<&'p Listed<'a>>,
     step: &Step,
 ) -> Result<(), AllocError>
+    requires listed { option_copied listed ≡ listed_for universe.now step.now }
     requires distinct { HasDistinctNames db.old.items }
     requires allowed { Allowed universe.now db.old.items step.now }
     ensures after { IfOk result (λ _. db.new.items ≡ after universe.now db.old.items step.now) }
@@ -122,5 +125,5 @@ pub fn apply<'p, 'a>(
 {
     allowed_acts_on_present();
     distinct_names_kept();
-    leave(db, universe, step)
+    leave(db, universe, listed, step)
 }

@@ -15,7 +15,7 @@ use universe::Universe;
 /// alone, and it alone can fail.
 pub fn first_against(
     alloc: Global,
-    universe: &Universe<'_>,
+    universe: &Universe<'_, '_>,
     db: &[PackageRecord<'_, '_>],
 ) -> Result<Option<Reason>, AllocError>
     ensures { IfOk result (λ found. MatchOption found (HasNothingAgainst universe.now db.now)

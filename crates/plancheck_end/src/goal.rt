@@ -97,7 +97,7 @@ fn is_purged(db: &[PackageRecord<'_, '_>], name: &[u8]) -> bool
 }
 
 // Whether the candidate of the name is installed.
-fn has_candidate(universe: &Universe<'_>, db: &[PackageRecord<'_, '_>], name: &[u8]) -> bool
+fn has_candidate(universe: &Universe<'_, '_>, db: &[PackageRecord<'_, '_>], name: &[u8]) -> bool
     ensures { IsTrue result ↔ MatchOption (candidate_of universe.now name.now) ⊥
         (λ candidate. HasVersion name.now candidate (installed_of db.now)) }
 {
@@ -115,7 +115,7 @@ fn is_behind(version: &Version<'_>, candidate: &Version<'_>) -> bool
 
 // Whether the name is upgraded, if it is unheld, stands and has a higher candidate.
 #[tactic(auto, unfolding(rules::specs::Sound::IsUpgraded))]
-fn is_upgraded(universe: &Universe<'_>, db: &[PackageRecord<'_, '_>], start: &Start<'_>) -> bool
+fn is_upgraded(universe: &Universe<'_, '_>, db: &[PackageRecord<'_, '_>], start: &Start<'_>) -> bool
     ensures { IsTrue result ↔ IsUpgraded universe.now (installed_of db.now) start.now }
 {
     match (start.standing(), universe.candidate(start.name())) {
@@ -128,7 +128,7 @@ fn is_upgraded(universe: &Universe<'_>, db: &[PackageRecord<'_, '_>], start: &St
     }
 }
 
-fn are_upgraded(universe: &Universe<'_>, db: &[PackageRecord<'_, '_>]) -> bool
+fn are_upgraded(universe: &Universe<'_, '_>, db: &[PackageRecord<'_, '_>]) -> bool
     ensures { IsTrue result ↔ All (IsUpgraded universe.now (installed_of db.now)) universe.now.starts }
 {
     universe
@@ -156,7 +156,7 @@ fn are_kept(db: &[PackageRecord<'_, '_>], starts: &[Start<'_>]) -> bool
 
 /// Whether the installed packages fulfil the goal, and nothing is left of a name that is to be purged. Linear in
 /// the records; for all upgrades and for no removals linear in them and the candidates for each name of the start.
-pub fn is_fulfilled(universe: &Universe<'_>, db: &[PackageRecord<'_, '_>], goal: &Goal) -> bool
+pub fn is_fulfilled(universe: &Universe<'_, '_>, db: &[PackageRecord<'_, '_>], goal: &Goal) -> bool
     ensures { IsTrue result ↔ IsFulfilled universe.now db.now goal.now }
 {
     match goal {
@@ -170,7 +170,7 @@ pub fn is_fulfilled(universe: &Universe<'_>, db: &[PackageRecord<'_, '_>], goal:
 }
 
 /// The number, counted from 1, of the first goal that isn't fulfilled, if there is one.
-pub fn first_unfulfilled(universe: &Universe<'_>, db: &[PackageRecord<'_, '_>]) -> Option<usize>
+pub fn first_unfulfilled(universe: &Universe<'_, '_>, db: &[PackageRecord<'_, '_>]) -> Option<usize>
     ensures { MatchOption result (All (IsFulfilled universe.now db.now) universe.now.goals)
         (λ number. IsFirstUnfulfilled universe.now db.now number) }
 {

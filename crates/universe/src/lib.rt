@@ -9,7 +9,7 @@ mod start;
 mod universe;
 
 pub use candidate::Candidate;
-pub use index::Listed;
+pub use index::Entry;
 pub use pair::Pair;
 pub use pairs::Pairs;
 pub use start::Start;

@@ -1,41 +1,44 @@
 // An admitted pair of a name and a version.
 
-ghost use Rattle.std.specs.Prelude.{◌≡◌, None, Some, refl};
+ghost use Rattle.std.specs.Prelude.{◌≡◌, MatchOption, None, Some, refl};
 ghost use Rattle.std.specs.Cmp.{eq_by_cmp_equiv, partial_equiv_from_equiv, po};
-ghost use Rattle.std.specs.Option.{option_copied};
+ghost use Rattle.std.specs.Option.{option_copied, option_map};
 ghost use Rattle.std.specs.Ordering.{as_partial_cmp, eq_by_cmp};
 ghost use Rattle.rules.specs.Universe.{pair_cmp};
 ghost use Rattle.universe.specs.PairLaws.{pair_cmp_total};
 
-use index::Listed;
+use debversion::Version;
+use index::Entry;
 use relation::Pkg;
 use std::cmp::Ordering;
 use std::marker::Model;
 
-/// An admitted pair: the package that counts, and its stanza in the indices, if there is one. Pairs are ordered by the
-/// bytes of the name and then by the version (deb-version(7)), and two of one name and version are equal.
+/// An admitted pair: the package that counts, and its stanza in the indices, if there is one. The stanza is lent, and its
+/// relations are read when they are asked for. Pairs are ordered by the bytes of the name and then by the version
+/// (deb-version(7)), and two of one name and version are equal.
 #[derive(Drop)]
-pub struct Pair<'a> {
+pub struct Pair<'p, 'a> {
     standing: Option<Pkg<'a>>,
-    listed: Option<Listed<'a>>,
+    listed: Option<&'p Entry<'a>>,
 }
 
-impl<'a> Model for Pair<'a> {
+impl<'p, 'a> Model for Pair<'p, 'a> {
     ghost use Rattle.std.specs.Prelude.{◌≡◌, ◌||◌, true, is_some};
+    ghost use Rattle.std.specs.Option.{option_copied};
     ghost use Rattle.rules.specs.Universe.{Pair as PairValue};
     ghost use Rattle.universe.specs.Pair.{counting_pkg};
 
     ghost Value = { PairValue };
 
-    ghost view = { λ p. record { pkg = counting_pkg p.standing p.listed; listed = p.listed } };
+    ghost view = { λ p. record { pkg = counting_pkg p.standing (option_copied p.listed); listed = option_copied p.listed } };
 
     ghost invariant = { λ p. (is_some p.standing || is_some p.listed) ≡ true };
 }
 
-impl<'a> Pair<'a> {
+impl<'p, 'a> Pair<'p, 'a> {
     /// The pair of a package that stands, with the stanza of its version in the indices, if there is one.
-    pub fn standing(pkg: Pkg<'a>, listed: Option<Listed<'a>>) -> Pair<'a>
-        ensures { result ≡ record { pkg = pkg.entry; listed = listed.entry } }
+    pub fn standing(pkg: Pkg<'a>, listed: Option<&'p Entry<'a>>) -> Pair<'p, 'a>
+        ensures { result ≡ record { pkg = pkg.entry; listed = option_copied listed.entry } }
     {
         Pair {
             standing: Some(pkg),
@@ -44,8 +47,8 @@ impl<'a> Pair<'a> {
     }
 
     /// The pair of a package that the indices alone have.
-    pub fn listed_alone(listed: Listed<'a>) -> Pair<'a>
-        ensures { result ≡ record { pkg = listed.entry.pkg; listed = Some listed.entry } }
+    pub fn listed_alone(listed: &'p Entry<'a>) -> Pair<'p, 'a>
+        ensures { result ≡ record { pkg = listed.now.pkg; listed = Some listed.now } }
     {
         Pair {
             standing: None,
@@ -53,26 +56,46 @@ impl<'a> Pair<'a> {
         }
     }
 
-    /// The package that counts.
-    pub fn pkg(&self) -> &Pkg<'a>
-        ensures { result.now ≡ self.now.pkg }
+    /// The name of the package that counts.
+    pub fn name(&self) -> &'a [u8]
+        ensures { result.now ≡ self.now.pkg.name }
     {
-        match (&self.standing, &self.listed) {
-            (Some(pkg), _) => pkg,
-            (None, Some(listed)) => listed.pkg(),
+        match (&self.standing, self.listed) {
+            (Some(pkg), _) => pkg.name(),
+            (None, Some(listed)) => listed.name(),
             (None, None) => unreachable!(),
         }
     }
 
+    /// The version of the package that counts.
+    pub fn version(&self) -> &Version<'a>
+        ensures { result.now ≡ self.now.pkg.version }
+    {
+        match (&self.standing, self.listed) {
+            (Some(pkg), _) => pkg.version(),
+            (None, Some(listed)) => listed.version(),
+            (None, None) => unreachable!(),
+        }
+    }
+
+    /// The package that counts, where it is the one that stands: else it is that of the stanza.
+    pub fn standing_pkg(&self) -> Option<&Pkg<'a>>
+        ensures { MatchOption result
+            (option_map (λ listed. listed.pkg) self.now.listed ≡ Some self.now.pkg)
+            (λ pkg. pkg.now ≡ self.now.pkg) }
+    {
+        self.standing.as_ref()
+    }
+
     /// The stanza of the pair in the indices, if there is one.
-    pub fn listed(&self) -> Option<&Listed<'a>>
+    pub fn listed(&self) -> Option<&'p Entry<'a>>
         ensures { option_copied result ≡ self.now.listed }
     {
-        self.listed.as_ref()
+        self.listed
     }
 }
 
-impl PartialEq for Pair<'_> {
+impl PartialEq for Pair<'_, '_> {
     ghost eq = { eq_by_cmp pair_cmp };
 
     ghost laws = { partial_equiv_from_equiv (eq_by_cmp_equiv pair_cmp_total) };
@@ -82,11 +105,11 @@ impl PartialEq for Pair<'_> {
     }
 }
 
-impl Eq for Pair<'_> {
+impl Eq for Pair<'_, '_> {
     ghost laws = { eq_by_cmp_equiv pair_cmp_total };
 }
 
-impl PartialOrd for Pair<'_> {
+impl PartialOrd for Pair<'_, '_> {
     ghost partial_cmp = { as_partial_cmp pair_cmp };
 
     ghost laws = { po pair_cmp_total (λ pair other. refl) };
@@ -96,7 +119,7 @@ impl PartialOrd for Pair<'_> {
     }
 }
 
-impl Ord for Pair<'_> {
+impl Ord for Pair<'_, '_> {
     ghost cmp = { pair_cmp };
 
     ghost total = { pair_cmp_total };
@@ -106,8 +129,8 @@ impl Ord for Pair<'_> {
     ghost matches_eq = { λ pair other. refl };
 
     fn cmp(&self, other: &Self) -> Ordering {
-        match self.pkg().name().cmp(other.pkg().name()) {
-            Ordering::Equal => self.pkg().version().cmp(other.pkg().version()),
+        match self.name().cmp(other.name()) {
+            Ordering::Equal => self.version().cmp(other.version()),
             decided => decided,
         }
     }

@@ -2,64 +2,79 @@
 
 ghost use Rattle.std.specs.Prelude.{◌≡◌};
 ghost use Rattle.std.specs.List.{find};
+ghost use Rattle.std.specs.List.Sorted.{IsStrictlySortedBy};
 ghost use Rattle.std.specs.Option.{option_copied};
 ghost use Rattle.rules.specs.Available.{is_of};
-ghost use Rattle.rules.specs.Universe.{listed_among};
+ghost use Rattle.rules.specs.Universe.{listed_among, pair_cmp};
+ghost use Rattle.universe.specs.Pair.{pkg_order};
 
 use crate::pair::Pair;
 use debversion::Version;
-use index::Listed;
+use index::Entry;
+use std::cmp::Ordering;
 use std::marker::Model;
 
-/// The admitted pairs of a request, numbered from 1.
+/// The admitted pairs of a request, numbered from 1. They ascend by name and then by version, and none is there twice.
 #[derive(Drop)]
-pub struct Pairs<'a> {
-    pairs: Vec<Pair<'a>>,
+pub struct Pairs<'p, 'a> {
+    pairs: Vec<Pair<'p, 'a>>,
 }
 
-impl<'a> Model for Pairs<'a> {
+impl<'p, 'a> Model for Pairs<'p, 'a> {
     ghost use Rattle.std.specs.Prelude.{List};
-    ghost use Rattle.rules.specs.Universe.{Pair as PairValue};
+    ghost use Rattle.std.specs.List.Sorted.{IsStrictlySortedBy};
+    ghost use Rattle.rules.specs.Universe.{Pair as PairValue, pair_cmp};
 
     ghost Value = { List PairValue };
 
     ghost view = { λ p. p.pairs.items };
+
+    ghost invariant = { λ p. IsStrictlySortedBy pair_cmp p.pairs.items };
 }
 
-// Whether the pair is of this name and version.
-fn is_of(pair: &Pair<'_>, name: &[u8], version: &Version<'_>) -> bool
-    ensures { result ≡ is_of name.now version.now pair.now.pkg }
+// How the package of the pair compares with a name and a version.
+fn order_to(pair: &Pair<'_, '_>, name: &[u8], version: &Version<'_>) -> Ordering
+    ensures { result ≡ pkg_order pair.now.pkg name.now version.now }
 {
-    pair.pkg().name() == name && pair.pkg().version() == version
+    match pair.name().cmp(name) {
+        Ordering::Equal => pair.version().cmp(version),
+        decided => decided,
+    }
 }
 
-fn pair_of<'p, 'a>(
-    pairs: &'p [Pair<'a>],
+// The pair of this version of the name, by a binary search.
+fn pair_of<'k, 'p, 'a>(
+    pairs: &'k [Pair<'p, 'a>],
     name: &[u8],
     version: &Version<'_>,
-) -> Option<&'p Pair<'a>>
+) -> Option<&'k Pair<'p, 'a>>
+    requires { IsStrictlySortedBy pair_cmp pairs.now }
     ensures { option_copied result ≡ find (λ pair. is_of name.now version.now pair.pkg) pairs.now }
 {
-    pairs.iter().find(|pair| is_of(pair, name, version))
+    match pairs.binary_search_by(|pair| order_to(pair, name, version)) {
+        Ok(place) => pairs.get(place),
+        Err(_) => None,
+    }
 }
 
-impl<'a> Pairs<'a> {
-    /// The pairs of this list.
-    pub fn new(pairs: Vec<Pair<'a>>) -> Pairs<'a>
+impl<'p, 'a> Pairs<'p, 'a> {
+    /// The pairs of this list, which is in order.
+    pub fn new(pairs: Vec<Pair<'p, 'a>>) -> Pairs<'p, 'a>
+        requires { IsStrictlySortedBy pair_cmp pairs.items }
         ensures { result ≡ pairs.entry.items }
     {
         Pairs { pairs }
     }
 
     // The pairs in order.
-    pub(crate) fn as_slice(&self) -> &[Pair<'a>]
+    pub(crate) fn as_slice(&self) -> &[Pair<'p, 'a>]
         ensures { result.now ≡ self.now }
     {
         self.pairs.as_slice()
     }
 
-    // The stanza of this version of the name, if the pair is admitted and in an index. Linear in the pairs.
-    pub(crate) fn listed_of(&self, name: &[u8], version: &Version<'_>) -> Option<&Listed<'a>>
+    // The stanza of this version of the name, if the pair is admitted and in an index. A binary search.
+    pub(crate) fn listed_of(&self, name: &[u8], version: &Version<'_>) -> Option<&'p Entry<'a>>
         ensures { option_copied result ≡ listed_among self.now name.now version.now }
     {
         match pair_of(self.pairs.as_slice(), name, version) {

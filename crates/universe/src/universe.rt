@@ -11,21 +11,21 @@ use crate::pair::Pair;
 use crate::pairs::Pairs;
 use crate::start::Start;
 use debversion::Version;
-use index::Listed;
+use index::Entry;
 use rules::Goal;
 use std::marker::Model;
 
 /// The admitted pairs and the goals of a request, both numbered from 1, with the facts of the start and the
-/// candidates.
+/// candidates. It borrows the indices whose stanzas the pairs are of.
 #[derive(Drop)]
-pub struct Universe<'a> {
-    pairs: Pairs<'a>,
+pub struct Universe<'p, 'a> {
+    pairs: Pairs<'p, 'a>,
     goals: Vec<Goal>,
     starts: Vec<Start<'a>>,
     candidates: Vec<Candidate<'a>>,
 }
 
-impl<'a> Model for Universe<'a> {
+impl<'p, 'a> Model for Universe<'p, 'a> {
     ghost use Rattle.rules.specs.Universe.{Universe as UniverseValue};
 
     ghost Value = { UniverseValue };
@@ -47,14 +47,14 @@ fn candidate_among<'p, 'a>(
     candidates.iter().find(|candidate| candidate.name() == name)
 }
 
-impl<'a> Universe<'a> {
+impl<'p, 'a> Universe<'p, 'a> {
     /// The universe of these pairs, goals, facts of the start and candidates.
     pub fn new(
-        pairs: Pairs<'a>,
+        pairs: Pairs<'p, 'a>,
         goals: Vec<Goal>,
         starts: Vec<Start<'a>>,
         candidates: Vec<Candidate<'a>>,
-    ) -> Universe<'a>
+    ) -> Universe<'p, 'a>
         ensures { result ≡ record {
           pairs = pairs.entry;
           goals = goals.items;
@@ -71,7 +71,7 @@ impl<'a> Universe<'a> {
     }
 
     /// The admitted pairs in order: the pair at place 0 has the number 1.
-    pub fn pairs(&self) -> &[Pair<'a>]
+    pub fn pairs(&self) -> &[Pair<'p, 'a>]
         ensures { result.now ≡ self.now.pairs }
     {
         self.pairs.as_slice()
@@ -99,15 +99,16 @@ impl<'a> Universe<'a> {
     }
 
     /// The pair of this number, counted from 1.
-    pub fn pair(&self, number: u32) -> Option<&Pair<'a>>
+    pub fn pair(&self, number: u32) -> Option<&Pair<'p, 'a>>
         ensures { option_copied result ≡ numbered number self.now.pairs }
     {
         let place = number.checked_sub(1)?;
         self.pairs().get(place as usize)
     }
 
-    /// The stanza of this version of the name, if the pair is admitted and in an index. Linear in the pairs.
-    pub fn listed_of(&self, name: &[u8], version: &Version<'_>) -> Option<&Listed<'a>>
+    /// The stanza of this version of the name, if the pair is admitted and in an index. A binary search among the
+    /// pairs.
+    pub fn listed_of(&self, name: &[u8], version: &Version<'_>) -> Option<&'p Entry<'a>>
         ensures { option_copied result ≡ listed_of self.now name.now version.now }
     {
         self.pairs.listed_of(name, version)

@@ -12,8 +12,8 @@ use Rattle.rules.specs.declared.goal.Goal.{Goal}
 use Rattle.rules.specs.declared.goal.Goal.TheVariants as goal
 use Rattle.rules.specs.declared.op.Op.{Op}
 use Rattle.rules.specs.declared.op.Op.TheVariants as operator
+use Rattle.universe.proofs.PairOrder.{is_of-from, is_of-parts}
 use Rattle.universe_build.specs.Choice.{Exact, exact_of, exacts_of, is_sought, is_exactly}
-use Rattle.universe_build.proofs.StanzaOrder.{is_of-from, is_of-parts}
 use mathlib.Core.Logic.{inl, inr}
 
 -- what is left by a filter that changes comes from an element

@@ -19,10 +19,11 @@ use Rattle.rules.specs.NamedLaws.{bytes_eq-true, bytes_eq-same}
 use Rattle.rules.specs.Priority.{IsUpTo}
 use Rattle.rules.specs.Version.{version_cmp}
 use Rattle.rules.specs.VersionOrderLaws.{version_cmp-antisymm}
+use Rattle.universe.proofs.Finding.{find-exists, find-some}
 use Rattle.universe_build.specs.Choice.{AreBest, IsBeaten, choice_cmp, offer_cmp}
 use Rattle.universe_build.specs.Offer.{Offer}
 use Rattle.universe_build.specs.ChoiceLaws.{offer_cmp_total, offer_name_cmp_total}
-use Rattle.universe_build.proofs.Finding.{find-dedup, find-exists, find-some}
+use Rattle.universe_build.proofs.Finding.{find-dedup}
 use mathlib.Core.Logic.{inl, inr}
 
 -- nothing that passes is before the first that passes in a sorted list

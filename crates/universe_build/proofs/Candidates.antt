@@ -15,15 +15,15 @@ use Rattle.rules.specs.Universe.{IsOf}
 use Rattle.rules.specs.Version.{SameVersion}
 use Rattle.rules.specs.VersionOrderLaws.{SameVersion-refl}
 use Rattle.rules.specs.declared.goal.Goal.{Goal}
+use Rattle.universe.proofs.Finding.{sorted-one}
+use Rattle.universe.proofs.PairOrder.{is_of-from, is_of-parts}
 use Rattle.universe_build.specs.Build.{inputs_of}
 use Rattle.universe_build.specs.Choice.{AreBest, Exact, IsBeaten, best_exacts, is_sought, offer_name_cmp, offered_exact}
 use Rattle.universe_build.specs.Offer.{Offer, offers_of, upward}
 use Rattle.universe_build.specs.ChoiceLaws.{offer_name_cmp_total}
 use Rattle.universe_build.specs.Recorded.{is_downgrade}
-use Rattle.universe_build.proofs.Finding.{sorted-one}
 use Rattle.universe_build.proofs.Named.{downgrade-same}
 use Rattle.universe_build.proofs.Priorities.{IsEligible-from, IsEligible-is, IsFor, up_to-both, up_to-priority, up_to-same}
-use Rattle.universe_build.proofs.StanzaOrder.{is_of-from, is_of-parts}
 
 -- the offer isn't lower than what stands
 abbrev is_upward : List Record → Offer → Bool

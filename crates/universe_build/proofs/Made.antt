@@ -24,6 +24,8 @@ use Rattle.rules.specs.Universe.{Candidate, IsAdmitted, IsOf, IsOffered, IsUnive
 use Rattle.rules.specs.Version.{SameVersion}
 use Rattle.rules.specs.VersionOrderLaws.{SameVersion-refl, SameVersion-symm, SameVersion-trans}
 use Rattle.rules.specs.declared.goal.Goal.{Goal}
+use Rattle.universe.proofs.Finding.{AllPairs-rising}
+use Rattle.universe.proofs.PairOrder.{of_itself}
 use Rattle.universe_build.specs.Build.{inputs_of}
 use Rattle.universe_build.specs.Choice.{AreBest, IsOrdered, best_exacts, candidate_at, exacts_of, is_sought, listed_pair, offer_name_cmp, stanza_of}
 use Rattle.universe_build.specs.Offer.{Offer, offers_by, offers_of, standing_offers, upward}
@@ -31,11 +33,9 @@ use Rattle.universe_build.specs.Chosen.{ArePairs, admitted_among, chosen_pairs, 
 use Rattle.universe_build.specs.Recorded.{IsByName, is_held, stands_as}
 use Rattle.universe_build.proofs.Asked.{Contains-filter_map, Contains-filter_map_intro, is_sought-from, is_sought-names}
 use Rattle.universe_build.proofs.Candidates.{best_of_candidate, best_sought, candidate_of_best, sought_best, upward_within}
-use Rattle.universe_build.proofs.Finding.{AllPairs-rising}
 use Rattle.universe_build.proofs.Named.{StandsAs-from, StandsAs-is, held-from, held-is, known_within, of_record-known, standing-from, standing-is, standing_record-none, standing_record-one, stands_as-same, stands_in, within_known}
 use Rattle.universe_build.proofs.Ordered.{found_ordered, ordered_found, ordered_stanza}
 use Rattle.universe_build.proofs.Priorities.{IsFor, offered_listed, standing_from}
-use Rattle.universe_build.proofs.StanzaOrder.{of_itself}
 use mathlib.Core.Logic.{inl, inr}
 
 -- each element of a sorted list is before all that follow, also after a change that keeps the order

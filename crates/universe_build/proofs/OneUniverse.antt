@@ -17,7 +17,7 @@ use Rattle.rules.specs.Universe.{IsOf, IsUniverse, Pair, Universe, pair_cmp}
 use Rattle.rules.specs.Version.{SameVersion}
 use Rattle.rules.specs.VersionOrderLaws.{version_cmp-same_right}
 use Rattle.universe.specs.PairLaws.{pair_cmp_total}
-use Rattle.universe_build.proofs.StanzaOrder.{of_itself}
+use Rattle.universe.proofs.PairOrder.{of_itself}
 use Rattle.universe_build.proofs.Searching.{find-agree}
 use mathlib.Core.Logic.{inl, inr}
 

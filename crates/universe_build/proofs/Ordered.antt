@@ -4,19 +4,11 @@ use Rattle.std.specs.List.{Contains}
 use Rattle.rules.specs.Available.{is_of}
 use Rattle.rules.specs.Step.{Listed}
 use Rattle.rules.specs.Universe.{IsOf}
-use Rattle.rules.specs.VersionOrderLaws.{SameVersion-symm, SameVersion-trans}
+use Rattle.universe.proofs.Finding.{find-exists, find-some, sorted-one}
+use Rattle.universe.proofs.PairOrder.{is_of-from, is_of-parts, same_pair}
 use Rattle.universe_build.specs.Choice.{IsOrdered, stanza_of}
 use Rattle.universe_build.specs.ChoiceLaws.{listed_cmp_total}
-use Rattle.universe_build.proofs.Finding.{find-exists, find-some, sorted-one}
-use Rattle.universe_build.proofs.StanzaOrder.{is_of-from, is_of-parts, listed_cmp-tied}
-
--- another stanza of the same name and version
-pub same_pair : (name version : List ℕ) (found other : Listed) → IsOf name version found.pkg → IsOf name version other.pkg
-    → IsOf other.pkg.name other.pkg.version found.pkg
-same_pair name version found other of of' = (
-  of.0 ∙ sym of'.0,
-  SameVersion-trans found.pkg.version version other.pkg.version of.1 (SameVersion-symm other.pkg.version version of'.1),
-)
+use Rattle.universe_build.proofs.StanzaOrder.{listed_cmp-tied}
 
 -- what is found of a version stands in order
 pub ordered_found : (listed ordered : List Listed) → IsOrdered listed ordered → (name version : List ℕ) (found : Listed)
@@ -35,7 +27,7 @@ found_ordered listed ordered is found within name version of =
     let own : IsOf name version first.0.pkg = is_of-parts name version first.0.pkg at.1 in
     sym (is.earliest name version) ∙ first.1 ∙ ap Some
     (sorted-one listed_cmp_total ordered is.ascending first.0 found at.0 within
-    (listed_cmp-tied first.0 found (same_pair name version first.0 found own of)))
+    (listed_cmp-tied first.0 found (same_pair name version first.0.pkg found.pkg own of)))
 
 -- a stanza of a version stands in order as the one that is found
 pub ordered_stanza : (listed ordered : List Listed) → IsOrdered listed ordered → (other : Listed) → Contains listed other

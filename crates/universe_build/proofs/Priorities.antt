@@ -20,13 +20,13 @@ use Rattle.rules.specs.Universe.{IsOf}
 use Rattle.rules.specs.Version.{SameVersion, version_cmp}
 use Rattle.rules.specs.VersionOrderLaws.{SameVersion-symm, SameVersion-trans, version_cmp-antisymm, version_cmp-same_left, version_cmp-same_right}
 use Rattle.rules.specs.declared.goal.Goal.{Goal}
+use Rattle.universe.proofs.Finding.{find-exists, find-some}
+use Rattle.universe.proofs.PairOrder.{is_of-from, is_of-parts}
 use Rattle.universe_build.specs.Build.{inputs_of}
 use Rattle.universe_build.specs.Offer.{Offer, offer_at, offers_by, offers_in, offers_of, standing_offer, standing_offers}
 use Rattle.universe_build.specs.Recorded.{is_downgrade}
 use Rattle.universe_build.proofs.Asked.{Contains-filter_map, Contains-filter_map_intro}
-use Rattle.universe_build.proofs.Finding.{find-exists, find-some}
 use Rattle.universe_build.proofs.Named.{downgrade-from, downgrade-is, standing_record-exists, standing_record-is}
-use Rattle.universe_build.proofs.StanzaOrder.{is_of-from, is_of-parts}
 use mathlib.Core.Logic.{inl, inr}
 
 -- the offer is of the name and the version

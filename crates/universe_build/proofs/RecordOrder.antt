@@ -1,19 +1,17 @@
 -- The records in the order of their names, the pairs in their order, and what a binary search finds among records and
 -- stanzas.
-use Rattle.std.proofs.Common.{◌≡◌, ℕ, ◌+◌, ◌<◌, [], arith, Bool, true, false, not, IsSome, unwrap_or, ◌&&◌, List, length, get_or, Ok, Err, Option, Some, None, refl, sym, ap, subst, ◌∙◌, bytes_eq}
+use Rattle.std.proofs.Common.{◌≡◌, ℕ, [], Bool, true, not, ◌&&◌, List, length, Ok, Err, None, refl, sym, ap, subst, ◌∙◌, bytes_eq}
 use Rattle.std.specs.Cmp.{Equal-is}
 use Rattle.std.specs.Cmp.Lexicographic.{nat_list_cmp_total}
 use Rattle.std.specs.List.{Contains, dedup, find, slice_get}
-use Rattle.std.specs.Option.{option_map}
 use Rattle.std.specs.List.Sorted.{IsBinarySearchResult, IsPermutation, IsSearchInRange, IsSorted, IsStable, IsStrictlySortedBy, ties}
-use Rattle.std.specs.Ordering.{eq_by_cmp, is_eq, is_lt, ordering_reverse}
+use Rattle.std.specs.Ordering.{eq_by_cmp, is_lt}
 use Rattle.std.specs.declared.cmp.Ordering.{Ordering}
-use Rattle.std.specs.declared.cmp.Ordering.TheVariants.{Less}
 use Rattle.std.proofs.lemmas.List.Elements.{filter_agree}
 use Rattle.std.proofs.lemmas.List.Kept.{Contains-from_dedup, IsStrictlySortedBy-dedup}
 use Rattle.std.proofs.lemmas.List.Sorted.{Contains-permutation, IsPermutation-sym, searchable_from_sorted}
 use Rattle.std.proofs.lemmas.Map.Text.{is_eq-slice_cmp}
-use Rattle.rules.specs.Available.{is_of, same_version}
+use Rattle.rules.specs.Available.{is_of}
 use Rattle.rules.specs.Database.{Record}
 use Rattle.rules.specs.ElementLaws.{Any-intro}
 use Rattle.rules.specs.Name.{name_cmp}
@@ -21,20 +19,21 @@ use Rattle.rules.specs.NamedLaws.{bytes_eq-true}
 use Rattle.rules.specs.Package.{Pkg}
 use Rattle.rules.specs.Step.{Listed, is_named, no_relations}
 use Rattle.rules.specs.Universe.{IsOf, Pair, pair_cmp}
-use Rattle.rules.specs.Version.{version_cmp}
 use Rattle.rules.specs.declared.status.Flag.TheVariants.{Sound}
 use Rattle.rules.specs.declared.status.State.TheVariants.{NotInstalled}
 use Rattle.rules.specs.declared.status.Want.TheVariants.{Unknown}
-use Rattle.universe_build.specs.Choice.{listed_cmp, pkg_order, stanza_of}
+use Rattle.universe.proofs.Finding.{find-exists, find-some, not_back, sorted-one}
+use Rattle.universe.proofs.PairOrder.{is_of-from, is_of-parts, of_itself, pkg_order-ties, same_pair}
+use Rattle.universe.proofs.Searching.{searched_find, searched_none}
+use Rattle.universe_build.specs.Choice.{listed_cmp, stanza_of}
+use Rattle.universe.specs.Pair.{pkg_order}
 use Rattle.universe.specs.PairLaws.{pair_cmp_total}
 use Rattle.universe_build.specs.ChoiceLaws.{listed_cmp_total}
 use Rattle.universe_build.specs.Chosen.{ArePairs}
 use Rattle.universe_build.specs.Recorded.{IsByName, record_cmp}
 use Rattle.universe_build.specs.RecordedLaws.{record_cmp_total}
-use Rattle.universe_build.proofs.Finding.{AllPairs-rising, find-dedup, find-exists, find-filter, find-some, first_of_all, sorted-one}
-use Rattle.universe_build.proofs.Ordered.{same_pair}
-use Rattle.universe_build.proofs.Searching.{slice_get-found, searched_find, searched_none}
-use Rattle.universe_build.proofs.StanzaOrder.{is_eq-then, is_of-alike, is_of-from, is_of-parts, listed_cmp-tied, of_itself, ties-eq}
+use Rattle.universe_build.proofs.Finding.{find-dedup, find-filter, first_of_all}
+use Rattle.universe_build.proofs.StanzaOrder.{is_of-alike, listed_cmp-tied, ties-eq}
 
 -- the stanza of a package, where nothing else counts
 abbrev bare : Pkg → Listed
@@ -104,35 +103,12 @@ IsByName-from_sort db sorted known up stable same = subst (IsByName db) (sym sam
       ∙ find-stable_record name db sorted stable;
 })
 
--- what is strictly in order is in order
-not_back : {X : Type 0} (R : X → X → Ordering) → ((x y : X) → R x y ≡ ordering_reverse (R y x)) → (xs : List X)
-    → IsStrictlySortedBy R xs → IsSorted R xs
-not_back R turns xs ascending k d low high =
-    let below : R (get_or xs k d) (get_or xs (k + 1) d) ≡ Less =
-    AllPairs-rising R xs ascending k (k + 1) d (omega arith) high in
-    ap is_lt (turns (get_or xs (k + 1) d) (get_or xs k d) ∙ ap ordering_reverse below)
-
 -- of one name there is one record in order
 pub one_record : (known : List Record) (name : List ℕ) → IsStrictlySortedBy record_cmp known → (found other : Record) → Contains known found
     → Contains known other → is_named name found ≡ true → is_named name other ≡ true → found ≡ other
 one_record known name ascending found other one two named named' = sorted-one record_cmp_total known ascending found other one two
     ((Equal-is (record_cmp found other)).0
     (is_eq-slice_cmp found.name other.name ∙ ap (bytes_eq found.name) (bytes_eq-true other.name name named') ∙ named))
-
--- what a place that is within gives is the element there
-some-map : {A B : Type 0} (f : A → B) (o : Option A) → IsSome o → IsSome (option_map f o)
-some-map f None some = absurd (let e : false ≡ true = some in cc)
-some-map f (Some x) some = refl
-
-pub got : {A X : Type 0} (f : A → X) (o : Option A) (xs : List X) (i : ℕ) → i < length xs → IsSome o
-    → ((d : X) → unwrap_or (option_map f o) d ≡ get_or xs i d) → option_map f o ≡ slice_get xs i
-got {A} {X} f o xs i within some is = at (option_map f o) (some-map f o some) is
-  where
-    at : (p : Option X) → IsSome p → ((d : X) → unwrap_or p d ≡ get_or xs i d) → p ≡ slice_get xs i
-    at None none by = absurd (let e : false ≡ true = none in cc)
-    at (Some x) here by =
-        let there = slice_get-found (λ (y : X). x ≡ y) xs i within (λ d. by d) in
-        ap Some there.3 ∙ sym there.1
 
 -- the record at the place that a binary search finds is that of the name
 pub searched_record : (known : List Record) (name : List ℕ) (i : ℕ) → IsStrictlySortedBy record_cmp known
@@ -154,12 +130,7 @@ one_stanza : (ordered : List Listed) (name version : List ℕ) → IsStrictlySor
     → Contains ordered found → Contains ordered other → is_of name version found.pkg ≡ true → is_of name version other.pkg ≡ true
     → found ≡ other
 one_stanza ordered name version ascending found other one two of of' = sorted-one listed_cmp_total ordered ascending found other one two
-    (listed_cmp-tied found other (same_pair name version found other (is_of-parts name version found.pkg of) (is_of-parts name version other.pkg of')))
-
--- the order ties just the packages of the name and the version
-pkg_order-ties : (name version : List ℕ) (found : Listed) → is_eq (pkg_order found.pkg name version) ≡ is_of name version found.pkg
-pkg_order-ties name version found = is_eq-then (name_cmp found.pkg.name name) (version_cmp found.pkg.version version)
-    ∙ ap (λ (b : Bool). b && same_version found.pkg.version version) (is_eq-slice_cmp found.pkg.name name)
+    (listed_cmp-tied found other (same_pair name version found.pkg other.pkg (is_of-parts name version found.pkg of) (is_of-parts name version other.pkg of')))
 
 -- the stanza at the place that a binary search finds is that of the version
 pub searched_stanza : (ordered : List Listed) (name version : List ℕ) (i : ℕ) → IsStrictlySortedBy listed_cmp ordered
@@ -167,14 +138,14 @@ pub searched_stanza : (ordered : List Listed) (name version : List ℕ) (i : ℕ
     → slice_get ordered i ≡ stanza_of ordered name version
 searched_stanza ordered name version i ascending within found =
     searched_find (λ (found : Listed). is_of name version found.pkg) (λ (found : Listed). pkg_order found.pkg name version) ordered i
-    (pkg_order-ties name version) (λ found other. one_stanza ordered name version ascending found other) within found
+    (λ found. pkg_order-ties name version found.pkg) (λ found other. one_stanza ordered name version ascending found other) within found
 
 pub searched_no_stanza : (ordered : List Listed) (name version : List ℕ) (i : ℕ) → IsStrictlySortedBy listed_cmp ordered
     → IsSearchInRange (Err i) (length ordered) → IsBinarySearchResult (λ (found : Listed). pkg_order found.pkg name version) ordered (Err i)
     → None ≡ stanza_of ordered name version
 searched_no_stanza ordered name version i ascending within found =
     sym (searched_none (λ (found : Listed). is_of name version found.pkg) (λ (found : Listed). pkg_order found.pkg name version) ordered i
-    (pkg_order-ties name version)
+    (λ found. pkg_order-ties name version found.pkg)
     (searchable_from_sorted listed_cmp_total (λ (found : Listed). found) ordered
     (bare (record { name = name; version = version; relations = no_relations }))
     (not_back listed_cmp listed_cmp_total.antisymm ordered ascending)) within found)

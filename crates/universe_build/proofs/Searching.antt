@@ -1,19 +1,17 @@
--- What a binary search in a sorted list finds, and that the stanzas in order have the names of all.
-use Rattle.std.proofs.Common.{◌≡◌, ℕ, zero, suc, ◌+◌, ◌<◌, ◌≤◌, Bool, true, false, not, ◌&&◌, List, [], ◌∷◌, length, get_or, Result, Ok, Err, Option, Some, None, refl, sym, ap, ◌∙◌, arith, bytes_eq}
+-- What a binary search finds among names and among what is sought, and that the stanzas in order have the names of all.
+use Rattle.std.proofs.Common.{◌≡◌, ℕ, ◌+◌, Bool, true, false, not, ◌&&◌, List, [], ◌∷◌, length, get_or, Result, Option, Some, None, refl, sym, ap, ◌∙◌, arith, bytes_eq}
 use Rattle.std.specs.Prelude.{is_ok}
 use Rattle.std.specs.Cmp.Lexicographic.{nat_list_cmp_total}
-use Rattle.std.specs.List.{Any, Contains, find, list_any, slice_get}
-use Rattle.std.specs.List.Sorted.{IsBinarySearchResult, IsNonDecreasingBy, IsSearchInRange, IsSorted, IsSortedBy, IsStrictlySortedBy}
+use Rattle.std.specs.List.{find}
+use Rattle.std.specs.List.Sorted.{IsBinarySearchResult, IsSearchInRange, IsSorted, IsSortedBy, IsStrictlySortedBy}
 use Rattle.std.specs.Option.{option_map, option_map_or}
-use Rattle.std.specs.Ordering.{is_eq, is_lt, ordering_index, ordering_reverse, ordering_then}
+use Rattle.std.specs.Ordering.{is_eq, is_lt, ordering_reverse, ordering_then}
 use Rattle.std.specs.declared.cmp.Ordering.{Ordering}
 use Rattle.std.specs.declared.cmp.Ordering.TheVariants.{Less, Equal, Greater}
-use Rattle.std.proofs.lemmas.Bool.{cases_lt, false_from_ne_true}
-use Rattle.std.proofs.lemmas.List.Elements.{Contains-get_or}
 use Rattle.std.proofs.lemmas.List.Sorted.{searchable_from_sorted}
 use Rattle.std.proofs.lemmas.Map.Text.{is_eq-slice_cmp}
 use Rattle.rules.specs.Available.{is_of, same_version}
-use Rattle.rules.specs.ElementLaws.{Any-elim, Any-from_list_any, Contains-head, Contains-rest, list_any-from_contains}
+use Rattle.rules.specs.ElementLaws.{Any-elim, Any-from_list_any, list_any-from_contains}
 use Rattle.rules.specs.Database.{Record}
 use Rattle.rules.specs.Name.{name_cmp}
 use Rattle.rules.specs.State.{is_not_installed_state}
@@ -21,43 +19,14 @@ use Rattle.rules.specs.Step.{Listed}
 use Rattle.rules.specs.Version.{version_cmp}
 use Rattle.rules.specs.declared.goal.Goal.{Goal}
 use Rattle.rules.specs.declared.goal.GoalLine.{GoalLine}
+use Rattle.universe.proofs.Finding.{AllPairs-rising, find-some}
+use Rattle.universe.proofs.PairOrder.{is_eq-then, of_itself}
+use Rattle.universe.proofs.Searching.{searched_any}
 use Rattle.universe_build.specs.Build.{first_unknown, has_name, is_unknown, named_by}
 use Rattle.universe_build.specs.Choice.{Exact, IsOrdered, exact_at, exact_cmp, is_sought, listed_cmp}
 use Rattle.universe_build.specs.ChoiceLaws.{exact_cmp_total}
 use Rattle.universe_build.proofs.Ordered.{found_ordered, ordered_stanza}
 use Rattle.universe_build.specs.Recorded.{IsByName, is_recorded}
-use Rattle.universe_build.proofs.Finding.{AllPairs-rising, find-exists, find-some}
-use Rattle.universe_build.proofs.StanzaOrder.{is_eq-then, of_itself}
-use mathlib.Core.Logic.{inl, inr}
-
--- a binary search tells whether an element passes, where just those that are found equal pass
-pub searched_any : {X : Type 0} (test : X → Bool) (ord : X → Ordering) (xs : List X) (r : Result ℕ ℕ)
-    → ((x : X) → is_eq (ord x) ≡ test x) → IsNonDecreasingBy (λ x. ordering_index (ord x)) xs
-    → IsSearchInRange r (length xs) → IsBinarySearchResult ord xs r → is_ok r ≡ list_any test xs
-searched_any {X} test ord xs (Ok i) same rises within found = sym (some xs within found)
-  where
-    some : (ys : List X) → i < length ys → ((d : X) → ord (get_or ys i d) ≡ Equal) → list_any test ys ≡ true
-    some [] within found = absurd (omega arith)
-    some (y ∷ ys) within found = list_any-from_contains test (y ∷ ys) (get_or (y ∷ ys) i y)
-        (Contains-get_or (y ∷ ys) i y within)
-        (sym (same (get_or (y ∷ ys) i y)) ∙ ap is_eq (found y))
-searched_any {X} test ord xs (Err i) same rises within found =
-    sym (false_from_ne_true (list_any test xs) (λ some.
-    Any-elim' (Any-from_list_any test xs some)))
-  where
-    parts : ((k : ℕ) (d : X) → 0 ≤ k → k < i → ord (get_or xs k d) ≡ Less)
-        × ((k : ℕ) (d : X) → i ≤ k → k < length xs → ord (get_or xs k d) ≡ Greater)
-    parts = found rises
-
-    unlike : (x : X) → test x ≡ true → (o : Ordering) → is_eq o ≡ false → ord x ≡ o → ⊥
-    unlike x passes o other is =
-        let e : true ≡ false = sym passes ∙ sym (same x) ∙ ap is_eq is ∙ other in cc
-
-    Any-elim' : Any (λ x. test x ≡ true) xs → ⊥
-    Any-elim' (k, x, inside, is, passes) = elim (cases_lt k i) [
-      | inl below ↦ unlike x passes Less refl (ap ord (sym is) ∙ parts.0 k x (omega arith) below)
-      | inr above ↦ unlike x passes Greater refl (ap ord (sym is) ∙ parts.1 k x above inside)
-    ]
 
 -- of two in a row, the second isn't before the first
 not_before : (o v : Ordering) → ordering_then o v ≡ Less → is_lt (ordering_reverse o) ≡ false
@@ -165,37 +134,3 @@ first_unknown-ordered start known listed ordered are is lines = ap (option_map (
     (λ asked. is_unknown-agree known start ordered listed
     (λ name. ap (λ (o : Option Record). option_map_or (λ found. not (is_not_installed_state found.state)) o false) (are.same name))
     (has_name-ordered listed ordered is) asked.goal) lines)
-
--- a place that is within has an element
-pub slice_get-found : {X : Type 0} (P : X → Type 0) (xs : List X) (i : ℕ) → i < length xs → ((d : X) → P (get_or xs i d))
-    → (x : X) × (slice_get xs i ≡ Some x) × Contains xs x × P x
-slice_get-found P [] i within holds = absurd (omega arith)
-slice_get-found P (x ∷ xs) zero within holds = (x, refl, Contains-head x xs, holds x)
-slice_get-found {X} P (x ∷ xs) (suc i) within holds =
-    let later = slice_get-found P xs i (omega arith) (λ d. holds d) in
-    (later.0, later.1, Contains-rest x xs later.0 later.2, later.3)
-
--- the element at the place that a binary search finds is the one that passes, where no other does
-pub searched_find : {X : Type 0} (test : X → Bool) (ord : X → Ordering) (xs : List X) (i : ℕ)
-    → ((x : X) → is_eq (ord x) ≡ test x)
-    → ((x y : X) → Contains xs x → Contains xs y → test x ≡ true → test y ≡ true → x ≡ y)
-    → i < length xs → ((d : X) → ord (get_or xs i d) ≡ Equal) → slice_get xs i ≡ find test xs
-searched_find test ord xs i same one within found =
-    let at = slice_get-found (λ x. ord x ≡ Equal) xs i within found in
-    let passes : test at.0 ≡ true = sym (same at.0) ∙ ap is_eq at.3 in
-    let first = find-exists test xs at.0 at.2 passes in
-    let there = find-some test xs first.0 first.1 in
-    at.1 ∙ ap Some (one at.0 first.0 at.2 there.0 passes there.1) ∙ sym first.1
-
--- where a binary search finds nothing, nothing passes
-pub searched_none : {X : Type 0} (test : X → Bool) (ord : X → Ordering) (xs : List X) (i : ℕ)
-    → ((x : X) → is_eq (ord x) ≡ test x) → IsNonDecreasingBy (λ x. ordering_index (ord x)) xs
-    → IsSearchInRange (Err i) (length xs) → IsBinarySearchResult ord xs (Err i) → find test xs ≡ None
-searched_none {X} test ord xs i same rises within found = at (find test xs) refl
-  where
-    at : (o : Option X) → find test xs ≡ o → find test xs ≡ None
-    at None none = none
-    at (Some x) some =
-        let there = find-some test xs x some in
-        absurd (let e : false ≡ true = searched_any test ord xs (Err i) same rises within found
-        ∙ list_any-from_contains test xs x there.0 there.1 in cc)

@@ -4,44 +4,22 @@ use Rattle.std.proofs.Common.{◌≡◌, ℕ, Bool, true, not, ◌&&◌, List, [
 use Rattle.std.specs.Cmp.{Equal-is}
 use Rattle.std.specs.List.{dedup, find}
 use Rattle.std.specs.List.Sorted.{IsSorted, IsStable, ties}
-use Rattle.std.specs.Ordering.{eq_by_cmp, is_eq, is_lt, ordering_reverse, ordering_then}
+use Rattle.std.specs.Ordering.{eq_by_cmp, is_eq, is_lt, ordering_reverse}
 use Rattle.std.specs.declared.cmp.Ordering.{Ordering}
 use Rattle.std.specs.declared.cmp.Ordering.TheVariants.{Less, Equal, Greater}
-use Rattle.std.proofs.lemmas.Bool.{and_parts, and_from}
 use Rattle.std.proofs.lemmas.List.Elements.{filter_agree}
 use Rattle.std.proofs.lemmas.List.Kept.{IsStrictlySortedBy-dedup}
 use Rattle.std.proofs.lemmas.Map.Text.{is_eq-slice_cmp}
 use Rattle.rules.specs.Available.{is_of, same_version}
 use Rattle.rules.specs.Name.{name_cmp}
-use Rattle.rules.specs.NamedLaws.{bytes_eq-true, bytes_eq-same}
-use Rattle.rules.specs.Package.{Pkg}
 use Rattle.rules.specs.Step.{Listed, no_relations}
 use Rattle.rules.specs.Universe.{IsOf}
 use Rattle.rules.specs.Version.{version_cmp}
-use Rattle.rules.specs.VersionOrderLaws.{SameVersion-refl, version_cmp-same_left}
+use Rattle.rules.specs.VersionOrderLaws.{version_cmp-same_left}
+use Rattle.universe.proofs.PairOrder.{is_eq-then, is_of-from, is_of-parts}
 use Rattle.universe_build.specs.Choice.{IsOrdered, listed_cmp}
 use Rattle.universe_build.specs.ChoiceLaws.{listed_cmp_total}
 use Rattle.universe_build.proofs.Finding.{find-dedup, find-filter, first_of_all}
-
--- the test of a name and a version says just this
-pub is_of-parts : (name version : List ℕ) (pkg : Pkg) → is_of name version pkg ≡ true → IsOf name version pkg
-is_of-parts name version pkg passes =
-    let both = and_parts (bytes_eq pkg.name name) (same_version pkg.version version) passes in
-    (bytes_eq-true pkg.name name both.0, (Equal-is (version_cmp pkg.version version)).0 both.1)
-
-pub is_of-from : (name version : List ℕ) (pkg : Pkg) → IsOf name version pkg → is_of name version pkg ≡ true
-is_of-from name version pkg of = and_from (bytes_eq pkg.name name) (same_version pkg.version version)
-    (bytes_eq-same pkg.name name of.0) ((Equal-is (version_cmp pkg.version version)).1 of.1)
-
--- the package is of its own name and version
-pub of_itself : (pkg : Pkg) → IsOf pkg.name pkg.version pkg
-of_itself pkg = (refl, SameVersion-refl pkg.version)
-
--- two orders in a row tie where both tie
-pub is_eq-then : (o w : Ordering) → is_eq (ordering_then o w) ≡ (is_eq o && is_eq w)
-is_eq-then Less w = refl
-is_eq-then Equal w = refl
-is_eq-then Greater w = refl
 
 -- the order ties a stanza with just the stanzas of its name and version
 pub listed_cmp-ties : (found other : Listed) → is_eq (listed_cmp found other) ≡ is_of other.pkg.name other.pkg.version found.pkg

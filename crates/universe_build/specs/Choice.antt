@@ -3,11 +3,10 @@
 use Rattle.std.specs.Prelude.{◌≡◌, ℕ, Bool, false, true, List, map, Option, Some, None, if◌then◌else◌}
 use Rattle.std.specs.List.{Any, Contains, list_any, filter_map, find}
 use Rattle.std.specs.List.Sorted.{IsPermutation, IsSorted, IsStrictlySortedBy}
-use Rattle.std.specs.Ordering.{flip_args, int_cmp, on, ordering_then, then_cmp}
+use Rattle.std.specs.Ordering.{flip_args, int_cmp, on, then_cmp}
 use Rattle.std.specs.declared.cmp.Ordering.{Ordering}
 use Rattle.rules.specs.Available.{is_of}
 use Rattle.rules.specs.Name.{name_cmp}
-use Rattle.rules.specs.Package.{Pkg}
 use Rattle.rules.specs.Priority.{IsUpTo}
 use Rattle.rules.specs.Step.{Listed}
 use Rattle.rules.specs.Universe.{Candidate, Pair}
@@ -26,10 +25,6 @@ listed_pair found = record { pkg = found.pkg; listed = Some found }
 -- the order of stanzas: by name and then by version
 abbrev pub listed_cmp : Listed → Listed → Ordering
 listed_cmp = then_cmp (on (λ found. found.pkg.name) name_cmp) (on (λ found. found.pkg.version) version_cmp)
-
--- how the package compares with a name and a version
-abbrev pub pkg_order : Pkg → List ℕ → List ℕ → Ordering
-pkg_order pkg name version = ordering_then (name_cmp pkg.name name) (version_cmp pkg.version version)
 
 -- the earliest stanza of this version of the name
 abbrev pub stanza_of : List Listed → List ℕ → List ℕ → Option Listed

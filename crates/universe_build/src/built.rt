@@ -68,17 +68,17 @@ fn goals_of(alloc: Global, lines: Vec<GoalLine>) -> Result<Vec<Goal>, AllocError
 /// release is the target. The priority of a version is the greatest that a place with it gives by default: of the status
 /// file 100, of an index 500, or of a NotAutomatic index 100 with ButAutomaticUpgrades and 1 without (apt_preferences(5)).
 /// Of equal versions the one that stands counts, then the stanza of the earlier index, and then the earlier stanza. The
-/// relations of the admitted pairs alone are read.
+/// universe lends the stanzas of the indices, and of no stanza the relations are read here.
 ///
 /// It refuses the first goal that names a package that no stanza has and that is in no state but not-installed, then more
 /// than 1,000,000 admitted pairs, and growths that are refused. About n log n comparisons of n stanzas and records, and for
 /// m goals about m log n and n log m more.
-pub fn build<'a>(
+pub fn build<'p, 'a>(
     alloc: Global,
     start: &[&Record<'a>],
-    indices: &[Index<'a>],
+    indices: &'p [Index<'a>],
     goals: Vec<GoalLine>,
-) -> Result<Universe<'a>, UniverseError>
+) -> Result<Universe<'p, 'a>, UniverseError>
     requires { HasDistinctNames (records_of (map (λ r. r.now) start.now)) }
     ensures ok { IfOk result (λ u. IsBuilt (records_of (map (λ r. r.now) start.now)) (indices_of indices.now) goals.items u) }
     ensures err { IfErr result (λ e. IsUniverseFault (records_of (map (λ r. r.now) start.now)) (indices_of indices.now) goals.items e) }

@@ -3,6 +3,7 @@
 ghost use Rattle.std.specs.Prelude.{◌≡◌, ◌||◌, IfOk, map};
 ghost use Rattle.std.specs.List.{filter};
 ghost use Rattle.std.specs.List.Sorted.{IsSorted, IsStrictlySortedBy};
+ghost use Rattle.std.specs.Option.{option_copied};
 ghost use Rattle.universe_build.specs.Build.{goals_of};
 ghost use Rattle.universe_build.specs.Choice.{exact_cmp, exacts_of, is_sought, listed_cmp, listed_pair};
 ghost use Rattle.universe_build.specs.Chosen.{ArePairs, admitted_among, chosen_pairs, is_free, standing_pair, standing_stanza, standing_pairs};
@@ -12,7 +13,7 @@ use crate::exact::{Exact, best_exacts, exacts_of, is_sought};
 use crate::offer::Offer;
 use crate::order::{Found, stanza_of};
 use crate::recorded::{Recorded, is_held, stands_as};
-use index::Listed;
+use index::Entry;
 use rules::GoalLine;
 use std::alloc::{AllocError, Global};
 use universe::Pair;
@@ -73,49 +74,44 @@ fn admitted<'p, 'a>(
     Ok(wanted_of(chosen.as_slice(), asked.as_slice(), ordered))
 }
 
-// The pairs of the stanzas, whose relations are read here.
-fn listed_pairs<'a>(alloc: Global, kept: &[Found<'_, 'a>]) -> Result<Vec<Pair<'a>>, AllocError>
+// The pairs of the stanzas.
+fn listed_pairs<'p, 'a>(
+    alloc: Global,
+    kept: &[Found<'p, 'a>],
+) -> Result<Vec<Pair<'p, 'a>>, AllocError>
     ensures { IfOk result (λ pairs. pairs.items ≡ map listed_pair kept.now) }
 {
     let mut pairs = Vec::new(alloc);
     for found in kept {
-        let listed = found.listed(alloc)?;
-        pairs.push(Pair::listed_alone(listed))?;
+        pairs.push(Pair::listed_alone(found.entry()))?;
     }
     Ok(pairs)
 }
 
 // The stanza of the record's version in the indices, if there is one.
-fn stanza_by<'a>(
-    alloc: Global,
-    ordered: &[Found<'_, 'a>],
-    found: &Recorded<'_, 'a>,
-) -> Result<Option<Listed<'a>>, AllocError>
+fn stanza_by<'p, 'a>(ordered: &[Found<'p, 'a>], found: &Recorded<'_, 'a>) -> Option<&'p Entry<'a>>
     requires { IsStrictlySortedBy listed_cmp ordered.now }
-    ensures { IfOk result (λ listed. listed ≡ standing_stanza ordered.now found.now) }
+    ensures { option_copied result ≡ standing_stanza ordered.now found.now }
 {
     let Some(version) = found.standing() else {
-        return Ok(None);
+        return None;
     };
     match stanza_of(ordered, found.name(), &version) {
-        None => Ok(None),
-        Some(stanza) => {
-            let listed = stanza.listed(alloc)?;
-            Ok(Some(listed))
-        }
+        None => None,
+        Some(stanza) => Some(stanza.entry()),
     }
 }
 
 // The pair of the record, if its package stands.
-fn standing_pair<'a>(
+fn standing_pair<'p, 'a>(
     alloc: Global,
-    ordered: &[Found<'_, 'a>],
+    ordered: &[Found<'p, 'a>],
     found: &Recorded<'_, 'a>,
-) -> Result<Option<Pair<'a>>, AllocError>
+) -> Result<Option<Pair<'p, 'a>>, AllocError>
     requires { IsStrictlySortedBy listed_cmp ordered.now }
     ensures { IfOk result (λ pair. pair ≡ standing_pair ordered.now found.now) }
 {
-    let listed = stanza_by(alloc, ordered, found)?;
+    let listed = stanza_by(ordered, found);
     match found.standing_pkg(alloc)? {
         None => Ok(None),
         Some(pkg) => Ok(Some(Pair::standing(pkg, listed))),
@@ -123,11 +119,11 @@ fn standing_pair<'a>(
 }
 
 // The pairs of what stands.
-fn standing_pairs<'a>(
+fn standing_pairs<'p, 'a>(
     alloc: Global,
     known: &[Recorded<'_, 'a>],
-    ordered: &[Found<'_, 'a>],
-) -> Result<Vec<Pair<'a>>, AllocError>
+    ordered: &[Found<'p, 'a>],
+) -> Result<Vec<Pair<'p, 'a>>, AllocError>
     requires { IsStrictlySortedBy listed_cmp ordered.now }
     ensures { IfOk result (λ pairs. pairs.items ≡ standing_pairs ordered.now known.now) }
 {
@@ -140,7 +136,7 @@ fn standing_pairs<'a>(
     Ok(pairs)
 }
 
-fn in_order<'a>(pairs: Vec<Pair<'a>>) -> Result<Vec<Pair<'a>>, AllocError>
+fn in_order<'p, 'a>(pairs: Vec<Pair<'p, 'a>>) -> Result<Vec<Pair<'p, 'a>>, AllocError>
     ensures { IfOk result (λ ordered. ArePairs pairs.entry.items ordered.items) }
 {
     let mut ordered = pairs;
@@ -151,13 +147,13 @@ fn in_order<'a>(pairs: Vec<Pair<'a>>) -> Result<Vec<Pair<'a>>, AllocError>
 }
 
 /// The pairs of what stands, and of what is chosen or asked for and free, in order. About n log n comparisons of n stanzas.
-pub fn pairs_of<'a>(
+pub fn pairs_of<'p, 'a>(
     alloc: Global,
     known: &[Recorded<'_, 'a>],
-    ordered: Vec<Found<'_, 'a>>,
+    ordered: Vec<Found<'p, 'a>>,
     best: &[Offer<'a>],
     lines: &[GoalLine],
-) -> Result<Vec<Pair<'a>>, AllocError>
+) -> Result<Vec<Pair<'p, 'a>>, AllocError>
     requires known { IsStrictlySortedBy record_cmp known.now }
     requires ordered { IsStrictlySortedBy listed_cmp ordered.items }
     ensures { IfOk result (λ pairs. ArePairs (chosen_pairs known.now ordered.entry.items best.now (exacts_of (goals_of lines.now))) pairs.items) }

@@ -6,12 +6,13 @@ ghost use Rattle.std.specs.List.Sorted.{IsStrictlySortedBy};
 ghost use Rattle.std.specs.Ordering.{as_partial_cmp, eq_by_cmp};
 ghost use Rattle.std.specs.Option.{option_copied};
 ghost use Rattle.rules.specs.Available.{all_listed};
+ghost use Rattle.universe.specs.Pair.{pkg_order};
 ghost use Rattle.universe_build.specs.Build.{has_name, indices_of};
-ghost use Rattle.universe_build.specs.Choice.{IsOrdered, listed_cmp, pkg_order, stanza_of};
+ghost use Rattle.universe_build.specs.Choice.{IsOrdered, listed_cmp, stanza_of};
 ghost use Rattle.universe_build.specs.ChoiceLaws.{listed_cmp_total};
 
 use debversion::Version;
-use index::{Entry, Index, Listed};
+use index::{Entry, Index};
 use std::alloc::{AllocError, Global};
 use std::cmp::Ordering;
 use std::marker::Model;
@@ -46,11 +47,11 @@ impl<'p, 'a> Found<'p, 'a> {
         self.entry.version()
     }
 
-    /// The stanza with its package, read anew.
-    pub fn listed(&self, alloc: Global) -> Result<Listed<'a>, AllocError>
-        ensures { IfOk result (λ listed. listed ≡ self.now) }
+    /// The stanza.
+    pub fn entry(&self) -> &'p Entry<'a>
+        ensures { result.now ≡ self.now }
     {
-        self.entry.listed(alloc)
+        self.entry
     }
 }
 

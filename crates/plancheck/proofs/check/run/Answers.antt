@@ -1,11 +1,23 @@
 -- The step that fails is the first, and an allowed one goes on with the run.
-use Rattle.std.proofs.Common.{rules, ◌≡◌, ℕ, suc, ◌+◌, List, get_or, take, sym, ap, subst, ◌∙◌, arith}
-use Rattle.rules.specs.Database.{Record}
-use Rattle.rules.specs.Legal.{Allowed, IsFirstFailing}
+use Rattle.std.proofs.Common.{rules, ◌≡◌, ℕ, suc, ◌+◌, ◌<◌, List, Option, None, get_or, length, map, take, sym, ap, subst, ◌∙◌, arith}
+use Rattle.std.proofs.lemmas.List.{get_or-map}
 use Rattle.rules.specs.Run.{Run, StopsAt, after}
 use Rattle.rules.specs.RunStepLaws.{Run-next, StopsAt-place}
+use Rattle.rules.specs.Step.{Listed}
+use Rattle.rules.specs.Universe.{Universe, listed_for}
 use Rattle.rules.specs.declared.step.Step.{Step}
 use Rattle.plancheck.proofs.check.run.Goals as goal
+
+-- the stanza at the place of the step is that of the step
+stanza_of_step : (u : Universe) (steps : List Step) (stanzas : List (Option Listed)) (listed : Option Listed) (i n : ℕ)
+    (step : Step) → stanzas ≡ map (listed_for u) steps → i < length steps → n ≡ i
+    → ((none : Option Listed) → listed ≡ get_or stanzas n none) → get_or steps i step ≡ step → listed ≡ listed_for u step
+stanza_of_step u steps stanzas listed i n step are within place at is =
+    at None
+    ∙ ap (λ (k : ℕ). get_or stanzas k None) place
+    ∙ ap (λ (all : List (Option Listed)). get_or all i None) are
+    ∙ get_or-map (listed_for u) steps i step None within
+    ∙ ap (listed_for u) is
 
 -- the next place
 one_more : (n : ℕ) → suc n ≡ n + 1
@@ -28,3 +40,13 @@ loop-step-preserved c = record {
       c.loop-step-test.true c.loop-step.invariant.run (search rules)));
   distinct = c.in_ok-apply.ensures.distinct;
 }
+
+pub legal-requires-clause-listed : goal.legal-requires-clause-listed
+legal-requires-clause-listed c = stanza_of_step c.args.universe.now c.args.steps.now c.args.stanzas.now _ c.loop-step.step-index
+    c.loop-step.number c.step-item.result c.requires.stanzas c.loop-step-test.true c.loop-step.invariant.number c.stanza_at-listed.ensures
+    (sym c.step-item.is)
+
+pub apply-requires-clause-listed : goal.apply-requires-clause-listed
+apply-requires-clause-listed c = stanza_of_step c.args.universe.now c.args.steps.now c.args.stanzas.now _ c.loop-step.step-index
+    c.loop-step.number c.step-item.result c.requires.stanzas c.loop-step-test.true c.loop-step.invariant.number c.stanza_at-listed.ensures
+    (sym c.step-item.is)

@@ -1,7 +1,5 @@
 -- What is answered of the end is true of the run.
-use Rattle.std.proofs.Common.{rules, ◌≡◌, MatchOption, sym, subst, ◌∙◌}
-use Rattle.rules.specs.Run.{Run, StopsAt}
-use Rattle.plancheck.specs.End.{IsEndVerdict}
+use Rattle.std.proofs.Common.{rules}
 use Rattle.plancheck.proofs.EndLemmas.{end_is_verdict}
 use Rattle.plancheck.proofs.check.run_verdict.Goals as goal
 

@@ -1,5 +1,5 @@
 -- The bytes of the name are the name.
-use Rattle.std.proofs.Common.{List, ℕ, subst, MatchOption}
+use Rattle.std.proofs.Common.{subst, MatchOption}
 use Rattle.std.specs.List.{All}
 use Rattle.rules.specs.Legal.{Allowed, IsFirstFailing, IsFirstUnkept, RemoveAsks, remove_rules}
 use Rattle.plancheck.proofs.step.remove_stop.Goals as goal

@@ -12,9 +12,8 @@ returns c =
     let Stops : Option Listed → List ℕ → List ℕ → Type 0 = λ listed name version.
     MatchOption c.unpack_failing.result (All (UnpackAsks listed c.args.db.now name version) unpack_rules)
     (λ rule. IsFirstUnkept (UnpackAsks listed c.args.db.now name version) unpack_rules rule) in
-    let u = c.args.universe.now in
+    let asked : Option Listed = listed_of c.args.universe.now c.args.name.now c.args.version.now in
     let read = c.version_of-version.result in
-    let found = subst (λ listed. Stops listed c.as_bytes-2.result.now read) c.listed_of-listed.ensures c.unpack_failing.ensures in
-    let asked = subst (λ name. Stops (listed_of u name read) c.as_bytes-2.result.now read) c.as_bytes.ensures.bytes found in
-    let named = subst (λ name. Stops (listed_of u c.args.name.now read) name read) c.as_bytes-2.ensures.bytes asked in
-    subst (λ version. Stops (listed_of u c.args.name.now version) c.args.name.now version) c.version_of-version.ensures named
+    let found = subst (λ listed. Stops listed c.as_bytes.result.now read) c.requires c.unpack_failing.ensures in
+    let named = subst (λ name. Stops asked name read) c.as_bytes.ensures.bytes found in
+    subst (λ version. Stops asked c.args.name.now version) c.version_of-version.ensures named

@@ -3,8 +3,9 @@ use Rattle.std.proofs.Common.{rules, arith, ◌<◌, ◌∙◌, Result, ℕ, len
 use Rattle.std.specs.List.Sorted.{IsBinarySearchResult, IsSearchInRange}
 use Rattle.std.proofs.lemmas.Fn.{always_returns_same}
 use Rattle.rules.specs.Step.{Listed}
-use Rattle.universe_build.specs.Choice.{pkg_order}
-use Rattle.universe_build.proofs.RecordOrder.{got, searched_stanza, searched_no_stanza}
+use Rattle.universe.proofs.Searching.{got}
+use Rattle.universe.specs.Pair.{pkg_order}
+use Rattle.universe_build.proofs.RecordOrder.{searched_stanza, searched_no_stanza}
 use Rattle.universe_build.proofs.order.stanza_of.Goals as goal
 
 pub returns-in-Ok : goal.returns-in-Ok

@@ -4,7 +4,8 @@ use Rattle.std.specs.List.Sorted.{IsBinarySearchResult, IsSearchInRange}
 use Rattle.std.proofs.lemmas.Fn.{always_returns_same}
 use Rattle.rules.specs.Database.{Record}
 use Rattle.rules.specs.Name.{name_cmp}
-use Rattle.universe_build.proofs.RecordOrder.{got, searched_record, searched_no_record}
+use Rattle.universe.proofs.Searching.{got}
+use Rattle.universe_build.proofs.RecordOrder.{searched_record, searched_no_record}
 use Rattle.universe_build.proofs.recorded.record_of.Goals as goal
 
 pub returns-in-Ok : goal.returns-in-Ok
