@@ -54,11 +54,11 @@ fn both<'p, 'a>(
 }
 
 // A universe of these goals and facts, in which `a` and `h` have the candidate 2.
-fn universe_of<'a>(
+fn universe_of<'p, 'a>(
     alloc: Global,
     goals: Vec<Goal>,
     starts: Vec<Start<'a>>,
-) -> Result<Universe<'a>, Fail> {
+) -> Result<Universe<'p, 'a>, Fail> {
     let mut candidates = Vec::new(alloc);
     candidates.push(Candidate::new(b"a", Version::parse(b"2")?))?;
     candidates.push(Candidate::new(b"h", Version::parse(b"2")?))?;
@@ -73,7 +73,7 @@ fn words_of(alloc: Global, word: &str, name: &Text) -> Result<String, Fail> {
 // What is against the end, as text.
 fn against(
     alloc: Global,
-    universe: &Universe<'_>,
+    universe: &Universe<'_, '_>,
     db: &[PackageRecord<'_, '_>],
 ) -> Result<String, Fail> {
     match first_against(alloc, universe, db)? {
@@ -86,7 +86,7 @@ fn against(
 }
 
 // The universe of `install lib` and `install app`.
-fn install_both<'a>(alloc: Global) -> Result<Universe<'a>, Fail> {
+fn install_both<'p, 'a>(alloc: Global) -> Result<Universe<'p, 'a>, Fail> {
     let lib = Goal::Install(name_of(alloc, "lib")?, None);
     let app = Goal::Install(name_of(alloc, "app")?, None);
     universe_of(alloc, vec![in alloc; lib, app]?, Vec::new(alloc))
@@ -116,7 +116,7 @@ not-installed config-files Goal 1
 // Whether the row holds of these packages.
 fn ends_so(
     alloc: Global,
-    universe: &Universe<'_>,
+    universe: &Universe<'_, '_>,
     lib: &Pkg<'_>,
     app: &Pkg<'_>,
     row: &str,
@@ -167,7 +167,7 @@ fn goal_of(alloc: Global, command: &str, name: Name) -> Result<Goal, Fail> {
 }
 
 // A universe of this goal, where `a` and `h`, which is held, stood in 1.
-fn both_stood<'a>(alloc: Global, goal: Goal) -> Result<Universe<'a>, Fail> {
+fn both_stood<'p, 'a>(alloc: Global, goal: Goal) -> Result<Universe<'p, 'a>, Fail> {
     let a = Start::new(b"a", true, Some(Version::parse(b"1")?), false, false);
     let h = Start::new(b"h", true, Some(Version::parse(b"1")?), true, false);
     universe_of(alloc, vec![in alloc; goal]?, vec![in alloc; a, h]?)
@@ -191,7 +191,7 @@ no-remove a yes yes no
 // Whether nothing is against an end where `a` has this version and is installed, and `h` is so far.
 fn is_done(
     alloc: Global,
-    universe: &Universe<'_>,
+    universe: &Universe<'_, '_>,
     a: &Pkg<'_>,
     h: &Pkg<'_>,
     h_state: State,

@@ -85,10 +85,10 @@ fn write_pair(shown: &mut String, name: &[u8], version: &Version<'_>) -> Result<
 }
 
 // The pairs, and behind a bar the candidates.
-fn shown(alloc: Global, universe: &Universe<'_>) -> Result<String, Fail> {
+fn shown(alloc: Global, universe: &Universe<'_, '_>) -> Result<String, Fail> {
     let mut shown = String::new(alloc);
     for pair in universe.pairs() {
-        write_pair(&mut shown, pair.pkg().name(), pair.pkg().version())?;
+        write_pair(&mut shown, pair.name(), pair.version())?;
     }
     shown.push_str("| ")?;
     for candidate in universe.candidates() {
