@@ -1,0 +1,4 @@
+pub mod WordLemmas
+pub mod NameLemmas
+pub mod ItemLemmas
+pub mod RecordLemmas
