@@ -2,3 +2,4 @@ pub mod WordLemmas
 pub mod NameLemmas
 pub mod ItemLemmas
 pub mod RecordLemmas
+pub mod GreatestLemmas

@@ -4,4 +4,6 @@ pub mod Number
 pub mod Pin
 pub mod Record
 pub mod Prefs
+pub mod Origin
+pub mod Priority
 pub mod Error

@@ -4,10 +4,13 @@
 #![tactic(auto)]
 
 mod error;
+mod matching;
 mod names;
 mod number;
+mod origin;
 mod pin;
 mod prefs;
+mod priority;
 mod record;
 mod release_pin;
 #[cfg(test)]
@@ -15,4 +18,5 @@ mod tests;
 mod words;
 
 pub use error::{PrefsError, PrefsFault, PrefsField};
+pub use origin::{Origin, default_priority};
 pub use prefs::Prefs;
