@@ -20,10 +20,12 @@ IsGreatest-push found number numbers h = elim (cases_Bool (int_lt number found))
       rw less (Contains-append_left numbers (number ∷ []) found h.0, All-push (λ other. other ≤ℤ found) numbers number h.1 below)
   | inr other ↦
       let above : found ≤ℤ number = grind (arith, ints) in
-      rw other (Contains-push numbers number,
+      rw other (
+        Contains-push numbers number,
         All-push (λ (n : ℤ). n ≤ℤ number) numbers number
-        (All-weaker (λ (n : ℤ). n ≤ℤ found) (λ (n : ℤ). n ≤ℤ number) (λ n within. omega (arith, ints)) numbers h.1)
-        (omega (arith, ints)))
+            (All-weaker (λ (n : ℤ). n ≤ℤ found) (λ (n : ℤ). n ≤ℤ number) (λ n within. omega (arith, ints)) numbers h.1)
+            (omega (arith, ints)),
+      )
 ]
 
 -- the same of what is made of the first elements of a list, and of the next one

@@ -7,11 +7,11 @@ ghost use Rattle.std.specs.Str.Parse.{digits_value};
 ghost use Rattle.rules.specs.VersionFault.{is_numeral};
 ghost use Rattle.pins.specs.Number.{downward, number_of, upward, value_up_to};
 
-/// The greatest priority.
-pub const GREATEST: u32 = 32767;
+// The greatest priority.
+const GREATEST: u32 = 32767;
 
-/// How far below 0 the least priority is.
-pub const GREATEST_BELOW: u32 = 32768;
+// How far below 0 the least priority is.
+const GREATEST_BELOW: u32 = 32768;
 
 fn all_digits(bytes: &[u8]) -> bool
     ensures { result ≡ list_all is_ascii_digit bytes.now }

@@ -72,9 +72,10 @@ impl Prefs {
     pub fn without_records(alloc: Global, target: Option<&[u8]>) -> Result<Prefs, AllocError>
         ensures { IfOk result (λ prefs. prefs ≡ record { preferences = []; target = option_copied target.entry }) }
     {
+        let kept = owned_target(alloc, target)?;
         Ok(Prefs {
             records: Vec::new(alloc),
-            target: owned_target(alloc, target)?,
+            target: kept,
         })
     }
 

@@ -1,8 +1,8 @@
 //! Priorities over origins. Wanted values are those of apt_preferences(5), "APT's Default Priority Assignments" and "The
-//! Effect of APT Preferences", with what README.md says of several records and origins, by hand.
-use super::unescaped;
-use crate::{Origin, Prefs};
+//! Effect of APT Preferences", with what the README of `pins` says of several records and origins, by hand.
+use crate::texts::unescaped;
 use debversion::Version;
+use pins::{Origin, Prefs};
 use rules::{Release, Text};
 use std::alloc::Global;
 use std::process::Abort;
@@ -43,7 +43,11 @@ fn release_of(alloc: Global, spelled: &str) -> Result<Release, Fail> {
     for item in spelled.split(',') {
         match item.split_once('=') {
             Some((key, value)) => {
-                set_key(&mut release, key, Text::copied_from(alloc, value.as_bytes())?)
+                set_key(
+                    &mut release,
+                    key,
+                    Text::copied_from(alloc, value.as_bytes())?,
+                )
             }
             None => {
                 release.not_automatic |= item == "N";
@@ -86,11 +90,7 @@ fn prefs_of(alloc: Global, text: &str, target: &str) -> Result<Prefs, Fail> {
     } else {
         Some(target.as_bytes())
     };
-    Ok(Prefs::read(
-        alloc,
-        unescaped(alloc, text)?.as_slice(),
-        target,
-    )?)
+    Ok(Prefs::read(alloc, unescaped(alloc, text)?.as_slice(), target)?)
 }
 
 fn shown(alloc: Global, priority: Option<i32>) -> Result<String, Fail> {
@@ -103,9 +103,12 @@ fn shown(alloc: Global, priority: Option<i32>) -> Result<String, Fail> {
 // By the file's records, the target and the origins, `foo 1.0-1` has the priority that is wanted.
 fn is_given(alloc: Global, row: &str) -> Result<bool, Fail> {
     let mut parts = row.split('→');
-    let (Some(text), Some(target), Some(origins), Some(wanted)) =
-        (parts.next(), parts.next(), parts.next(), parts.next())
-    else {
+    let (Some(text), Some(target), Some(origins), Some(wanted)) = (
+        parts.next(),
+        parts.next(),
+        parts.next(),
+        parts.next(),
+    ) else {
         return Ok(false);
     };
     let prefs = prefs_of(alloc, text, target)?;
