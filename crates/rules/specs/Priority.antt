@@ -96,34 +96,53 @@ abbrev pub names_all : PinnedNames → Bool
 names_all pinned.Every = true
 names_all (pinned.Listed names) = false
 
+-- the first of these records that names the package and matches the version in one of these origins
+abbrev pub deciding_among : List Preference → List ℕ → List ℕ → List Origin → Option Preference
+deciding_among preferences name version origins = find
+    (λ preference. names_it name preference.names
+    && list_any (λ origin. pin_matches preference.pin version origin.release) origins)
+    preferences
+
 -- the first record that names the package and matches the version in one of its origins
 abbrev pub deciding_record : Inputs → List ℕ → List ℕ → Option Preference
-deciding_record inputs name version = find
-    (λ preference. names_it name preference.names
-    && list_any (λ origin. pin_matches preference.pin version origin.release) (origins_of inputs name version))
-    inputs.preferences
+deciding_record inputs name version = deciding_among inputs.preferences name version (origins_of inputs name version)
+
+-- the first of these records for every name that matches the version in this origin
+abbrev pub general_among : List Preference → List ℕ → Origin → Option Preference
+general_among preferences version origin = find
+    (λ preference. names_all preference.names && pin_matches preference.pin version origin.release)
+    preferences
 
 -- the first record for every name that matches the version in this origin
 abbrev pub general_record : Inputs → List ℕ → Origin → Option Preference
-general_record inputs version origin = find
-    (λ preference. names_all preference.names && pin_matches preference.pin version origin.release)
-    inputs.preferences
+general_record inputs version origin = general_among inputs.preferences version origin
 
--- the priority that an origin gives a version: 990 for the target release, else the first record for every name, else its default
+-- the priority that an origin gives a version by these records and this target: 990 for the target release, else the
+-- first record for every name, else its default
+abbrev pub priority_in : List Preference → Option (List ℕ) → List ℕ → Origin → ℤ
+priority_in preferences target version origin =
+    if is_target target origin.release then pos 990
+    else option_map_or (λ preference. preference.priority) (general_among preferences version origin) origin.by_default
+
+-- the priority that an origin gives a version
 abbrev pub origin_priority : Inputs → List ℕ → Origin → ℤ
-origin_priority inputs version origin =
-    if is_target inputs.target origin.release then pos 990
-    else option_map_or (λ preference. preference.priority) (general_record inputs version origin) origin.by_default
+origin_priority inputs version origin = priority_in inputs.preferences inputs.target version origin
 
 -- the number is the greatest of the list
 abbrev pub IsGreatest : ℤ → List ℤ → Type 0
 IsGreatest greatest numbers = Contains numbers greatest × All (λ number. number ≤ℤ greatest) numbers
 
--- the counting package's version has this priority: that of the deciding record, or else the greatest that an origin gives
-abbrev pub HasPriorityAs : Inputs → List ℕ → List ℕ → ℤ → Type 0
-HasPriorityAs inputs name kept priority = MatchOption (deciding_record inputs name kept)
-    (IsGreatest priority (map (origin_priority inputs kept) (origins_of inputs name kept)))
+-- the version has this priority by these records and this target, from these origins: that of the deciding record, or
+-- else the greatest that an origin gives
+abbrev pub HasPriorityAmong : List Preference → Option (List ℕ) → List ℕ → List ℕ → List Origin → ℤ → Type 0
+HasPriorityAmong preferences target name version origins priority = MatchOption (deciding_among preferences name version origins)
+    (IsGreatest priority (map (priority_in preferences target version) origins))
     (λ preference. priority ≡ preference.priority)
+
+-- the counting package's version has this priority, from its origins
+abbrev pub HasPriorityAs : Inputs → List ℕ → List ℕ → ℤ → Type 0
+HasPriorityAs inputs name kept priority =
+    HasPriorityAmong inputs.preferences inputs.target name kept (origins_of inputs name kept) priority
 
 -- the version of the name is available and has this priority; the text that pins look at is the counting package's
 unfoldable pub HasPriority : Inputs → List ℕ → List ℕ → ℤ → Type 0

@@ -1,0 +1,6 @@
+-- The names copied so far are those before the index.
+use Rattle.std.proofs.Common.{◌≡◌, map, take}
+use Rattle.pins.proofs.names.copies_of.Given as goal
+
+abbrev pub invariant-loop-word : goal.invariant-loop-word
+invariant-loop-word l = l.names.items ≡ map (λ word. word.now) (take l.word-index l.words)

@@ -1,0 +1,9 @@
+pub mod Words
+pub mod Names
+pub mod Number
+pub mod Pin
+pub mod Record
+pub mod Prefs
+pub mod Origin
+pub mod Priority
+pub mod Error

@@ -1,0 +1,216 @@
+//! Priorities over origins. Wanted values are those of apt_preferences(5), "APT's Default Priority Assignments" and "The
+//! Effect of APT Preferences", with what the README of `pins` says of several records and origins, by hand.
+use crate::texts::unescaped;
+use debversion::Version;
+use pins::{Origin, Prefs};
+use rules::{Release, Text};
+use std::alloc::Global;
+use std::process::Abort;
+use std::test::Fail;
+
+fn no_keys(alloc: Global) -> Result<Release, Fail> {
+    Ok(Release {
+        archive: None,
+        suite: None,
+        codename: None,
+        version: None,
+        component: None,
+        origin: None,
+        label: None,
+        host: Text::copied_from(alloc, b"")?,
+        not_automatic: false,
+        but_automatic_upgrades: false,
+    })
+}
+
+// One item of a spelled release: a letter, and behind `=` its value.
+fn set_key(release: &mut Release, key: &str, value: Text) {
+    match key {
+        "a" => release.archive = Some(value),
+        "s" => release.suite = Some(value),
+        "n" => release.codename = Some(value),
+        "v" => release.version = Some(value),
+        "c" => release.component = Some(value),
+        "o" => release.origin = Some(value),
+        "l" => release.label = Some(value),
+        _ => release.host = value,
+    }
+}
+
+// The release keys of an index, spelled as items with commas between them; `N` and `B` are its two flags.
+fn release_of(alloc: Global, spelled: &str) -> Result<Release, Fail> {
+    let mut release = no_keys(alloc)?;
+    for item in spelled.split(',') {
+        match item.split_once('=') {
+            Some((key, value)) => {
+                set_key(
+                    &mut release,
+                    key,
+                    Text::copied_from(alloc, value.as_bytes())?,
+                )
+            }
+            None => {
+                release.not_automatic |= item == "N";
+                release.but_automatic_upgrades |= item == "B";
+            }
+        }
+    }
+    Ok(release)
+}
+
+fn releases_of(alloc: Global, spelled: &str) -> Result<Vec<Release>, Fail> {
+    let mut releases = Vec::new(alloc);
+    for place in spelled.split(';') {
+        if !place.is_empty() && place != "status" {
+            releases.push(release_of(alloc, place)?)?;
+        }
+    }
+    Ok(releases)
+}
+
+// The origins, with `;` between them: `status` first, where there, and then the indices.
+fn origins_of<'p>(
+    alloc: Global,
+    spelled: &str,
+    releases: &'p [Release],
+) -> Result<Vec<Origin<'p>>, Fail> {
+    let mut origins = Vec::new(alloc);
+    if spelled.starts_with("status") {
+        origins.push(Origin::status_file())?;
+    }
+    for release in releases {
+        origins.push(Origin::index(release))?;
+    }
+    Ok(origins)
+}
+
+fn prefs_of(alloc: Global, text: &str, target: &str) -> Result<Prefs, Fail> {
+    let target = if target.is_empty() {
+        None
+    } else {
+        Some(target.as_bytes())
+    };
+    Ok(Prefs::read(alloc, unescaped(alloc, text)?.as_slice(), target)?)
+}
+
+fn shown(alloc: Global, priority: Option<i32>) -> Result<String, Fail> {
+    match priority {
+        None => Ok(String::from_str(alloc, "none")?),
+        Some(priority) => Ok(format!(in alloc; "{priority}")?),
+    }
+}
+
+// By the file's records, the target and the origins, `foo 1.0-1` has the priority that is wanted.
+fn is_given(alloc: Global, row: &str) -> Result<bool, Fail> {
+    let mut parts = row.split('→');
+    let (Some(text), Some(target), Some(origins), Some(wanted)) = (
+        parts.next(),
+        parts.next(),
+        parts.next(),
+        parts.next(),
+    ) else {
+        return Ok(false);
+    };
+    let prefs = prefs_of(alloc, text, target)?;
+    let releases = releases_of(alloc, origins)?;
+    let origins = origins_of(alloc, origins, releases.as_slice())?;
+    let version = Version::parse(b"1.0-1")?;
+    let priority = prefs.priority(b"foo", &version, origins.as_slice());
+    Ok(shown(alloc, priority)?.as_str() == wanted)
+}
+
+fn assert_rows<R: Abort + AllocGlobal>(rt: &R, rows: &str) -> Result<(), Fail> {
+    for row in rows.lines() {
+        assert!(rt; is_given(rt.alloc(), row)?, "{row}");
+    }
+    Ok(())
+}
+
+const DEFAULTS: &str = "\
+→→→none
+→→status→100
+→→a=stable→500
+→→a=experimental,N→1
+→→a=backports,N,B→100
+→→a=stable,B→500
+→→status;a=experimental,N→100
+→→a=stable;a=experimental,N→500
+→→a=experimental,N;a=stable→500
+→stable→→none
+→stable→status→100
+→stable→a=stable→990
+→stable→s=stable→990
+→stable→n=stable→990
+→stable→v=stable→990
+→stable→c=stable,o=stable,l=stable,h=stable→500
+→stable→a=stable,N→990
+→stable→a=Stable→500
+→stable→a=stable-updates→500
+→stable→a=testing;s=stable→990
+→stable→status;a=testing,N→100
+";
+
+#[test]
+fn without_records_the_places_decide(rt: HostRuntime) -> Result<(), Fail> {
+    assert_rows(&rt, DEFAULTS)
+}
+
+// A record for foo, which gives 7, with a pin that matches or doesn't.
+const PINS: &str = "\
+Package: foo$Pin: version 1.0-1$Pin-Priority: 7→→a=x→7
+Package: foo$Pin: version 0:1.0-01$Pin-Priority: 7→→a=x→7
+Package: foo$Pin: version 1.0$Pin-Priority: 7→→a=x→500
+Package: foo$Pin: version 1.*$Pin-Priority: 7→→a=x→7
+Package: foo$Pin: version 1.0-1*$Pin-Priority: 7→→a=x→7
+Package: foo$Pin: version *$Pin-Priority: 7→→a=x→7
+Package: foo$Pin: version 0:1.*$Pin-Priority: 7→→a=x→500
+Package: foo$Pin: version 1.0-11*$Pin-Priority: 7→→a=x→500
+Package: foo$Pin: release a=x$Pin-Priority: 7→→a=x→7
+Package: foo$Pin: release a=x$Pin-Priority: 7→→s=x→7
+Package: foo$Pin: release n=x$Pin-Priority: 7→→a=x→500
+Package: foo$Pin: release n=x$Pin-Priority: 7→→n=x→7
+Package: foo$Pin: release v=x$Pin-Priority: 7→→v=x→7
+Package: foo$Pin: release c=x$Pin-Priority: 7→→c=x→7
+Package: foo$Pin: release o=x$Pin-Priority: 7→→o=x→7
+Package: foo$Pin: release l=x$Pin-Priority: 7→→l=x→7
+Package: foo$Pin: release a=x,n=y$Pin-Priority: 7→→a=x→500
+Package: foo$Pin: release a=x,n=y$Pin-Priority: 7→→a=x,n=y→7
+Package: foo$Pin: release a=x,n=y$Pin-Priority: 7→→a=x;n=y→500
+Package: foo$Pin: release a=x$Pin-Priority: 7→→status→100
+Package: foo$Pin: origin h.example$Pin-Priority: 7→→h=h.example→7
+Package: foo$Pin: origin h.example$Pin-Priority: 7→→h=H.example→500
+Package: foo$Pin: origin \"\"$Pin-Priority: 7→→status→7
+Package: foo$Pin: origin \"\"$Pin-Priority: 7→→a=x→7
+Package: foo$Pin: origin \"\"$Pin-Priority: 7→→h=h.example→500
+Package: foo$Pin: origin h.example$Pin-Priority: 7→→status→100
+";
+
+#[test]
+fn a_record_speaks_of_the_versions_that_its_pin_matches(rt: HostRuntime) -> Result<(), Fail> {
+    assert_rows(&rt, PINS)
+}
+
+const SEVERAL: &str = "\
+Package: foo$Pin: version *$Pin-Priority: 7$$Package: foo$Pin: version *$Pin-Priority: 8→→a=x→7
+Package: foo$Pin: version 2$Pin-Priority: 7$$Package: bar foo$Pin: version *$Pin-Priority: 8→→a=x→8
+Package: fo foo2$Pin: version *$Pin-Priority: 7→→a=x→500
+Package: *$Pin: version *$Pin-Priority: 7$$Package: foo$Pin: version *$Pin-Priority: 8→→a=x→8
+Package: *$Pin: version *$Pin-Priority: 7$$Package: *$Pin: version *$Pin-Priority: 8→→a=x→7
+Package: *$Pin: release a=x$Pin-Priority: 7→→a=x;a=y→500
+Package: *$Pin: release a=x$Pin-Priority: 7→→a=x;a=y,N→7
+Package: *$Pin: release a=x$Pin-Priority: 7→→status;a=x→100
+Package: *$Pin: release a=x$Pin-Priority: 700→→status;a=x→700
+Package: foo$Pin: release a=x$Pin-Priority: 7→→a=y;a=x→7
+Package: *$Pin: version *$Pin-Priority: -7→→status;a=x→-7
+Package: *$Pin: release a=x$Pin-Priority: 7$$Package: *$Pin: release a=y$Pin-Priority: 8→→a=x;a=y→8
+Package: *$Pin: version *$Pin-Priority: 7→x→a=x→990
+Package: *$Pin: version *$Pin-Priority: 1001→x→a=x→990
+Package: foo$Pin: version *$Pin-Priority: 7→x→a=x→7
+Package: *$Pin: version *$Pin-Priority: 7→x→→none
+Package: foo$Pin: version *$Pin-Priority: 7→→→none
+";
+
+#[test]
+fn the_first_named_record_decides_and_else_the_greatest(rt: HostRuntime) -> Result<(), Fail> {
+    assert_rows(&rt, SEVERAL)
+}
