@@ -7,6 +7,7 @@ pub mod EndRows
 pub mod EntryLemmas
 pub mod GroupLemmas
 pub mod LegalLemmas
+pub mod LimitRows
 pub mod MatchRows
 pub mod PlanLemmas
 pub mod QuietLemmas
