@@ -6,14 +6,12 @@ the whole processes and their peak memory. It wants Debian's package python3-sol
 
 import glob
 import os
-import statistics
-import subprocess
 import sys
 import tempfile
-import time
+
+from processes import NO_CACHE, table
 
 HERE = os.path.dirname(os.path.abspath(__file__))
-NO_CACHE = ["-o", "Dir::Cache::pkgcache=", "-o", "Dir::Cache::srcpkgcache="]
 
 
 def version_of(folder, name):
@@ -27,18 +25,6 @@ def version_of(folder, name):
                 elif is_there and line.startswith("Version:"):
                     return line.split()[1]
     sys.exit(f"check_plan.py: {folder} has no package {name}")
-
-
-def measured(command):
-    """The wall time and the peak memory of a process, and what it prints."""
-    start = time.perf_counter()
-    process = subprocess.Popen(command, stdout=subprocess.PIPE)
-    printed = process.stdout.read().decode()
-    _, status, usage = os.wait4(process.pid, 0)
-    wall = time.perf_counter() - start
-    if status != 0:
-        sys.exit(f"check_plan.py: {command[0]} ended with status {status}: {printed}")
-    return wall * 1000, usage.ru_maxrss / 1024, printed
 
 
 def main():
@@ -58,18 +44,12 @@ def main():
             "apt-get -s, no cache": ["apt-get", "-s", *NO_CACHE, "install", "hello"],
             "libsolv from text": [sys.executable, os.path.join(HERE, "libsolv_request.py"), folder, "hello"],
         }
-        times, peaks = {}, {}
-        for _ in range(rounds):
-            for subject, command in commands.items():
-                wall, peak, printed = measured(command)
-                if subject.startswith("debplan") and printed != "yes\n":
-                    sys.exit(f"check_plan.py: the plan is judged with {printed}")
-                times.setdefault(subject, []).append(wall)
-                peaks[subject] = max(peaks.get(subject, 0), peak)
-    print("| Subject | Median | Least | Most | Peak |\n|---|---|---|---|---|")
-    for subject, walls in times.items():
-        median = statistics.median(walls)
-        print(f"| {subject} | {median:.0f} ms | {min(walls):.0f} ms | {max(walls):.0f} ms | {peaks[subject]:.0f} MiB |")
+
+        def check(subject, printed):
+            if subject.startswith("debplan") and printed != "yes\n":
+                sys.exit(f"check_plan.py: the plan is judged with {printed}")
+
+        table(commands, rounds, check)
 
 
 main()

@@ -1,5 +1,7 @@
--- What is printed of a verdict and of a comparison (this project's own form).
-use Rattle.std.specs.Prelude.{ℕ, Bool, List, ◌++◌, codes, decimal, if◌then◌else◌}
+-- What is printed of a verdict, of a candidate and of a comparison (this project's own form).
+use Rattle.std.specs.Prelude.{ℕ, Bool, List, ◌++◌, Option, Some, None, codes, decimal, if◌then◌else◌}
+use Rattle.std.specs.Fmt.{signed_decimal}
+use Rattle.candidates.specs.Offer.{Offer}
 use Rattle.rules.specs.declared.step.Reason.{Reason}
 use Rattle.rules.specs.declared.step.Reason.TheVariants as reason
 use Rattle.rules.specs.declared.step.Rule.{Rule}
@@ -39,6 +41,15 @@ verdict_words (verdict.End found) = codes "no end F11 " ++ reason_words found
 -- the line that is printed of a verdict
 abbrev pub verdict_line : Verdict → List ℕ
 verdict_line answer = verdict_words answer ++ codes "\n"
+
+-- what is found of a name: the text of its candidate's version and the priority in decimal, or `none`
+abbrev pub candidate_words : Option Offer → List ℕ
+candidate_words None = codes "none"
+candidate_words (Some offer) = offer.version ++ (codes " " ++ signed_decimal offer.priority)
+
+-- the line that is printed of the candidate of a name
+abbrev pub candidate_line : List ℕ → Option Offer → List ℕ
+candidate_line name found = name ++ (codes " " ++ (candidate_words found ++ codes "\n"))
 
 -- the line that is printed of a comparison
 abbrev pub comparison_line : Bool → List ℕ

@@ -1,5 +1,5 @@
 -- With which status the program ends: 0 yes, 1 no, 3 refused, 4 wrong words, 5 device or memory (this project's own).
-use Rattle.std.specs.Prelude.{ℕ, Bool, if◌then◌else◌}
+use Rattle.std.specs.Prelude.{ℕ, Bool, Option, Some, None, if◌then◌else◌}
 use Rattle.cli.specs.declared.exit.Exit.{Exit}
 use Rattle.cli.specs.declared.exit.Exit.TheVariants as exit
 use Rattle.cli_engine.specs.declared.refusal.Fault.{Fault}
@@ -26,6 +26,11 @@ exit_of_verdict (verdict.End reason) = exit.No
 abbrev pub exit_of_comparison : Bool → Exit
 exit_of_comparison answer = if answer then exit.Success else exit.No
 
+-- success for a candidate, and no where there is none
+abbrev pub exit_of_candidate : {A : Type 0} → Option A → Exit
+exit_of_candidate None = exit.No
+exit_of_candidate (Some candidate) = exit.Success
+
 -- the device's for want of memory (E1) and a file that can't be read (E5), and refused for every other fault
 abbrev pub exit_of_fault : Fault → Exit
 exit_of_fault fault.OutOfMemory = exit.Device
@@ -34,6 +39,7 @@ exit_of_fault (fault.Version kind) = exit.Refused
 exit_of_fault (fault.Status refused) = exit.Refused
 exit_of_fault (fault.Sources refused) = exit.Refused
 exit_of_fault (fault.Index refused) = exit.Refused
+exit_of_fault (fault.Preferences refused) = exit.Refused
 exit_of_fault (fault.Request refused) = exit.Refused
 exit_of_fault (fault.UnknownName line) = exit.Refused
 exit_of_fault (fault.Plan refused) = exit.Refused

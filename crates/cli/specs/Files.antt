@@ -1,6 +1,8 @@
--- The files of a host, and the texts that a plan is judged by where all of them can be read.
+-- The files of a host, and the texts that an answer is given by where all of them can be read.
 use Rattle.std.specs.Prelude.{◌≡◌, ℕ, List, map, Option, Some, None, Ok}
+use Rattle.std.specs.Option.{option_copied, option_map}
 use Rattle.cli.specs.declared.arguments.Arguments.{Arguments}
+use Rattle.cli.specs.declared.arguments.Options.{Options}
 use Rattle.cli_engine.specs.Texts.{Texts, sources_of}
 use Rattle.index.specs.Sources.{SourceText}
 
@@ -21,13 +23,27 @@ abbrev pub AreIndicesUnless : {A : Type 0} → Option A → Files → List ℕ �
 AreIndicesUnless stopped files sources texts =
     stopped ≡ None → (named : List SourceText) × (sources_of sources ≡ Ok named) × AreIndices files named texts
 
--- the texts and the plan are what the files have at the paths of the arguments
-pub record AreTextsOf (files : Files) (arguments : Arguments) (texts : Texts) (plan : List ℕ) : Type 0 where
+-- the text is that of the preferences at this path, and there is none where no path is given
+abbrev pub IsPreferred : Files → Option (List ℕ) → Option (List ℕ) → Type 0
+IsPreferred files path text = option_map files path ≡ option_map (λ text. Some text) text
+
+-- where reading hasn't stopped, the text is that of the preferences
+abbrev pub IsPreferredUnless : {A : Type 0} → Option A → Files → Option (List ℕ) → Option (List ℕ) → Type 0
+IsPreferredUnless stopped files path text = stopped ≡ None → IsPreferred files path text
+
+-- the texts before the request are what the files have at the paths of the options
+pub record AreTextsAt (files : Files) (options : Options) (texts : Texts) : Type 0 where
   pub named : List SourceText
-  pub arch : texts.arch ≡ arguments.arch.now
-  pub status : files arguments.status.now ≡ Some texts.status
-  pub sources : files arguments.sources.now ≡ Some texts.sources
+  pub arch : texts.arch ≡ options.arch.now
+  pub status : files options.status.now ≡ Some texts.status
+  pub sources : files options.sources.now ≡ Some texts.sources
   pub sources_are : sources_of texts.sources ≡ Ok named
   pub indices : AreIndices files named texts.indices
+  pub preferences : IsPreferred files (option_copied options.preferences) texts.preferences
+  pub target : texts.target ≡ option_copied options.target
+
+-- the texts and the plan are what the files have at the paths of the arguments
+pub record AreTextsOf (files : Files) (arguments : Arguments) (texts : Texts) (plan : List ℕ) : Type 0 where
+  pub before : AreTextsAt files arguments.options texts
   pub request : files arguments.request.now ≡ Some texts.request
   pub plan_is : files arguments.plan.now ≡ Some plan

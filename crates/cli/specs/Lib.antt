@@ -1,4 +1,6 @@
 pub mod Answer
 pub mod Exit
 pub mod Files
+pub mod Inputs
 pub mod Outcome
+pub mod Stop

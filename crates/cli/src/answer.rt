@@ -1,7 +1,10 @@
-// A verdict and the answer of a comparison as the line that is printed of it (this project's own form).
+// A verdict, a candidate and the answer of a comparison as the line that is printed of it (this project's own form).
 ghost use Rattle.std.specs.Prelude.{◌≡◌, ◌++◌, IfOk, codes, decimal};
+ghost use Rattle.std.specs.Fmt.{signed_decimal};
+ghost use Rattle.std.specs.Option.{option_copied};
 ghost use Rattle.cli.specs.Answer as Spec;
 
+use crate::candidate::Candidate;
 use rules::{Reason, Rule, Text, Verdict};
 use std::alloc::{AllocError, Global};
 
@@ -27,6 +30,47 @@ pub fn comparison_line(alloc: Global, answer: bool) -> Result<Vec<u8>, AllocErro
     } else {
         b"no\n".to_vec(alloc)
     }
+}
+
+/// The line that is printed of the candidate of a name: `NAME VERSION PRIORITY`, or `NAME none`. Memory alone can fail.
+pub fn candidate_line(
+    alloc: Global,
+    name: &[u8],
+    found: Option<&Candidate>,
+) -> Result<Vec<u8>, AllocError>
+    ensures { IfOk result (λ line. line.items ≡ Spec.candidate_line name.now (option_copied found.entry)) }
+{
+    match found {
+        None => line_of_words(alloc, name, b"none"),
+        Some(candidate) => rated_line(alloc, name, candidate.version(), candidate.priority()),
+    }
+}
+
+// The line of two words.
+fn line_of_words(alloc: Global, word: &[u8], other: &[u8]) -> Result<Vec<u8>, AllocError>
+    ensures { IfOk result (λ line. line.items ≡ word.now ++ (codes " " ++ (other.now ++ codes "\n"))) }
+{
+    let mut line = word.to_vec(alloc)?;
+    line.extend_from_slice(b" ")?;
+    line.extend_from_slice(other)?;
+    line.extend_from_slice(b"\n")?;
+    Ok(line)
+}
+
+// The line of a version with its priority.
+fn rated_line(
+    alloc: Global,
+    name: &[u8],
+    version: &[u8],
+    priority: i32,
+) -> Result<Vec<u8>, AllocError>
+    ensures { IfOk result (λ line. line.items
+        ≡ name.now ++ (codes " " ++ ((version.now ++ (codes " " ++ signed_decimal priority)) ++ codes "\n"))) }
+{
+    let mut words = version.to_vec(alloc)?;
+    let priority = format!(in alloc; " {priority}")?;
+    words.extend_from_slice(priority.as_bytes())?;
+    line_of_words(alloc, name, words.as_slice())
 }
 
 // The line of a step that breaks a rule.

@@ -6,19 +6,40 @@ use clap::{ArgMatches, Error};
 use cli_engine::Relation;
 use std::alloc::{AllocError, Global};
 
-/// What a plan is to be judged by: the architecture that packages are for, and the paths of the files.
+/// Where packages come from, and what is preferred among them: the architecture that packages are for, the paths of the
+/// files, and the target release.
 #[derive(Clone, Copy, Debug)]
-pub struct Arguments<'a> {
+pub struct Options<'a> {
     /// The architecture.
     pub arch: &'a str,
     /// The path of the status file.
     pub status: &'a str,
     /// The path of the sources.
     pub sources: &'a str,
+    /// The path of the preferences, if there are any.
+    pub preferences: Option<&'a str>,
+    /// The target release, if there is one.
+    pub target: Option<&'a str>,
+}
+
+/// What a plan is to be judged by.
+#[derive(Clone, Copy, Debug)]
+pub struct Arguments<'a> {
+    /// Where packages come from.
+    pub options: Options<'a>,
     /// The path of the request.
     pub request: &'a str,
     /// The path of the plan.
     pub plan: &'a str,
+}
+
+/// Of which name the candidate is asked for.
+#[derive(Clone, Copy, Debug)]
+pub struct Query<'a> {
+    /// Where packages come from.
+    pub options: Options<'a>,
+    /// The name, which need not be that of a package.
+    pub name: &'a str,
 }
 
 /// What two versions are to be compared as.
@@ -37,6 +58,8 @@ pub(crate) struct Comparison<'a> {
 pub(crate) enum Call<'a> {
     /// To compare two versions.
     Compare(Comparison<'a>),
+    /// To name the candidate of a name.
+    Candidate(Query<'a>),
     /// To judge a plan.
     CheckPlan(Arguments<'a>),
 }
@@ -59,10 +82,10 @@ pub(crate) fn call_of<'a>(alloc: Global, words: &'a [&'a str]) -> Result<Call<'a
     let Some((command, values)) = matches.subcommand() else {
         return Err(mistake(alloc, "a command is missing"));
     };
-    let call = if command == "compare" {
-        comparison_in(values)
-    } else {
-        arguments_in(values)
+    let call = match command {
+        "compare" => comparison_in(values),
+        "candidate" => query_in(values),
+        _ => arguments_in(values),
     };
     call.ok_or_else(|| mistake(alloc, "a word is missing"))
 }
@@ -87,13 +110,28 @@ fn relation_of(word: &str) -> Option<Relation> {
     }
 }
 
-fn arguments_in<'a>(options: &ArgMatches<'a>) -> Option<Call<'a>> {
+fn options_in<'a>(values: &ArgMatches<'a>) -> Option<Options<'a>> {
+    Some(Options {
+        arch: values.get_str("arch")?,
+        status: values.get_str("status")?,
+        sources: values.get_str("sources")?,
+        preferences: values.get_str("preferences"),
+        target: values.get_str("target"),
+    })
+}
+
+fn query_in<'a>(values: &ArgMatches<'a>) -> Option<Call<'a>> {
+    Some(Call::Candidate(Query {
+        options: options_in(values)?,
+        name: values.get_str("name")?,
+    }))
+}
+
+fn arguments_in<'a>(values: &ArgMatches<'a>) -> Option<Call<'a>> {
     Some(Call::CheckPlan(Arguments {
-        arch: options.get_str("arch")?,
-        status: options.get_str("status")?,
-        sources: options.get_str("sources")?,
-        request: options.get_str("request")?,
-        plan: options.get_str("plan")?,
+        options: options_in(values)?,
+        request: values.get_str("request")?,
+        plan: values.get_str("plan")?,
     }))
 }
 

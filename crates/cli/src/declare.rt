@@ -6,9 +6,10 @@ use std::alloc::{AllocError, Global};
 /// The command line of the program. Memory alone can fail.
 pub(crate) fn program<'a>(alloc: Global) -> Result<Command<'a>, AllocError> {
     Command::new(alloc, "debplan")
-        .about("Compares versions and judges plans of dpkg actions")
+        .about("Compares versions, names candidates and judges plans of dpkg actions")
         .subcommand_required(true)
         .subcommand(compare(alloc)?)?
+        .subcommand(candidate(alloc)?)?
         .subcommand(check_plan(alloc)?)
 }
 
@@ -26,21 +27,40 @@ fn compare<'a>(alloc: Global) -> Result<Command<'a>, AllocError> {
         .arg(word(alloc, "other", "W").help("The version that it is compared with"))
 }
 
+fn candidate<'a>(alloc: Global) -> Result<Command<'a>, AllocError> {
+    let name = word(alloc, "name", "NAME").help("The name of a package");
+    let command = Command::new(alloc, "candidate").about(
+        "Says which version of a package is to be chosen, and with which priority",
+    );
+    with_options(alloc, command)?.arg(name)
+}
+
 fn check_plan<'a>(alloc: Global) -> Result<Command<'a>, AllocError> {
+    let request = option(alloc, "request", "FILE").help("The request: a goal on each line");
+    let plan = word(alloc, "plan", "PLAN").help("The plan: a step on each line");
+    let command = Command::new(alloc, "check-plan").about(
+        "Says whether every step of a plan is allowed when its turn comes, and its end is good",
+    );
+    with_options(alloc, command)?.arg(request)?.arg(plan)
+}
+
+// The command with the options that say which packages there are, and what is preferred among them.
+fn with_options<'a>(alloc: Global, command: Command<'a>) -> Result<Command<'a>, AllocError> {
     let arch = option(alloc, "arch", "ARCH").help("The architecture that packages are for");
     let status = option(alloc, "status", "FILE").help("The status file of dpkg");
     let sources = option(alloc, "sources", "FILE").help("The sources: a stanza for each index");
-    let request = option(alloc, "request", "FILE").help("The request: a goal on each line");
-    let plan = word(alloc, "plan", "PLAN").help("The plan: a step on each line");
-    Command::new(alloc, "check-plan")
-        .about(
-            "Says whether every step of a plan is allowed when its turn comes, and its end is good",
-        )
+    let preferences = option(alloc, "preferences", "FILE")
+        .help("The preferences: a stanza for each record")
+        .required(false);
+    let target = option(alloc, "target", "REL")
+        .help("The target release")
+        .required(false);
+    command
         .arg(arch)?
         .arg(status)?
         .arg(sources)?
-        .arg(request)?
-        .arg(plan)
+        .arg(preferences)?
+        .arg(target)
 }
 
 fn option<'a>(alloc: Global, name: &'a str, value: &'a str) -> Arg<'a> {

@@ -1,7 +1,9 @@
 // With which status the program ends (this project's own).
 ghost use Rattle.std.specs.Prelude.{◌≡◌};
+ghost use Rattle.std.specs.Option.{option_copied};
 ghost use Rattle.cli.specs.Exit as Spec;
 
+use crate::candidate::Candidate;
 use cli_engine::{Fault, Refusal};
 use rules::Verdict;
 
@@ -10,7 +12,7 @@ use rules::Verdict;
 pub enum Exit {
     /// The answer is yes, or help was asked for.
     Success,
-    /// The answer is no.
+    /// The answer is no, or that a name has no candidate.
     No,
     /// A text is refused.
     Refused,
@@ -50,6 +52,16 @@ pub fn exit_of_comparison(answer: bool) -> Exit
     ensures { result ≡ Spec.exit_of_comparison answer }
 {
     if answer { Exit::Success } else { Exit::No }
+}
+
+/// How the program ends with this candidate, or without one.
+pub fn exit_of_candidate(found: Option<&Candidate>) -> Exit
+    ensures { result ≡ Spec.exit_of_candidate (option_copied found.entry) }
+{
+    match found {
+        None => Exit::No,
+        Some(_) => Exit::Success,
+    }
 }
 
 /// How the program ends with this refusal: files and memory (E1, E5) have a status of their own.

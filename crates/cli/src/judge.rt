@@ -1,24 +1,21 @@
 // Judging the plan of a command line over a host.
-ghost use Rattle.std.specs.Prelude.{◌≡◌, IfOk, List, None, Ok, Option, Some, length, map, ℕ};
+ghost use Rattle.std.specs.Prelude.{◌≡◌, IfOk, List, Some, map, ℕ};
 ghost use Rattle.cli.specs.Files.{AreTextsOf, Files};
+ghost use Rattle.cli.specs.Inputs.{texts_with};
 ghost use Rattle.cli_engine.specs.Answer.{HasItsIndices, IsAnswer};
 ghost use Rattle.cli_engine.specs.Texts.{Texts as TextsOf, sources_of};
 
 use crate::arguments::Arguments;
 use crate::host::Host;
-use crate::read::{Texts, read_texts};
-use cli_engine::{Fault, Inputs, Place, Refusal, check_plan_bytes};
+use crate::inputs::{inputs_of, slices_of, unless_unread};
+use crate::read::{PlanTexts, read_plan_texts};
+use cli_engine::{Refusal, check_plan_bytes};
 use rules::Verdict;
-use std::alloc::{AllocError, Global};
+use std::alloc::Global;
 
-const OUT_OF_MEMORY: Refusal = Refusal {
-    place: Place::Memory,
-    fault: Fault::OutOfMemory,
-};
-
-/// Judges the plan by the files of a host. They are read in the order status, sources, indices, request and plan, and
-/// of all refusals the first in that order is answered: a file that can't be read is refused (E5) at its place. A
-/// verdict is answered only where all of them were read. Costs what reading them and `check_plan_bytes` cost.
+/// Judges the plan by the files of a host. They are read in the order status, sources, indices, preferences, request and
+/// plan, and of all refusals the first in that order is answered: a file that can't be read is refused (E5) at its place.
+/// A verdict is answered only where all of them were read. Costs what reading them and `check_plan_bytes` cost.
 pub fn check_plan<H: Host>(
     alloc: Global,
     host: &mut H,
@@ -27,65 +24,27 @@ pub fn check_plan<H: Host>(
     ensures answer { (at : Files) → H.files host.old ≡ Some at → IfOk result (λ verdict.
         (texts : TextsOf) × (plan : List ℕ) × AreTextsOf at arguments.now texts plan × IsAnswer texts plan verdict) }
 {
-    match read_texts(alloc, host, arguments) {
-        Ok(texts) => judged(alloc, arguments.arch.as_bytes(), &texts),
-        Err(AllocError) => Err(OUT_OF_MEMORY),
-    }
+    let mut stopped_at = None;
+    let texts = read_plan_texts(alloc, host, &mut stopped_at, arguments)?;
+    unless_unread(judged(alloc, arguments, &texts), stopped_at)
 }
 
 // What is answered of these texts.
-fn judged<'a>(alloc: Global, arch: &'a [u8], texts: &'a Texts) -> Result<Verdict, Refusal>
-    requires { HasItsIndices (sources_of texts.now.sources.items) (map (λ text. text.items) texts.now.indices.items) }
-    ensures read { IfOk result (λ _. texts.now.stopped_at ≡ None) }
-    ensures answer { IfOk result (λ verdict. IsAnswer (record {
-      arch = arch.now;
-      status = texts.now.status.items;
-      sources = texts.now.sources.items;
-      indices = map (λ text. text.items) texts.now.indices.items;
-      preferences = None;
-      target = None;
-      request = texts.now.request.items;
-    }) texts.now.plan.items verdict) }
-{
-    let Ok(indices) = slices_of(alloc, texts.indices.as_slice()) else {
-        return Err(OUT_OF_MEMORY);
-    };
-    let inputs = Inputs {
-        arch,
-        status: texts.status.as_slice(),
-        sources: texts.sources.as_slice(),
-        indices: indices.as_slice(),
-        preferences: None,
-        target: None,
-        request: texts.request.as_slice(),
-    };
-    let answer = check_plan_bytes(alloc, &inputs, texts.plan.as_slice());
-    unless_unread(answer, texts.stopped_at)
-}
-
-// The answer, unless it is a verdict and reading stopped before the plan.
-fn unless_unread(
-    answer: Result<Verdict, Refusal>,
-    stopped_at: Option<Place>,
+fn judged<'t, 'a: 't>(
+    alloc: Global,
+    arguments: &Arguments<'a>,
+    read: &'t PlanTexts,
 ) -> Result<Verdict, Refusal>
-    ensures read { IfOk result (λ _. stopped_at ≡ None) }
-    ensures same { IfOk result (λ verdict. answer ≡ Ok verdict) }
+    requires { HasItsIndices (sources_of read.now.texts.sources.items) (map (λ text. text.items) read.now.texts.indices.items) }
+    ensures { IfOk result (λ verdict.
+        IsAnswer (texts_with arguments.now.options read.now.texts read.now.request.items) read.now.plan.items verdict) }
 {
-    match (answer, stopped_at) {
-        (Ok(_), Some(place)) => Err(Refusal {
-            place,
-            fault: Fault::Read,
-        }),
-        (answer, _) => answer,
-    }
-}
-
-fn slices_of<'a>(alloc: Global, texts: &'a [Vec<u8>]) -> Result<Vec<&'a [u8]>, AllocError>
-    ensures { IfOk result (λ slices. map (λ slice. slice.now) slices.items ≡ map (λ text. text.items) texts.now) }
-{
-    let mut slices = Vec::new(alloc);
-    for text in texts {
-        slices.push(text.as_slice())?;
-    }
-    Ok(slices)
+    let slices = slices_of(alloc, read.texts.indices.as_slice())?;
+    let inputs = inputs_of(
+        &arguments.options,
+        &read.texts,
+        slices.as_slice(),
+        read.request.as_slice(),
+    );
+    check_plan_bytes(alloc, &inputs, read.plan.as_slice())
 }

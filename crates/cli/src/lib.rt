@@ -1,23 +1,31 @@
 //! The program `debplan` over a host: from the words of its command line to what it prints and its exit status.
-//! It stands on `cli_engine`, which judges texts. The main call is `run`.
+//! It stands on `cli_engine`, which judges texts and finds candidates in them. The main call is `run`.
 #![tactic(auto)]
 
 mod answer;
 mod arguments;
+mod candidate;
 mod declare;
 mod exit;
+mod find;
 mod host;
+mod inputs;
 mod judge;
 mod outcome;
 mod print;
 mod program;
 mod read;
 
-pub use answer::{comparison_line, verdict_line};
-pub use arguments::Arguments;
-pub use cli_engine::{Fault, Inputs, Later, Place, Refusal, Relation, check_plan_bytes, compare};
-pub use exit::{Exit, exit_of_comparison, exit_of_refusal, exit_of_verdict};
+pub use answer::{candidate_line, comparison_line, verdict_line};
+pub use arguments::{Arguments, Options, Query};
+pub use candidate::Candidate;
+pub use cli_engine::{
+    Fault, Inputs, Later, Offer, Place, Refusal, Relation, candidate_bytes, check_plan_bytes,
+    compare,
+};
+pub use exit::{Exit, exit_of_candidate, exit_of_comparison, exit_of_refusal, exit_of_verdict};
+pub use find::find_candidate;
 pub use host::{Host, ReadError};
 pub use judge::check_plan;
-pub use outcome::{Outcome, outcome_of_answer, outcome_of_comparison};
+pub use outcome::{Outcome, outcome_of_answer, outcome_of_candidate, outcome_of_comparison};
 pub use program::{refuse_for_memory, run};

@@ -1,9 +1,10 @@
 // What the program prints, and on which stream.
 ghost use Rattle.std.specs.Prelude.{◌≡◌, IfOk};
-ghost use Rattle.cli.specs.Outcome.{IsComplaint, IsOutcomeOf, IsOutcomeOfComparison, IsOutcomeOfRefusal};
+ghost use Rattle.cli.specs.Outcome.{IsComplaint, IsOutcomeOf, IsOutcomeOfCandidate, IsOutcomeOfComparison, IsOutcomeOfRefusal};
 
-use crate::answer::{comparison_line, verdict_line};
-use crate::exit::{Exit, exit_of_comparison, exit_of_refusal, exit_of_verdict};
+use crate::answer::{candidate_line, comparison_line, verdict_line};
+use crate::candidate::Candidate;
+use crate::exit::{Exit, exit_of_candidate, exit_of_comparison, exit_of_refusal, exit_of_verdict};
 use clap::Error;
 use clap::error::ErrorKind;
 use cli_engine::Refusal;
@@ -48,6 +49,24 @@ pub fn outcome_of_comparison(
         Ok(answer) => {
             let line = Items::new(comparison_line(alloc, *answer)?);
             Ok(Outcome::Answer(line, exit_of_comparison(*answer)))
+        }
+        Err(refusal) => outcome_of_refusal(alloc, refusal),
+    }
+}
+
+/// What is printed of the candidate of this name: its line on standard output, or a refusal's on standard error. Memory
+/// alone can fail.
+pub fn outcome_of_candidate(
+    alloc: Global,
+    name: &[u8],
+    answer: &Result<Option<Candidate>, Refusal>,
+) -> Result<Outcome, AllocError>
+    ensures { IfOk result (λ outcome. IsOutcomeOfCandidate name.now answer.now outcome) }
+{
+    match answer {
+        Ok(found) => {
+            let line = Items::new(candidate_line(alloc, name, found.as_ref())?);
+            Ok(Outcome::Answer(line, exit_of_candidate(found.as_ref())))
         }
         Err(refusal) => outcome_of_refusal(alloc, refusal),
     }

@@ -5,9 +5,12 @@ ghost use Rattle.cli.specs.declared.outcome.Outcome.{Outcome as Found};
 
 use crate::arguments::{Call, Comparison, call_of, mistake, texts_of};
 use crate::exit::Exit;
+use crate::find::find_candidate;
 use crate::host::Host;
 use crate::judge::check_plan;
-use crate::outcome::{Outcome, outcome_of_answer, outcome_of_comparison, outcome_of_usage};
+use crate::outcome::{
+    Outcome, outcome_of_answer, outcome_of_candidate, outcome_of_comparison, outcome_of_usage,
+};
 use crate::print::{complain, print};
 use cli_engine::compare;
 use std::alloc::{AllocError, Global};
@@ -58,6 +61,10 @@ fn outcome_of_words<H: Host>(
         ) => {
             let answer = compare(version.as_bytes(), relation, other.as_bytes());
             outcome_of_comparison(alloc, &answer)
+        }
+        Ok(Call::Candidate(query)) => {
+            let answer = find_candidate(alloc, host, &query);
+            outcome_of_candidate(alloc, query.name.as_bytes(), &answer)
         }
         Ok(Call::CheckPlan(arguments)) => {
             outcome_of_answer(alloc, &check_plan(alloc, host, &arguments))

@@ -1,79 +1,109 @@
 // Reading the files in their order, as far as they can be read.
 ghost use Rattle.std.specs.Prelude.{◌≡◌, IfOk, None, Some, length, map};
-ghost use Rattle.cli.specs.Files.{AreIndices, AreIndicesUnless, Files, IsFoundUnless};
+ghost use Rattle.std.specs.Option.{option_copied, option_map, option_or};
+ghost use Rattle.cli.specs.Files.{AreIndices, AreIndicesUnless, AreTextsOf, Files, IsFoundUnless, IsPreferredUnless};
+ghost use Rattle.cli.specs.Inputs.{texts_with};
+ghost use Rattle.cli.specs.Stop.{stop_at_preferences, stop_in, stop_of, unread, unread_from};
 ghost use Rattle.cli_engine.specs.Answer.{HasItsIndices};
 ghost use Rattle.cli_engine.specs.Texts.{sources_of};
 
-use crate::arguments::Arguments;
+use crate::arguments::{Arguments, Options};
 use crate::host::{Host, ReadError};
 use cli_engine::{Fault, Place, read_sources};
 use index::Source;
 use std::alloc::{AllocError, Global};
 
-/// The texts that were read, with nothing in the place of the others.
+/// The texts of the options that were read, with nothing in the place of the others.
 #[derive(Drop)]
 pub(crate) struct Texts {
     pub(crate) status: Vec<u8>,
     pub(crate) sources: Vec<u8>,
     pub(crate) indices: Vec<Vec<u8>>,
-    pub(crate) request: Vec<u8>,
-    pub(crate) plan: Vec<u8>,
-    /// The first place whose file couldn't be read or whose text was refused: what is behind it wasn't read.
-    pub(crate) stopped_at: Option<Place>,
+    pub(crate) preferences: Option<Vec<u8>>,
 }
 
-/// Reads the files of these arguments in the order in which their texts are judged: the status file, the sources, the
-/// index of each stanza of the sources, the request, the plan. It opens none behind the first that can't be
-/// read, and none behind sources that are refused. Memory alone can fail.
+/// The texts that a plan is judged by, with nothing in the place of those that weren't read.
+#[derive(Drop)]
+pub(crate) struct PlanTexts {
+    pub(crate) texts: Texts,
+    pub(crate) request: Vec<u8>,
+    pub(crate) plan: Vec<u8>,
+}
+
+/// Reads the files of these options in the order in which their texts are judged: the status file, the sources, the
+/// index of each stanza of the sources, the preferences. It opens none behind the first that can't be read, and none
+/// behind sources that are refused: this is where reading stops. Memory alone can fail.
 pub(crate) fn read_texts<H: Host>(
     alloc: Global,
     host: &mut H,
-    arguments: &Arguments<'_>,
+    stopped_at: &mut Option<Place>,
+    options: &Options<'_>,
 ) -> Result<Texts, AllocError>
-    ensures indices { IfOk result (λ texts.
+    ensures count { IfOk result (λ texts.
         HasItsIndices (sources_of texts.sources.items) (map (λ text. text.items) texts.indices.items)) }
     ensures status { (at : Files) → H.files host.old ≡ Some at → IfOk result (λ texts.
-        IsFoundUnless texts.stopped_at (at arguments.now.status.now) texts.status.items) }
+        IsFoundUnless stopped_at.new (at options.now.status.now) texts.status.items) }
     ensures sources { (at : Files) → H.files host.old ≡ Some at → IfOk result (λ texts.
-        IsFoundUnless texts.stopped_at (at arguments.now.sources.now) texts.sources.items) }
-    ensures found { (at : Files) → H.files host.old ≡ Some at → IfOk result (λ texts.
-        AreIndicesUnless texts.stopped_at at texts.sources.items (map (λ text. text.items) texts.indices.items)) }
-    ensures request { (at : Files) → H.files host.old ≡ Some at → IfOk result (λ texts.
-        IsFoundUnless texts.stopped_at (at arguments.now.request.now) texts.request.items) }
-    ensures plan { (at : Files) → H.files host.old ≡ Some at → IfOk result (λ texts.
-        IsFoundUnless texts.stopped_at (at arguments.now.plan.now) texts.plan.items) }
+        IsFoundUnless stopped_at.new (at options.now.sources.now) texts.sources.items) }
+    ensures indices { (at : Files) → H.files host.old ≡ Some at → IfOk result (λ texts.
+        AreIndicesUnless stopped_at.new at texts.sources.items (map (λ text. text.items) texts.indices.items)) }
+    ensures preferences { (at : Files) → H.files host.old ≡ Some at → IfOk result (λ texts. IsPreferredUnless stopped_at.new at
+        (option_copied options.now.preferences) (option_map (λ text. text.items) texts.preferences)) }
+    ensures stops { (at : Files) → H.files host.old ≡ Some at → IfOk result (λ _.
+        stopped_at.new ≡ option_or stopped_at.old (stop_of at options.now)) }
+    ensures stays { stopped_at.new ≡ None → stopped_at.old ≡ None }
+    ensures unchanged { H.files host.new ≡ H.files host.old }
 {
-    let mut stopped_at = None;
     let status = read_text(
         alloc,
         host,
-        &mut stopped_at,
+        stopped_at,
         Place::Status,
-        arguments.status.as_bytes(),
+        options.status.as_bytes(),
     )?;
     let sources = read_text(
         alloc,
         host,
-        &mut stopped_at,
+        stopped_at,
         Place::Sources,
-        arguments.sources.as_bytes(),
+        options.sources.as_bytes(),
     )?;
-    let indices = read_indices(alloc, host, &mut stopped_at, sources.as_slice())?;
-    let request = read_text(
-        alloc,
-        host,
-        &mut stopped_at,
-        Place::Request,
-        arguments.request.as_bytes(),
-    )?;
-    let plan = read_plan(alloc, host, &mut stopped_at, arguments.plan.as_bytes())?;
+    let indices = read_indices(alloc, host, stopped_at, sources.as_slice())?;
+    let preferences = read_preferences(alloc, host, stopped_at, options.preferences)?;
     Ok(Texts {
         status,
         sources,
         indices,
+        preferences,
+    })
+}
+
+/// Reads the files of these arguments in the order in which their texts are judged: those of the options, the request,
+/// the plan. Where it stops is as `read_texts` says. Memory alone can fail.
+pub(crate) fn read_plan_texts<H: Host>(
+    alloc: Global,
+    host: &mut H,
+    stopped_at: &mut Option<Place>,
+    arguments: &Arguments<'_>,
+) -> Result<PlanTexts, AllocError>
+    ensures count { IfOk result (λ read.
+        HasItsIndices (sources_of read.texts.sources.items) (map (λ text. text.items) read.texts.indices.items)) }
+    ensures found { (at : Files) → H.files host.old ≡ Some at → IfOk result (λ read. stopped_at.new ≡ None → AreTextsOf at
+        arguments.now (texts_with arguments.now.options read.texts read.request.items) read.plan.items) }
+{
+    let texts = read_texts(alloc, host, stopped_at, &arguments.options)?;
+    let request = read_text(
+        alloc,
+        host,
+        stopped_at,
+        Place::Request,
+        arguments.request.as_bytes(),
+    )?;
+    let plan = read_plan(alloc, host, stopped_at, arguments.plan.as_bytes())?;
+    Ok(PlanTexts {
+        texts,
         request,
         plan,
-        stopped_at,
     })
 }
 
@@ -87,6 +117,8 @@ fn read_text<H: Host>(
 ) -> Result<Vec<u8>, AllocError>
     ensures text { (at : Files) → H.files host.old ≡ Some at
         → IfOk result (λ text. IsFoundUnless stopped_at.new (at path.now) text.items) }
+    ensures stops { (at : Files) → H.files host.old ≡ Some at → IfOk result (λ _.
+        stopped_at.new ≡ option_or stopped_at.old (unread place (at path.now))) }
     ensures stays { stopped_at.new ≡ None → stopped_at.old ≡ None }
     ensures unchanged { H.files host.new ≡ H.files host.old }
 {
@@ -103,6 +135,13 @@ fn read_text<H: Host>(
     }
 }
 
+// Reading stops at this place, unless it has stopped before.
+fn stop(stopped_at: &mut Option<Place>, place: Place)
+    ensures { stopped_at.new ≡ option_or stopped_at.old (Some place) }
+{
+    *stopped_at = stopped_at.or(Some(place));
+}
+
 // The texts of the indices that the sources name, if these aren't refused.
 fn read_indices<H: Host>(
     alloc: Global,
@@ -113,6 +152,8 @@ fn read_indices<H: Host>(
     ensures count { IfOk result (λ texts. HasItsIndices (sources_of sources.now) (map (λ text. text.items) texts.items)) }
     ensures texts { (at : Files) → H.files host.old ≡ Some at → IfOk result (λ texts.
         AreIndicesUnless stopped_at.new at sources.now (map (λ text. text.items) texts.items)) }
+    ensures stops { (at : Files) → H.files host.old ≡ Some at → IfOk result (λ _.
+        stopped_at.new ≡ option_or stopped_at.old (stop_in at (sources_of sources.now))) }
     ensures stays { stopped_at.new ≡ None → stopped_at.old ≡ None }
     ensures unchanged { H.files host.new ≡ H.files host.old }
 {
@@ -123,7 +164,7 @@ fn read_indices<H: Host>(
         }
         Err(Fault::OutOfMemory) => Err(AllocError),
         Err(_) => {
-            *stopped_at = Some(Place::Sources);
+            stop(stopped_at, Place::Sources);
             Ok(Vec::new(alloc))
         }
     }
@@ -139,6 +180,8 @@ fn read_each<H: Host>(
     ensures count { IfOk result (λ texts. length texts.items ≡ length named.now) }
     ensures texts { (at : Files) → H.files host.old ≡ Some at → IfOk result (λ texts. stopped_at.new ≡ None
         → AreIndices at named.now (map (λ text. text.items) texts.items)) }
+    ensures stops { (at : Files) → H.files host.old ≡ Some at → IfOk result (λ _.
+        stopped_at.new ≡ option_or stopped_at.old (unread_from at 1 named.now)) }
     ensures stays { stopped_at.new ≡ None → stopped_at.old ≡ None }
     ensures unchanged { H.files host.new ≡ H.files host.old }
 {
@@ -148,6 +191,29 @@ fn read_each<H: Host>(
         texts.push(read_text(alloc, host, stopped_at, place, source.file())?)?;
     }
     Ok(texts)
+}
+
+// The preferences, if there are any.
+fn read_preferences<H: Host>(
+    alloc: Global,
+    host: &mut H,
+    stopped_at: &mut Option<Place>,
+    path: Option<&str>,
+) -> Result<Option<Vec<u8>>, AllocError>
+    ensures text { (at : Files) → H.files host.old ≡ Some at → IfOk result (λ text. IsPreferredUnless stopped_at.new at
+        (option_copied path.entry) (option_map (λ text. text.items) text)) }
+    ensures stops { (at : Files) → H.files host.old ≡ Some at → IfOk result (λ _.
+        stopped_at.new ≡ option_or stopped_at.old (stop_at_preferences at (option_copied path.entry))) }
+    ensures stays { stopped_at.new ≡ None → stopped_at.old ≡ None }
+    ensures unchanged { H.files host.new ≡ H.files host.old }
+{
+    match path {
+        None => Ok(None),
+        Some(path) => {
+            let text = read_text(alloc, host, stopped_at, Place::Preferences, path.as_bytes())?;
+            Ok(Some(text))
+        }
+    }
 }
 
 // The plan, or one without a step where it isn't read.

@@ -1,16 +1,19 @@
 -- What texts that are read denote, and the refusal of an index as that of all texts.
-use Rattle.std.proofs.Common.{◌≡◌, ℕ, ◌+◌, ◌⊎◌, List, [], ◌∷◌, length, None, Result, Ok, Err, refl, sym, ap, subst, ◌∙◌, arith}
+use Rattle.std.proofs.Common.{◌≡◌, ℕ, ◌+◌, ◌⊎◌, List, [], ◌∷◌, length, Result, Ok, Err, refl, sym, ap, subst, ◌∙◌}
+use Rattle.candidates.specs.Inputs.{inputs_of}
 use Rattle.index.specs.Index.{ReadIndex, read_index}
 use Rattle.index.specs.Sources.{SourceText}
 use Rattle.index.specs.declared.error.IndexFault.{IndexFault}
+use Rattle.pins.specs.Prefs.{Preferences}
 use Rattle.rules.specs.Available.{Index}
-use Rattle.rules.specs.Database.{HasDistinctNames, Record}
+use Rattle.rules.specs.Database.{HasDistinctNames}
 use Rattle.rules.specs.Entry.{Entry, records_of}
 use Rattle.rules.specs.Universe.{IsUniverse, Universe}
 use Rattle.rules.specs.Verdict.{IsBuiltOn, UniverseIsBuilt}
 use Rattle.rules.specs.declared.goal.GoalLine.{GoalLine}
-use Rattle.universe_build.specs.Build.{goals_of, inputs_of}
-use Rattle.cli_engine.specs.Answer.{HasStatus, IsFirstRefusal, IsRequested}
+use Rattle.universe_build.specs.Build.{goals_of}
+use Rattle.cli_engine.specs.Answer.{IsRequested}
+use Rattle.cli_engine.specs.Before.{HasStatus, IsRefusalBefore}
 use Rattle.cli_engine.specs.Indices.{index_then, indices_from, read_indices, with_indices}
 use Rattle.cli_engine.specs.Reading.{out_of_memory}
 use Rattle.cli_engine.specs.Texts.{Texts, sources_of}
@@ -20,12 +23,12 @@ use Rattle.cli_engine.specs.declared.refusal.Refusal.{Refusal}
 use mathlib.Core.Logic.{inl, inr}
 
 -- the universe of a request over these records is built on them
-pub built_on : UniverseIsBuilt → (arch text : List ℕ) (u : Universe) (lent entries : List Entry) (indices : List Index) → lent ≡ entries
-    → HasDistinctNames (records_of entries)
-    → ((lines : List GoalLine) × IsRequested arch text (records_of lent) indices lines u) → IsBuiltOn (records_of entries) u
-built_on law arch text u lent entries indices same distinct requested =
-    law (inputs_of (records_of entries) indices (goals_of requested.0)) u distinct
-    (subst (λ es. IsUniverse (inputs_of (records_of es) indices (goals_of requested.0)) u) same requested.1.built.universe)
+pub built_on : UniverseIsBuilt → (arch text : List ℕ) (u : Universe) (lent entries : List Entry) (indices : List Index) (prefs : Preferences)
+    → lent ≡ entries → HasDistinctNames (records_of entries)
+    → ((lines : List GoalLine) × IsRequested arch text (records_of lent) indices prefs lines u) → IsBuiltOn (records_of entries) u
+built_on law arch text u lent entries indices prefs same distinct requested =
+    law (inputs_of (records_of entries) indices prefs (goals_of requested.0)) u distinct
+    (subst (λ es. IsUniverse (inputs_of (records_of es) indices prefs (goals_of requested.0)) u) same requested.1.built.universe)
 
 -- there is a number such that the refusal is at the index of this number
 abbrev IsAtAnIndex : Refusal → Type 0
@@ -62,13 +65,13 @@ index_place arch number before (source ∷ sources) (text ∷ texts) refused sam
         (indices_from arch (number + 1) (before + length read.index.listed) sources texts) refused same)
 
 -- the first refusal of the indices is that of all texts, where those before them are read
-pub index_refused : (texts : Texts) (plan : List ℕ) (sources : List SourceText) (refused : Refusal) → HasStatus texts
+pub index_refused : (texts : Texts) (sources : List SourceText) (refused : Refusal) → HasStatus texts
     → sources_of texts.sources ≡ Ok sources
-    → (refused ≡ out_of_memory) ⊎ (read_indices texts.arch sources texts.indices ≡ Err refused) → IsFirstRefusal texts plan refused
+    → (refused ≡ out_of_memory) ⊎ (read_indices texts.arch sources texts.indices ≡ Err refused) → IsRefusalBefore texts refused
 unfolding read_indices
-index_refused texts plan sources refused status read (inl wanting) = subst (IsFirstRefusal texts plan) (sym wanting) refl
-index_refused texts plan sources refused status read (inr found) =
+index_refused texts sources refused status read (inl wanting) = subst (IsRefusalBefore texts) (sym wanting) refl
+index_refused texts sources refused status read (inr found) =
     let at = index_place texts.arch 1 0 sources texts.indices refused found in
     let is : refused ≡ record { place = place.Index at.0; fault = refused.fault } = ap (λ p. record { place = p; fault = refused.fault }) at.1 in
-    subst (IsFirstRefusal texts plan) (sym is)
+    subst (IsRefusalBefore texts) (sym is)
     (record { sources = sources; status = status; sources_are = read; refused = found ∙ ap Err is })

@@ -2,6 +2,7 @@
 use Rattle.std.proofs.Common.{◌≡◌, ◌⊎◌, ℕ, ◌+◌, ◌<◌, ◌≤◌, ◌++◌, Bool, true, false, cond, List, [], ◌∷◌, length, map, drop, get_or, nat_le, nat_lt, Option, Some, None, Result, Ok, Err, Bor, refl, sym, ap, subst, ◌∙◌, arith, append_assoc, append-nil}
 use Rattle.std.proofs.lemmas.Bool.{leb-false}
 use Rattle.std.proofs.lemmas.List.{drop_more, length-append, map-append}
+use Rattle.candidates.specs.Inputs.{indices_of}
 use Rattle.index.specs.Index.{ReadIndex, ReadStanzas, entry_then, read_index, read_item, stanzas_in, with_release, with_stanzas}
 use Rattle.index.specs.Sources.{SourceText}
 use Rattle.index.specs.declared.error.IndexFault.{IndexFault}
@@ -13,7 +14,6 @@ use Rattle.rules.specs.declared.release.Release.{Release}
 use Rattle.stanza.specs.Stanza.{StanzaText, items_of}
 use Rattle.stanza.specs.declared.error.StanzaError.{StanzaError}
 use Rattle.cli_engine.specs.Indices.{index_then, indices_from, with_indices}
-use Rattle.universe_build.specs.Build.{indices_of}
 use Rattle.cli_engine.specs.Reading.{out_of_memory}
 use Rattle.cli_engine.specs.declared.refusal.Refusal.{Refusal}
 use mathlib.Core.Logic.{inl, inr}

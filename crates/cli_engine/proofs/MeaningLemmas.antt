@@ -1,19 +1,22 @@
 -- Texts have one meaning, and a meaning and a refusal exclude each other.
 use Rattle.std.proofs.Common.{◌≡◌, ℕ, List, length, ◌⊎◌, Some, None, Result, Ok, Err, refl, sym, ap, subst, ◌∙◌, arith}
+use Rattle.candidates.specs.Inputs.{inputs_of}
+use Rattle.pins.specs.Prefs.{Preferences}
 use Rattle.rules.specs.Available.{Index, all_listed}
 use Rattle.rules.specs.Database.{Record}
 use Rattle.rules.specs.Entry.{records_of}
 use Rattle.rules.specs.Universe.{IsUniverse, Universe, starts_of}
 use Rattle.rules.specs.declared.goal.GoalLine.{GoalLine}
 use Rattle.status_text.specs.Slot.{entries_of}
-use Rattle.universe_build.specs.Build.{first_unknown, goals_of, inputs_of}
+use Rattle.universe_build.specs.Build.{first_unknown, goals_of}
 use Rattle.universe_build.specs.Error.{IsTooLarge}
 use Rattle.universe_build.specs.UniverseLaws.{OneListOfPairs}
 use Rattle.universe_request.specs.Request.{read_request}
-use Rattle.cli_engine.specs.Answer.{AreRead, Denotes, IsFault, IsRequestFault, IsRequested}
+use Rattle.cli_engine.specs.Answer.{Denotes, IsAsked, IsFault, IsRequestFault, IsRequested}
+use Rattle.cli_engine.specs.Before.{AreListed, AreRead}
 use Rattle.cli_engine.specs.Indices.{read_indices}
 use Rattle.cli_engine.specs.Meaning.{HasOneMeaning, MeaningIsNotRefused}
-use Rattle.cli_engine.specs.Texts.{Texts, first_later_goal, sources_of, status_of}
+use Rattle.cli_engine.specs.Texts.{Texts, preferences_of, sources_of, status_of}
 use Rattle.cli_engine.specs.declared.refusal.Fault.{Fault}
 use Rattle.cli_engine.specs.declared.refusal.Fault.TheVariants as fault
 use Rattle.cli_engine.specs.declared.refusal.Place.{Place}
@@ -30,28 +33,35 @@ one_lines : (arch text : List ℕ) (lines others : List GoalLine) → read_reque
 one_lines arch text lines others read also = ok-same lines others (read_request arch text) read also
 
 -- texts are read as one list of indices
-one_reading : (texts : Texts) (start begin : List Record) (indices others : List Index) → AreRead texts start indices
-    → AreRead texts begin others → indices ≡ others
+one_reading : (texts : Texts) (start begin : List Record) (indices others : List Index) → AreListed texts start indices
+    → AreListed texts begin others → indices ≡ others
 one_reading texts start begin indices others is also =
     ok-same indices others (read_indices texts.arch is.sources texts.indices) is.indices_are
     (ap (λ named. read_indices texts.arch named texts.indices)
     (ok-same is.sources also.sources (sources_of texts.sources) is.sources_are also.sources_are) ∙ also.indices_are)
 
 -- texts are read as one start
-one_start : (texts : Texts) (start begin : List Record) (indices others : List Index) → AreRead texts start indices
-    → AreRead texts begin others → start ≡ begin
+one_start : (texts : Texts) (start begin : List Record) (indices others : List Index) → AreListed texts start indices
+    → AreListed texts begin others → start ≡ begin
 one_start texts start begin indices others is also =
     is.start_is
     ∙ ap (λ slots. records_of (entries_of slots)) (ok-same is.slots also.slots (status_of texts.arch texts.status) is.status also.status)
     ∙ sym also.start_is
 
+-- texts are read as one list of records and one target
+one_preferring : (texts : Texts) (start begin : List Record) (indices others : List Index) (prefs further : Preferences)
+    → AreRead texts start indices prefs → AreRead texts begin others further → prefs ≡ further
+one_preferring texts start begin indices others prefs further is also =
+    ok-same prefs further (preferences_of texts.preferences texts.target) is.preferred also.preferred
+
 pub one_meaning : OneListOfPairs → HasOneMeaning
 one_meaning one texts u other start begin is also = (
   record {
-    pairs = one (inputs_of start is.indices (goals_of is.lines)) u other is.requested.built.universe
-        (subst (λ db. IsUniverse (inputs_of db is.indices (goals_of is.lines)) other) (sym begins)
-        (subst (λ indices. IsUniverse (inputs_of begin indices (goals_of is.lines)) other) (sym indices)
-        (subst (λ lines. IsUniverse (inputs_of begin also.indices (goals_of lines)) other) (sym lines) also.requested.built.universe)));
+    pairs = one (inputs_of start is.indices is.prefs (goals_of is.lines)) u other is.requested.built.universe
+        (subst (λ db. IsUniverse (inputs_of db is.indices is.prefs (goals_of is.lines)) other) (sym begins)
+        (subst (λ indices. IsUniverse (inputs_of begin indices is.prefs (goals_of is.lines)) other) (sym indices)
+        (subst (λ prefs. IsUniverse (inputs_of begin also.indices prefs (goals_of is.lines)) other) (sym prefs)
+        (subst (λ lines. IsUniverse (inputs_of begin also.indices also.prefs (goals_of lines)) other) (sym lines) also.requested.built.universe))));
     goals = is.requested.built.universe.goals ∙ ap goals_of lines ∙ sym also.requested.built.universe.goals;
     starts = is.requested.built.universe.starts ∙ ap starts_of begins ∙ sym also.requested.built.universe.starts;
   },
@@ -62,55 +72,66 @@ one_meaning one texts u other start begin is also = (
     lines = one_lines texts.arch texts.request is.lines also.lines is.requested.read also.requested.read
 
     indices : is.indices ≡ also.indices
-    indices = one_reading texts start begin is.indices also.indices is.read also.read
+    indices = one_reading texts start begin is.indices also.indices is.read.listed also.read.listed
+
+    prefs : is.prefs ≡ also.prefs
+    prefs = one_preferring texts start begin is.indices also.indices is.prefs also.prefs is.read also.read
 
     begins : start ≡ begin
-    begins = one_start texts start begin is.indices also.indices is.read also.read
+    begins = one_start texts start begin is.indices also.indices is.read.listed also.read.listed
 
 -- a request that is answered has no fault
-not_requested : OneListOfPairs → (arch text : List ℕ) (start : List Record) (indices : List Index) (lines : List GoalLine) (u : Universe) (found : Fault)
-    → IsRequested arch text start indices lines u → ¬ IsRequestFault arch text start indices found
-not_requested one arch text start indices lines u (fault.Version kind) is no_fault = no_fault
-not_requested one arch text start indices lines u (fault.Status refused) is no_fault = no_fault
-not_requested one arch text start indices lines u (fault.Sources refused) is no_fault = no_fault
-not_requested one arch text start indices lines u (fault.Index refused) is no_fault = no_fault
-not_requested one arch text start indices lines u (fault.Request refused) is found =
+not_requested : OneListOfPairs → (arch text : List ℕ) (start : List Record) (indices : List Index) (prefs : Preferences) (lines : List GoalLine)
+    (u : Universe) (found : Fault)
+    → IsRequested arch text start indices prefs lines u → ¬ IsRequestFault arch text start indices prefs found
+not_requested one arch text start indices prefs lines u (fault.Version kind) is no_fault = no_fault
+not_requested one arch text start indices prefs lines u (fault.Status refused) is no_fault = no_fault
+not_requested one arch text start indices prefs lines u (fault.Sources refused) is no_fault = no_fault
+not_requested one arch text start indices prefs lines u (fault.Index refused) is no_fault = no_fault
+not_requested one arch text start indices prefs lines u (fault.Preferences refused) is no_fault = no_fault
+not_requested one arch text start indices prefs lines u (fault.Request refused) is found =
     absurd (let e : Ok lines ≡ Err refused = sym is.read ∙ found in cc)
-not_requested one arch text start indices lines u (fault.UnknownName line) is found =
+not_requested one arch text start indices prefs lines u (fault.UnknownName line) is found =
     let same = one_lines arch text lines found.lines is.read found.read in
     absurd (let e : None ≡ Some line = sym is.built.known ∙ ap (first_unknown start (all_listed indices)) same ∙ found.unknown in cc)
-not_requested one arch text start indices lines u (fault.Plan refused) is no_fault = no_fault
-not_requested one arch text start indices lines u fault.TooLarge is found =
+not_requested one arch text start indices prefs lines u (fault.Plan refused) is no_fault = no_fault
+not_requested one arch text start indices prefs lines u fault.TooLarge is found =
     let same = one_lines arch text lines found.lines is.read found.read in
-    let other = subst (λ ls. IsTooLarge start indices (goals_of ls)) (sym same) found.beyond in
-    let equal = ap length (one (inputs_of start indices (goals_of lines)) u other.u is.built.universe other.universe) in
+    let other = subst (λ ls. IsTooLarge start indices prefs (goals_of ls)) (sym same) found.beyond in
+    let equal = ap length (one (inputs_of start indices prefs (goals_of lines)) u other.u is.built.universe other.universe) in
     let within = is.built.bounded in
     let beyond = other.beyond in
     absurd (omega arith)
-not_requested one arch text start indices lines u (fault.NotYet later) is found =
-    let same = one_lines arch text lines found.lines is.read found.read in
-    absurd (let e : None ≡ Some later = sym is.early ∙ ap first_later_goal same ∙ found.later in cc)
-not_requested one arch text start indices lines u fault.Read is no_fault = no_fault
-not_requested one arch text start indices lines u fault.OutOfMemory is no_fault = no_fault
+not_requested one arch text start indices prefs lines u (fault.NotYet later) is no_fault = no_fault
+not_requested one arch text start indices prefs lines u fault.Read is no_fault = no_fault
+not_requested one arch text start indices prefs lines u fault.OutOfMemory is no_fault = no_fault
+
+-- texts that have a meaning have no request that is refused
+not_asked : OneListOfPairs → (texts : Texts) (u : Universe) (start : List Record) (found : Fault) → Denotes texts u start
+    → ¬ IsAsked texts found
+not_asked one texts u start found is asked = not_requested one texts.arch texts.request start is.indices is.prefs is.lines u found is.requested
+    (subst (λ prefs. IsRequestFault texts.arch texts.request start is.indices prefs found)
+    (one_preferring texts asked.start start asked.indices is.indices asked.prefs is.prefs asked.read is.read)
+    (subst (λ indices. IsRequestFault texts.arch texts.request start indices asked.prefs found)
+    (one_reading texts asked.start start asked.indices is.indices asked.read.listed is.read.listed)
+    (subst (λ db. IsRequestFault texts.arch texts.request db asked.indices asked.prefs found)
+    (one_start texts asked.start start asked.indices is.indices asked.read.listed is.read.listed) asked.refused)))
 
 -- texts that have a meaning have no fault before the plan
 not_refused : OneListOfPairs → (texts : Texts) (u : Universe) (start : List Record) (plan : List ℕ) (where_ : Place) (found : Fault)
     → Denotes texts u start → IsFault texts plan where_ found → (where_ ≡ place.Plan) ⊎ (where_ ≡ place.Memory)
 not_refused one texts u start plan (place.Version number) found is refused = absurd refused
 not_refused one texts u start plan place.Status found is refused =
-    absurd (let e : Ok is.read.slots ≡ Err found = sym is.read.status ∙ refused in cc)
+    absurd (let e : Ok is.read.listed.slots ≡ Err found = sym is.read.listed.status ∙ refused in cc)
 not_refused one texts u start plan place.Sources found is refused =
-    absurd (let e : Ok is.read.sources ≡ Err found = sym is.read.sources_are ∙ refused.1 in cc)
+    absurd (let e : Ok is.read.listed.sources ≡ Err found = sym is.read.listed.sources_are ∙ refused.1 in cc)
 not_refused one texts u start plan (place.Index number) found is refused =
-    let same = ok-same is.read.sources refused.sources (sources_of texts.sources) is.read.sources_are refused.sources_are in
+    let same = ok-same is.read.listed.sources refused.sources (sources_of texts.sources) is.read.listed.sources_are refused.sources_are in
     absurd (let e : Ok is.indices ≡ Err (record { place = place.Index number; fault = found }) =
-    sym is.read.indices_are ∙ ap (λ named. read_indices texts.arch named texts.indices) same ∙ refused.refused in cc)
-not_refused one texts u start plan place.Request found is refused =
-    absurd (not_requested one texts.arch texts.request start is.indices is.lines u found is.requested
-    (subst (λ indices. IsRequestFault texts.arch texts.request start indices found)
-    (one_reading texts refused.start start refused.indices is.indices refused.read is.read)
-    (subst (λ db. IsRequestFault texts.arch texts.request db refused.indices found)
-    (one_start texts refused.start start refused.indices is.indices refused.read is.read) refused.refused)))
+    sym is.read.listed.indices_are ∙ ap (λ named. read_indices texts.arch named texts.indices) same ∙ refused.refused in cc)
+not_refused one texts u start plan place.Preferences found is refused =
+    absurd (let e : Ok is.prefs ≡ Err found = sym is.read.preferred ∙ refused.refused in cc)
+not_refused one texts u start plan place.Request found is refused = absurd (not_asked one texts u start found is refused)
 not_refused one texts u start plan place.Plan found is refused = inl refl
 not_refused one texts u start plan place.Memory found is refused = inr refl
 

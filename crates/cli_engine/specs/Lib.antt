@@ -1,4 +1,5 @@
 pub mod Answer
+pub mod Before
 pub mod Comparison
 pub mod Indices
 pub mod Inputs

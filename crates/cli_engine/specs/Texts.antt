@@ -1,12 +1,11 @@
--- The texts that a request is answered from, and what each is read as: today `install` goals, and the unpacking and the
--- configuring of one package.
+-- The texts that a request is answered from, and what each is read as: of plans today the unpacking and the configuring of
+-- one package.
 use Rattle.std.specs.Prelude.{ℕ, ◌==◌, List, [], ◌∷◌, length, Option, Some, None, Result, Ok, Err, if◌then◌else◌}
 use Rattle.std.specs.Option.{option_or}
 use Rattle.index.specs.Sources.{SourceText, read_sources}
+use Rattle.pins.specs.Prefs.{Preferences, read_preferences}
 use Rattle.plantext.specs.Plan.{read_plan}
-use Rattle.rules.specs.declared.goal.Goal.{Goal}
-use Rattle.rules.specs.declared.goal.Goal.TheVariants as goal
-use Rattle.rules.specs.declared.goal.GoalLine.{GoalLine}
+use Rattle.rules.specs.declared.release.Preference.{Preference}
 use Rattle.rules.specs.declared.step.Step.{Step}
 use Rattle.rules.specs.declared.step.Step.TheVariants as step
 use Rattle.status_text.specs.Slot.{FileSlot}
@@ -54,21 +53,17 @@ status_of arch text = with_fault (λ refused. fault.Status (status_refusal refus
 abbrev pub sources_of : List ℕ → Result (List SourceText) Fault
 sources_of text = with_fault fault.Sources (read_sources text)
 
--- The request
+-- The preferences
 
--- goals other than to install aren't judged yet
-abbrev pub later_goal : Goal → Option Later
-later_goal (goal.Install name restriction) = None
-later_goal (goal.Remove name) = Some later.Remove
-later_goal (goal.Purge name) = Some later.Purge
-later_goal (goal.Upgrade name) = Some later.Upgrade
-later_goal goal.UpgradeAll = Some later.UpgradeAll
-later_goal goal.NoRemove = Some later.NoRemove
+-- the records that are read beside this target release
+abbrev pub with_target : Option (List ℕ) → Result (List Preference) Fault → Result Preferences Fault
+with_target target (Err refused) = Err refused
+with_target target (Ok records) = Ok (record { preferences = records; target = target })
 
--- the first of the goals that isn't judged yet
-abbrev pub first_later_goal : List GoalLine → Option Later
-first_later_goal [] = None
-first_later_goal (line ∷ lines) = option_or (later_goal line.goal) (first_later_goal lines)
+-- what the preferences and the target release are read as: where there are no preferences, there are no records
+abbrev pub preferences_of : Option (List ℕ) → Option (List ℕ) → Result Preferences Fault
+preferences_of None target = with_target target (Ok [])
+preferences_of (Some text) target = with_target target (with_fault fault.Preferences (read_preferences text))
 
 -- The plan
 

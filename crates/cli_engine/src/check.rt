@@ -1,22 +1,23 @@
-// A plan judged by texts, read in the order status, sources, indices, request and plan.
+// A plan judged by texts, read in the order status, sources, indices, preferences, request and plan.
 
-ghost use Rattle.std.specs.Prelude.{ℕ, IfErr, IfOk, List};
+ghost use Rattle.std.specs.Prelude.{◌≡◌, IfErr, IfOk, List, ℕ};
 ghost use Rattle.std.specs.List.{All};
+ghost use Rattle.candidates.specs.Inputs.{indices_of};
 ghost use Rattle.plancheck.specs.Single.{IsSingle};
 ghost use Rattle.rules.specs.Verdict.{IsBuiltOn, IsVerdict};
 ghost use Rattle.status_store.specs.Slots.{slot_records};
-ghost use Rattle.universe_build.specs.Build.{indices_of};
-ghost use Rattle.cli_engine.specs.Answer.{AreRead, Denotes, IsAnswer, IsFirstRefusal};
-ghost use Rattle.cli_engine.specs.Inputs.{AreJudged, texts_of};
+ghost use Rattle.cli_engine.specs.Answer.{Denotes, HasItsIndices, IsAnswer, IsFirstRefusal};
+ghost use Rattle.cli_engine.specs.Before.{AreRead};
+ghost use Rattle.cli_engine.specs.Inputs.{texts_of};
+ghost use Rattle.cli_engine.specs.Texts.{sources_of};
 
-use crate::indices::read_indices;
 use crate::inputs::Inputs;
 use crate::plan::read_early_plan;
+use crate::read::{ReadTexts, read_texts};
 use crate::refusal::{Place, Refusal, refused_at};
 use crate::request::read_request;
-use crate::sources::read_sources;
-use crate::status_file::read_status;
 use index::Index;
+use pins::Prefs;
 use plancheck::check_plan;
 use rules::{Step, Verdict, universe_is_built};
 use status_store::Database;
@@ -24,37 +25,15 @@ use status_view::{parse_packages, view};
 use std::alloc::{AllocError, Global};
 use universe::Universe;
 
-// The database and the indices.
-fn read_texts<'a>(
-    alloc: Global,
-    inputs: &Inputs<'_, 'a>,
-) -> Result<(Database<'a>, Vec<Index<'a>>), Refusal>
-    requires { AreJudged (texts_of inputs.now) }
-    ensures ok { IfOk result (λ read. AreRead (texts_of inputs.now) (slot_records read.0.slots) (indices_of read.1.items)) }
-    ensures err { (plan : List ℕ) → IfErr result (λ refused. IsFirstRefusal (texts_of inputs.now) plan refused) }
-{
-    let database = match read_status(alloc, inputs.status, inputs.arch) {
-        Ok(database) => database,
-        Err(fault) => return Err(refused_at(Place::Status, fault)),
-    };
-    let sources = match read_sources(alloc, inputs.sources) {
-        Ok(sources) => sources,
-        Err(fault) => return Err(refused_at(Place::Sources, fault)),
-    };
-    match read_indices(alloc, sources, inputs.indices, inputs.arch) {
-        Ok(indices) => Ok((database, indices)),
-        Err(refused) => Err(refused),
-    }
-}
-
-// The universe that the request is answered from, over the database and the indices.
+// The universe that the request is answered from, over the database, the indices and the preferences.
 fn universe_of<'p, 'a>(
     alloc: Global,
     database: &Database<'a>,
     indices: &'p [Index<'a>],
+    prefs: &Prefs,
     inputs: &Inputs<'_, 'a>,
 ) -> Result<Universe<'p, 'a>, Refusal>
-    requires { AreRead (texts_of inputs.now) (slot_records database.now.slots) (indices_of indices.now) }
+    requires { AreRead (texts_of inputs.now) (slot_records database.now.slots) (indices_of indices.now) prefs.now }
     ensures ok { IfOk result (λ u. Denotes (texts_of inputs.now) u (slot_records database.now.slots)) }
     ensures built { IfOk result (λ u. IsBuiltOn (slot_records database.now.slots) u) }
     ensures err { (plan : List ℕ) → IfErr result (λ refused. IsFirstRefusal (texts_of inputs.now) plan refused) }
@@ -66,6 +45,7 @@ fn universe_of<'p, 'a>(
         alloc,
         records.as_slice(),
         indices,
+        prefs,
         inputs.request,
         inputs.arch,
     ) {
@@ -93,19 +73,24 @@ fn judge<'a>(
 }
 
 /// Judges the plan by the texts: the verdict of what they denote, or the first refusal in the order status, sources,
-/// indices, request, plan; where memory was wanting, that is answered instead. Reading is linear in the texts but
-/// for the order of the stanzas, n log n; judging costs what `plancheck::check_plan` says.
+/// indices, preferences, request, plan; where memory was wanting, that is answered instead. Reading is linear in the texts
+/// but for the order of the stanzas, n log n, and the priorities cost what `candidates::Offered::find` says; judging costs what
+/// `plancheck::check_plan` says.
 pub fn check_plan_bytes(
     alloc: Global,
     inputs: &Inputs<'_, '_>,
     plan: &[u8],
 ) -> Result<Verdict, Refusal>
-    requires { AreJudged (texts_of inputs.now) }
+    requires { HasItsIndices (sources_of (texts_of inputs.now).sources) (texts_of inputs.now).indices }
     ensures answer { IfOk result (λ verdict. IsAnswer (texts_of inputs.now) plan.now verdict) }
     ensures refused { IfErr result (λ refused. IsFirstRefusal (texts_of inputs.now) plan.now refused) }
 {
-    let (database, indices) = read_texts(alloc, inputs)?;
-    let universe = universe_of(alloc, &database, indices.as_slice(), inputs)?;
+    let ReadTexts {
+        database,
+        indices,
+        prefs,
+    } = read_texts(alloc, inputs)?;
+    let universe = universe_of(alloc, &database, indices.as_slice(), &prefs, inputs)?;
     let steps = match read_early_plan(alloc, plan) {
         Ok(steps) => steps,
         Err(fault) => return Err(refused_at(Place::Plan, fault)),

@@ -1,9 +1,9 @@
 // The indices, of which there is one for each stanza of the sources.
 
 ghost use Rattle.std.specs.Prelude.{◌≡◌, ◌⊎◌, Err, IfErr, IfOk, List, Ok, Result, length, map, ℕ};
+ghost use Rattle.candidates.specs.Inputs.{indices_of};
 ghost use Rattle.index.specs.Index as Read;
 ghost use Rattle.rules.specs.Available.{Index as IndexValue};
-ghost use Rattle.universe_build.specs.Build.{indices_of};
 ghost use Rattle.cli_engine.specs.Indices.{index_then};
 ghost use Rattle.cli_engine.specs.Indices as Spec;
 ghost use Rattle.cli_engine.specs.Reading.{out_of_memory};

@@ -1,20 +1,26 @@
-// A plan judged by texts: from the bytes of the status file, the sources, the indices, the request and the plan to
-// the verdict, or to the first refusal in the order of reading. It stands on the readers and on `plancheck`, and
-// uses nothing of what finds plans. The call is `check_plan_bytes`.
+// A plan judged by texts: from the bytes of the status file, the sources, the indices, the preferences, the request and
+// the plan to the verdict, or to the first refusal in the order of reading; and the candidate of a name by the same texts.
+// It stands on the readers, on `candidates` and on `plancheck`, and uses nothing of what finds plans. The main calls are
+// `check_plan_bytes` and `candidate_bytes`.
 #![tactic(auto)]
 
+mod candidate;
 mod check;
 mod comparison;
 mod indices;
 mod inputs;
 mod laws;
 mod plan;
+mod preferences;
+mod read;
 mod refusal;
 mod request;
 mod sources;
 mod status_file;
 mod status_refusal;
 
+pub use candidate::candidate_bytes;
+pub use candidates::Offer;
 pub use check::check_plan_bytes;
 pub use comparison::{Relation, compare};
 pub use inputs::Inputs;

@@ -5,6 +5,7 @@ ghost use Rattle.cli_engine.specs.Reading.{IsPlaced, out_of_memory};
 
 use crate::status_refusal::StatusRefusal;
 use index::{IndexFault, SourcesFault};
+use pins::PrefsFault;
 use plantext::PlanFault;
 use rules::BadVersion;
 use std::alloc::{AllocError, AllocFailed};
@@ -26,6 +27,9 @@ pub enum Place {
     /// The index of this number, counted from 1.
     #[error("index {0}")]
     Index(usize),
+    /// The preferences.
+    #[error("preferences")]
+    Preferences,
     /// The request.
     #[error("request")]
     Request,
@@ -37,30 +41,21 @@ pub enum Place {
     Memory,
 }
 
-/// What a text has that isn't judged yet.
+/// What a plan has that isn't judged yet.
 #[derive(Clone, Copy, Debug, PartialEq, Eq, Error)]
 pub enum Later {
-    /// The goal `remove`.
-    #[error("remove")]
-    Remove,
-    /// The goal or the step `purge`.
-    #[error("purge")]
-    Purge,
-    /// The goal `upgrade`.
-    #[error("upgrade")]
-    Upgrade,
-    /// The goal `upgrade-all`.
-    #[error("upgrade-all")]
-    UpgradeAll,
-    /// The goal `no-remove`.
-    #[error("no-remove")]
-    NoRemove,
     /// The step `deconfigure`.
     #[error("deconfigure")]
     Deconfigure,
     /// A step that configures more than one package.
     #[error("configure")]
     Configure,
+    /// The step `remove`.
+    #[error("remove")]
+    Remove,
+    /// The step `purge`.
+    #[error("purge")]
+    Purge,
 }
 
 /// What is wrong with a text.
@@ -78,6 +73,9 @@ pub enum Fault {
     /// The index is refused.
     #[error("{0}")]
     Index(IndexFault),
+    /// The preferences are refused.
+    #[error("{0}")]
+    Preferences(PrefsFault),
     /// The request is refused.
     #[error("{0}")]
     Request(RequestFault),
@@ -90,7 +88,7 @@ pub enum Fault {
     /// A request that admits more pairs than are kept.
     #[error("E10 TooLarge")]
     TooLarge,
-    /// The text is accepted, but has what isn't judged yet.
+    /// The plan is accepted, but has what isn't judged yet.
     #[error("E27 NotYet {0}")]
     NotYet(Later),
     /// A file couldn't be read.

@@ -1,20 +1,20 @@
-// The request, of whose goals today those to install are judged, and the universe that it is answered from.
+// The request, and the universe that it is answered from.
 
 ghost use Rattle.std.specs.Prelude.{◌≡◌, IfErr, IfOk, List, Ok, map};
+ghost use Rattle.candidates.specs.Inputs.{indices_of};
 ghost use Rattle.rules.specs.Database.{HasDistinctNames};
 ghost use Rattle.rules.specs.Entry.{records_of};
 ghost use Rattle.rules.specs.declared.goal.GoalLine.{GoalLine as LineOf};
-ghost use Rattle.universe_build.specs.Build.{indices_of};
 ghost use Rattle.universe_build.specs.Error.{IsBuilt};
 ghost use Rattle.cli_engine.specs.Answer.{IsBuildFault, IsRequestFault, IsRequested};
 ghost use Rattle.cli_engine.specs.Reading.{IsFaultOf, OrMemory, with_fault};
-ghost use Rattle.cli_engine.specs.Texts as Spec;
 ghost use Rattle.cli_engine.specs.declared.refusal.Fault.TheVariants as fault;
 ghost use Rattle.universe_request.specs.Request as Read;
 
-use crate::refusal::{Fault, Later};
+use crate::refusal::Fault;
 use index::Index;
-use rules::{Goal, GoalLine};
+use pins::Prefs;
+use rules::GoalLine;
 use status_record::Record;
 use std::alloc::Global;
 use universe::Universe;
@@ -33,42 +33,21 @@ fn goals_in(alloc: Global, text: &[u8], arch: &[u8]) -> Result<Vec<GoalLine>, Fa
     }
 }
 
-fn later_goal(goal: &Goal) -> Option<Later>
-    ensures { result ≡ Spec.later_goal goal.now }
-{
-    match goal {
-        Goal::Install(_, _) => None,
-        Goal::Remove(_) => Some(Later::Remove),
-        Goal::Purge(_) => Some(Later::Purge),
-        Goal::Upgrade(_) => Some(Later::Upgrade),
-        Goal::UpgradeAll => Some(Later::UpgradeAll),
-        Goal::NoRemove => Some(Later::NoRemove),
-    }
-}
-
-fn first_later_goal(lines: &[GoalLine]) -> Option<Later>
-    ensures { result ≡ Spec.first_later_goal lines.now }
-{
-    for line in lines {
-        if let Some(found) = later_goal(&line.goal) {
-            return Some(found);
-        }
-    }
-    None
-}
-
 // Builds the universe of the goals.
 fn built<'p, 'a>(
     alloc: Global,
     start: &[&Record<'a>],
     indices: &'p [Index<'a>],
+    prefs: &Prefs,
     lines: Vec<GoalLine>,
 ) -> Result<Universe<'p, 'a>, Fault>
     requires { HasDistinctNames (records_of (map (λ r. r.now) start.now)) }
-    ensures ok { IfOk result (λ u. IsBuilt (records_of (map (λ r. r.now) start.now)) (indices_of indices.now) lines.items u) }
-    ensures err { IfErr result (λ f. OrMemory (IsBuildFault (records_of (map (λ r. r.now) start.now)) (indices_of indices.now) lines.items) f) }
+    ensures ok { IfOk result (λ u.
+        IsBuilt (records_of (map (λ r. r.now) start.now)) (indices_of indices.now) prefs.now lines.items u) }
+    ensures err { IfErr result (λ f. OrMemory
+        (IsBuildFault (records_of (map (λ r. r.now) start.now)) (indices_of indices.now) prefs.now lines.items) f) }
 {
-    match build(alloc, start, indices, lines) {
+    match build(alloc, start, indices, prefs, lines) {
         Ok(universe) => Ok(universe),
         Err(UniverseError::UnknownName(line)) => Err(Fault::UnknownName(line)),
         Err(UniverseError::TooLarge) => Err(Fault::TooLarge),
@@ -76,25 +55,23 @@ fn built<'p, 'a>(
     }
 }
 
-/// The universe that the request is answered from, over these records, whose names are distinct, and these indices; goals other than to install are refused today,
-/// after every other refusal of the text.
+/// The universe that the request is answered from, over these records, whose names are distinct, these indices and these
+/// preferences.
 pub(crate) fn read_request<'p, 'a>(
     alloc: Global,
     start: &[&Record<'a>],
     indices: &'p [Index<'a>],
+    prefs: &Prefs,
     text: &[u8],
     arch: &[u8],
 ) -> Result<Universe<'p, 'a>, Fault>
     requires { HasDistinctNames (records_of (map (λ r. r.now) start.now)) }
     ensures ok { IfOk result (λ u. (lines : List LineOf)
-        × IsRequested arch.now text.now (records_of (map (λ r. r.now) start.now)) (indices_of indices.now) lines u) }
-    ensures err { IfErr result (λ f. OrMemory (IsRequestFault arch.now text.now (records_of (map (λ r. r.now) start.now)) (indices_of indices.now)) f) }
+        × IsRequested arch.now text.now (records_of (map (λ r. r.now) start.now)) (indices_of indices.now) prefs.now lines u) }
+    ensures err { IfErr result (λ f. OrMemory
+        (IsRequestFault arch.now text.now (records_of (map (λ r. r.now) start.now)) (indices_of indices.now) prefs.now) f) }
 {
     let lines = goals_in(alloc, text, arch)?;
-    let later = first_later_goal(lines.as_slice());
-    let universe = built(alloc, start, indices, lines)?;
-    match later {
-        None => Ok(universe),
-        Some(later) => Err(Fault::NotYet(later)),
-    }
+    let universe = built(alloc, start, indices, prefs, lines)?;
+    Ok(universe)
 }

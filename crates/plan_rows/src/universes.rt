@@ -4,6 +4,7 @@
 use crate::packages::name_of;
 use debversion::Version;
 use index::Index;
+use pins::Prefs;
 use rules::{Goal, GoalLine, Op, Release, Restriction, Text, VersionText};
 use status_store::Database;
 use std::alloc::Global;
@@ -106,10 +107,11 @@ fn unescaped(alloc: Global, text: &str) -> Result<Vec<u8>, Fail> {
     Ok(bytes)
 }
 
-// The universe over a status file and two indices, or the refusal, as text.
+// The universe over a status file and two indices by these preferences, or the refusal, as text.
 fn answer(
     alloc: Global,
     status: &[u8],
+    prefs: &[u8],
     first: &str,
     second: &str,
     goals: &str,
@@ -118,7 +120,9 @@ fn answer(
     let _names = database.names();
     let start = database.records(alloc)?;
     let indices = [index_of(alloc, first)?, index_of(alloc, second)?];
-    match build(alloc, start.as_slice(), &indices, goals_of(alloc, goals)?) {
+    let prefs = Prefs::read(alloc, prefs, None)?;
+    let goals = goals_of(alloc, goals)?;
+    match build(alloc, start.as_slice(), &indices, &prefs, goals) {
         Ok(universe) => shown(alloc, &universe),
         Err(error) => Ok(format!(in alloc; "{error}")?),
     }
@@ -140,7 +144,7 @@ one→two-→a >> 1.0→a=1.0 b=3 | a=1.0 b=3
 one→two-→c = 2→E17 UnknownName 3
 ";
 
-fn holds(alloc: Global, status: &[u8], row: &str) -> Result<bool, Fail> {
+fn holds(alloc: Global, status: &[u8], prefs: &[u8], row: &str) -> Result<bool, Fail> {
     let Some((first, rest)) = row.split_once('→') else {
         return Ok(false);
     };
@@ -151,7 +155,7 @@ fn holds(alloc: Global, status: &[u8], row: &str) -> Result<bool, Fail> {
         return Ok(false);
     };
     Ok(
-        answer(alloc, status, first, second, goals)?
+        answer(alloc, status, prefs, first, second, goals)?
             .as_str()
             .trim_end()
             == wanted,
@@ -169,7 +173,7 @@ Package: a$Status: install ok unpacked$Version: 1.5$Architecture: all$→one→t
 Package: a$Status: hold ok installed$Version: 1.5$Architecture: all$→one→two→→a=1.5 b=3 | a=2 b=3
 Package: a$Status: hold ok installed$Version: 1.5$Architecture: all$→one→two→a = 1.0→a=1.5 b=3 | a=2 b=3
 Package: a$Status: install ok installed$Version: 1.5$Architecture: all$→one→two→a = 1.0→a=1.0 a=1.5 a=2 b=3 | a=2 b=3
-Package: a$Status: deinstall ok half-configured$Version: 1.00$Architecture: all$→one→no→→a=1.00 | a=1.0
+Package: a$Status: deinstall ok half-configured$Version: 1.00$Architecture: all$→one→no→→a=1.00 | a=1.00
 Package: a$Status: install reinstreq installed$Version: 1.5$Architecture: all$→one→no→→a=1.0 | a=1.0
 Package: a$Status: install ok half-installed$Version: 1.5$Architecture: all$→one→no→→a=1.0 | a=1.0
 Package: c$Status: install ok installed$Version: 2$Architecture: all$→one→no→→a=1.0 c=2 | a=1.0 c=2
@@ -182,13 +186,41 @@ fn holds_on_a_start(alloc: Global, row: &str) -> Result<bool, Fail> {
         return Ok(false);
     };
     let status = unescaped(alloc, status)?;
-    holds(alloc, status.as_slice(), rest)
+    holds(alloc, status.as_slice(), b"", rest)
+}
+
+// The same where a 1.5 stands, behind the text of a preferences file. A record for the name decides, or else the greatest
+// priority; a downgrade needs 1000; a priority of 0 or less is never chosen.
+const PREFERENCES: &str = "\
+→one→two→→a=1.5 a=2 b=3 | a=2 b=3
+Package: a$Pin: version 1.5$Pin-Priority: 501$→one→two→→a=1.5 b=3 | a=1.5 b=3
+Package: a$Pin: version 1.0$Pin-Priority: 1000$→one→two→→a=1.0 a=1.5 b=3 | a=1.0 b=3
+Package: a$Pin: version 1.0$Pin-Priority: 999$→one→two→→a=1.5 a=2 b=3 | a=2 b=3
+Package: *$Pin: version 2$Pin-Priority: -1$→one→two→→a=1.5 b=3 | a=1.5 b=3
+Package: *$Pin: version 3$Pin-Priority: 0$→one→two→→a=1.5 a=2 | a=2
+Package: a b$Pin: version 9*$Pin-Priority: -1$→one→two→→a=1.5 a=2 b=3 | a=2 b=3
+";
+
+fn holds_by_preferences(alloc: Global, row: &str) -> Result<bool, Fail> {
+    let Some((prefs, rest)) = row.split_once('→') else {
+        return Ok(false);
+    };
+    let prefs = unescaped(alloc, prefs)?;
+    holds(alloc, A_STANDS, prefs.as_slice(), rest)
+}
+
+#[test]
+fn candidates_are_those_of_the_preferences(rt: HostRuntime) -> Result<(), Fail> {
+    for row in PREFERENCES.lines() {
+        assert!(rt; holds_by_preferences(rt.alloc(), row)?, "{row}");
+    }
+    Ok(())
 }
 
 #[test]
 fn pairs_and_candidates_are_those_of_the_indices(rt: HostRuntime) -> Result<(), Fail> {
     for row in UNIVERSES.lines() {
-        assert!(rt; holds(rt.alloc(), b"", row)?, "{row}");
+        assert!(rt; holds(rt.alloc(), b"", b"", row)?, "{row}");
     }
     Ok(())
 }
@@ -214,7 +246,7 @@ fn errors_are_printed_with_their_codes(rt: HostRuntime) -> Result<(), Fail> {
 // With an allocation refused (`rt try --test --fail-alloc N`) the answer is the same or want of memory, or there is none.
 #[test]
 fn a_refused_growth_is_answered_as_want_of_memory(rt: HostRuntime) -> Result<(), Fail> {
-    let answer = answer(rt.alloc(), A_STANDS, "one", "two-", "a = 2")?;
+    let answer = answer(rt.alloc(), A_STANDS, b"", "one", "two-", "a = 2")?;
     let answer = answer.as_str();
     assert!(rt; answer == "a=1.5 a=2 b=3 | a=1.5 b=3 " || answer == "E1 OutOfMemory");
     Ok(())

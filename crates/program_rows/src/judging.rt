@@ -1,10 +1,11 @@
-//! A plan judged by paths.
+//! A plan judged, and a candidate found, by paths.
 ghost use Rattle.std.specs.Prelude.{None, Some, bytes_eq, if◌then◌else◌};
 
 use crate::memory::Memory;
 use cli::{
-    Arguments, Exit, Fault, Host, Outcome, Place, ReadError, check_plan, exit_of_refusal,
-    exit_of_verdict, outcome_of_answer, verdict_line,
+    Arguments, Exit, Fault, Host, Options, Outcome, Place, Query, ReadError, candidate_line,
+    check_plan, exit_of_candidate, exit_of_refusal, exit_of_verdict, find_candidate,
+    outcome_of_answer, outcome_of_candidate, verdict_line,
 };
 use std::alloc::Global;
 use std::test::Fail;
@@ -30,10 +31,16 @@ impl Host for OneFile<'_> {
     }
 }
 
-const PATHS: Arguments<'static> = Arguments {
+const OPTIONS: Options<'static> = Options {
     arch: "amd64",
     status: "status",
     sources: "sources",
+    preferences: None,
+    target: None,
+};
+
+const PATHS: Arguments<'static> = Arguments {
+    options: OPTIONS,
     request: "request",
     plan: "plan",
 };
@@ -54,6 +61,29 @@ fn a_verdict_is_printed_as_an_answer(rt: HostRuntime) -> Result<(), Fail> {
     assert!(rt;
         matches!(&outcome, Outcome::Answer(line, Exit::Success) if line.as_slice() == b"yes\n".as_slice())
     );
+    Ok(())
+}
+
+#[test]
+fn a_candidate_is_printed_as_an_answer(rt: HostRuntime) -> Result<(), Fail> {
+    let alloc = rt.alloc();
+    let mut host = Memory::new(alloc);
+    let status = "Package: foo$Status: install ok installed$Version: 1$Architecture: all$";
+    host.add(alloc, "status", status)?;
+    host.add(alloc, "sources", "")?;
+    let query = Query {
+        options: OPTIONS,
+        name: "foo",
+    };
+    let answer = find_candidate(alloc, &mut host, &query);
+    let outcome = outcome_of_candidate(alloc, b"foo", &answer)?;
+    let found = answer.ok().flatten().ok_or("a candidate")?;
+    assert!(rt; found.version() == b"1".as_slice() && found.priority() == 100);
+    assert!(rt; exit_of_candidate(Some(&found)) == Exit::Success);
+    assert!(rt;
+        candidate_line(alloc, b"foo", Some(&found))?.as_slice() == b"foo 1 100\n".as_slice()
+    );
+    assert!(rt; matches!(&outcome, Outcome::Answer(_, Exit::Success)));
     Ok(())
 }
 

@@ -5,7 +5,13 @@
 #![tactic(auto)]
 
 #[cfg(test)]
+mod candidate_rows;
+#[cfg(test)]
+mod candidates;
+#[cfg(test)]
 mod comparing;
+#[cfg(test)]
+mod goals;
 #[cfg(test)]
 mod indices;
 #[cfg(test)]

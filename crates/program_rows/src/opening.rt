@@ -1,6 +1,6 @@
 //! In which order files are opened, and what is refused where one can't be read.
 use crate::memory::{Memory, run_line};
-use crate::scenario::{CHECK_PLAN, next_column};
+use crate::scenario::{CANDIDATE, CHECK_PLAN, next_column};
 use std::alloc::Global;
 use std::test::Fail;
 
@@ -10,6 +10,7 @@ status→
 sources→File: index1$$File: index2$
 index1→Package: a$Version: 1$Architecture: all$
 index2→Package: b$Version: 1$Architecture: all$
+preferences→Package: a$Pin: version 1$Pin-Priority: 5$
 request→install a$
 plan→plan 1$unpack a 1$configure a$
 ";
@@ -32,6 +33,31 @@ plan→request→status sources index1 index2 request plan →3 |debplan: reques
 index1→index2→status sources index1 →5 |debplan: index 1: E5 Read$
 ";
 
+// The same with preferences.
+const PREFERRED_RUNS: &str = "\
+→→status sources index1 index2 preferences request plan →0 yes$|
+preferences→→status sources index1 index2 preferences →5 |debplan: preferences: E5 Read$
+index2→preferences→status sources index1 index2 →5 |debplan: index 2: E5 Read$
+preferences→index2→status sources index1 index2 preferences →3 |debplan: index 2: E2 BadLine 1$
+preferences→request→status sources index1 index2 preferences →5 |debplan: preferences: E5 Read$
+request→preferences→status sources index1 index2 preferences request →3 |debplan: preferences: E2 BadLine 1$
+plan→preferences→status sources index1 index2 preferences request plan →3 |debplan: preferences: E2 BadLine 1$
+";
+
+// The same where the candidate of `a` is asked for, which needs neither a request nor a plan.
+const CANDIDATE_RUNS: &str = "\
+→→status sources index1 index2 preferences →0 a 1 5$|
+plan→request→status sources index1 index2 preferences →0 a 1 5$|
+status→→status →5 |debplan: status: E5 Read$
+sources→→status sources →5 |debplan: sources: E5 Read$
+index2→→status sources index1 index2 →5 |debplan: index 2: E5 Read$
+preferences→→status sources index1 index2 preferences →5 |debplan: preferences: E5 Read$
+index1→sources→status sources →3 |debplan: sources: E2 BadLine 1$
+preferences→status→status sources index1 index2 preferences →3 |debplan: status: E2 BadLine 1$
+preferences→index2→status sources index1 index2 preferences →3 |debplan: index 2: E2 BadLine 1$
+index2→preferences→status sources index1 index2 →5 |debplan: index 2: E5 Read$
+";
+
 // The files without the missing one, and with the refused one.
 fn host_of<'a>(
     alloc: Global,
@@ -52,13 +78,15 @@ fn host_of<'a>(
     Ok(host)
 }
 
-fn holds(alloc: Global, row: &str) -> Result<bool, Fail> {
+// Whether a row holds of the command with this behind it.
+fn holds(alloc: Global, command: &str, rest_of_line: &str, row: &str) -> Result<bool, Fail> {
     let mut rest = row;
     let missing = next_column(&mut rest)?;
     let refused = next_column(&mut rest)?;
     let opened = next_column(&mut rest)?;
     let mut host = host_of(alloc, FILES, missing, refused)?;
-    let printed = run_line(alloc, CHECK_PLAN, &mut host)?;
+    let line = format!(in alloc; "{command}{rest_of_line}")?;
+    let printed = run_line(alloc, line.as_str(), &mut host)?;
     Ok(host.opened() == opened.as_bytes() && printed.is(alloc, rest)?)
 }
 
@@ -67,7 +95,19 @@ fn each_file_is_opened_once_at_its_turn_up_to_the_first_that_cannot_be_read(
     rt: HostRuntime,
 ) -> Result<(), Fail> {
     for row in RUNS.lines() {
-        assert!(rt; holds(rt.alloc(), row)?, "{row}");
+        assert!(rt; holds(rt.alloc(), CHECK_PLAN, "", row)?, "{row}");
+    }
+    for row in PREFERRED_RUNS.lines() {
+        assert!(rt;
+            holds(rt.alloc(), CHECK_PLAN, " --preferences preferences", row)?,
+            "{row}"
+        );
+    }
+    for row in CANDIDATE_RUNS.lines() {
+        assert!(rt;
+            holds(rt.alloc(), CANDIDATE, " --preferences preferences a", row)?,
+            "{row}"
+        );
     }
     Ok(())
 }

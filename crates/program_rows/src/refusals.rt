@@ -40,13 +40,8 @@ Package: foo$Version: 1.0$Architecture: all$→install foo$→plan 1$unpack foo 
 Package: a$Version: 1$Architecture: all$→install a$→plan 1$step$→3 |debplan: plan: E18 BadPlan 2$
 ";
 
-// The first of two goals, or of two steps, that aren't judged yet is named.
+// The first of two steps that aren't judged yet is named.
 const NOT_YET: &str = "\
-Package: a$Version: 1$Architecture: all$→install a$remove a$purge a$→plan 1$→3 |debplan: request: E27 NotYet remove$
-Package: a$Version: 1$Architecture: all$→purge a$→plan 1$→3 |debplan: request: E27 NotYet purge$
-Package: a$Version: 1$Architecture: all$→upgrade a$→plan 1$→3 |debplan: request: E27 NotYet upgrade$
-Package: a$Version: 1$Architecture: all$→upgrade-all$→plan 1$→3 |debplan: request: E27 NotYet upgrade-all$
-Package: a$Version: 1$Architecture: all$→install a$no-remove$→plan 1$→3 |debplan: request: E27 NotYet no-remove$
 Package: a$Version: 1$Architecture: all$→install a$→plan 1$deconfigure a$purge a$→3 |debplan: plan: E27 NotYet deconfigure$
 Package: a$Version: 1$Architecture: all$→install a$→plan 1$configure a b$→3 |debplan: plan: E27 NotYet configure$
 Package: a$Version: 1$Architecture: all$→install a$→plan 1$remove a$→3 |debplan: plan: E27 NotYet remove$

@@ -22,17 +22,27 @@ debplan compare 1 lt 2 3
 debplan compare 1 << 2
 debplan compare 1 LT 2
 debplan compare --arch a 1 lt 2
+debplan compare --target a 1 lt 2
+debplan check-plan --arch a --status s --sources s --request r --preferences p --preferences p plan
+debplan check-plan --arch a --status s --sources s --request r --target t --target t plan
+debplan check-plan --arch a --status s --sources s --request r plan --preferences
+debplan candidate
+debplan candidate --arch a --status s --sources s
+debplan candidate --arch a --status s --sources s foo bar
+debplan candidate --status s --sources s foo
+debplan candidate --arch a --sources s foo
+debplan candidate --arch a --status s foo
+debplan candidate --arch a --status s --sources s --request r foo
+debplan candidate --arch a --status s --sources s foo --target
+debplan candidate --arch a --status s --sources s --status s foo
 ";
 
 // Commands and options that aren't there.
 const UNKNOWN: &str = "\
-debplan candidate --arch a --status s --sources s foo
 debplan check-refutation --arch a --status s --sources s --request r file
 debplan solve --arch a --status s --sources s --request r
 debplan apply --arch a --status s --sources s --request r --journal j --output o plan
 debplan check --arch a --status s --sources s --request r plan
-debplan check-plan --arch a --status s --sources s --request r --preferences x plan
-debplan check-plan --arch a --status s --sources s --request r --target x plan
 debplan check-plan --arch a --status s --sources s --request r --limit x plan
 ";
 
@@ -40,6 +50,9 @@ debplan check-plan --arch a --status s --sources s --request r --limit x plan
 const TAKEN: &str = "\
 debplan check-plan --arch a --status s --sources s --request r plan
 debplan check-plan plan --request=r --sources=s --status=s --arch=-
+debplan check-plan --target t --arch a --status s --sources s --request r plan --preferences p
+debplan candidate --arch a --status s --sources s foo
+debplan candidate foo --target=- --preferences=p --sources=s --status=s --arch=-
 ";
 
 const HELP: &str = "\
@@ -47,6 +60,7 @@ debplan --help
 debplan help
 debplan check-plan --help
 debplan help compare
+debplan candidate --help
 ";
 
 // A text on standard error alone, and the status of a usage fault.

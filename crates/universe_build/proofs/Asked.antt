@@ -1,9 +1,9 @@
--- What install goals ask for with `=`, as a list and as a fact.
+-- What install goals ask for with `=`, and the versions of the best offers, as lists and as facts.
 use Rattle.std.proofs.Common.{◌≡◌, ℕ, Bool, true, false, cond, List, [], ◌∷◌, Option, Some, None, refl, sym, ap, subst, ◌∙◌}
 use Rattle.std.specs.List.{Any, Contains, cons_option, filter_map}
 use Rattle.std.proofs.lemmas.Option.{same_Some}
 use Rattle.rules.specs.Available.{is_of}
-use Rattle.rules.specs.ElementLaws.{Any-elim, Any-from_list_any, Any-intro, Contains-cons, Contains-head, Contains-nil, Contains-rest, list_any-from_contains}
+use Rattle.rules.specs.ElementLaws.{Any-elim, Any-from_list_any, Any-intro, Contains-cons, Contains-head, Contains-map, Contains-map_intro, Contains-nil, Contains-rest, list_any-from_contains}
 use Rattle.rules.specs.Step.{Listed}
 use Rattle.rules.specs.Universe.{IsOf, NamesExactly}
 use Rattle.rules.specs.Version.{SameVersion}
@@ -13,7 +13,8 @@ use Rattle.rules.specs.declared.goal.Goal.TheVariants as goal
 use Rattle.rules.specs.declared.op.Op.{Op}
 use Rattle.rules.specs.declared.op.Op.TheVariants as operator
 use Rattle.universe.proofs.PairOrder.{is_of-from, is_of-parts}
-use Rattle.universe_build.specs.Choice.{Exact, exact_of, exacts_of, is_sought, is_exactly}
+use Rattle.candidates.specs.Offer.{Offer}
+use Rattle.universe_build.specs.Choice.{Exact, best_exacts, exact_of, exacts_of, is_sought, is_exactly, offered_exact}
 use mathlib.Core.Logic.{inl, inr}
 
 -- what is left by a filter that changes comes from an element
@@ -120,3 +121,22 @@ is_sought-from goals found name version of some = Any-elim (NamesExactly name ve
     (is_of-from exact.0.name exact.0.version found.pkg
     (of.0 ∙ sym exact.2, SameVersion-trans found.pkg.version version exact.0.version of.1 exact.3)))
     some
+
+-- a stanza of the best offer's version is sought
+pub sought_best : (best : List Offer) (offer : Offer) → Contains best offer → (found : Listed)
+    → IsOf offer.name offer.version found.pkg → is_sought (best_exacts best) found ≡ true
+sought_best best offer within found of = list_any-from_contains (λ (exact : Exact). is_of exact.name exact.version found.pkg)
+    (best_exacts best) (offered_exact offer) (Contains-map_intro offered_exact best offer within)
+    (is_of-from offer.name offer.version found.pkg of)
+
+pub best_sought : (best : List Offer) (found : Listed) → is_sought (best_exacts best) found ≡ true
+    → (offer : Offer) × Contains best offer × IsOf offer.name offer.version found.pkg
+best_sought best found passes = Any-elim (λ (exact : Exact). is_of exact.name exact.version found.pkg ≡ true) (best_exacts best)
+    ((offer : Offer) × Contains best offer × IsOf offer.name offer.version found.pkg)
+    (λ exact within is.
+    let from = Contains-map offered_exact best exact within in (
+      from.0,
+      from.1,
+      is_of-parts from.0.name from.0.version found.pkg (ap (λ (e : Exact). is_of e.name e.version found.pkg) from.2 ∙ is),
+    ))
+    (Any-from_list_any (λ (exact : Exact). is_of exact.name exact.version found.pkg) (best_exacts best) passes)

@@ -1,14 +1,7 @@
 pub mod Asked
-pub mod Best
-pub mod Candidates
-pub mod Finding
 pub mod Given
 pub mod Made
-pub mod Named
 pub mod OneUniverse
-pub mod Ordered
-pub mod Priorities
-pub mod RecordOrder
+pub mod PairsInOrder
 pub mod Searching
 pub mod Sought
-pub mod StanzaOrder

@@ -1,5 +1,5 @@
 -- The pairs of what stands and of what is chosen or asked for, and the candidates, make the universe of a request.
-use Rattle.std.proofs.Common.{◌≡◌, ◌≢◌, ℕ, ℤ, Bool, true, false, not, ◌||◌, List, [], ◌∷◌, map, ◌⊎◌, Option, Some, None, IsSome, if◌then◌else◌, refl, sym, ap, subst, ◌∙◌, arith}
+use Rattle.std.proofs.Common.{◌≡◌, ◌≢◌, ℕ, ℤ, Bool, true, false, not, ◌||◌, List, [], ◌∷◌, map, ◌⊎◌, Option, Some, None, MatchOption, IsSome, if◌then◌else◌, refl, sym, ap, subst, ◌∙◌, arith}
 use Rattle.std.specs.Cmp.{tied_itself}
 use Rattle.std.specs.Cmp.Lexicographic.{nat_list_cmp_total}
 use Rattle.std.specs.List.{AllPairs, Any, Contains, filter}
@@ -17,7 +17,9 @@ use Rattle.rules.specs.Available.{Index, Inputs, all_listed, counting_package, i
 use Rattle.rules.specs.Database.{HasDistinctNames, HasRecord, IsHeld, Record, pkg_of, stands}
 use Rattle.rules.specs.ElementLaws.{All-intro, Any-elim, Any-intro, Contains-filter, Contains-filter_intro, Contains-map, Contains-map_intro}
 use Rattle.rules.specs.Name.{name_cmp}
-use Rattle.rules.specs.Priority.{IsCandidate}
+use Rattle.pins.specs.Prefs.{Preferences}
+use Rattle.rules.specs.Package.{Pkg}
+use Rattle.rules.specs.Priority.{HasPriority, HasPriorityAs, IsCandidate, IsEligible}
 use Rattle.rules.specs.State.{is_hold}
 use Rattle.rules.specs.Step.{Listed}
 use Rattle.rules.specs.Universe.{Candidate, IsAdmitted, IsOf, IsOffered, IsUniverse, Pair, pair_cmp, starts_of}
@@ -26,16 +28,16 @@ use Rattle.rules.specs.VersionOrderLaws.{SameVersion-refl, SameVersion-symm, Sam
 use Rattle.rules.specs.declared.goal.Goal.{Goal}
 use Rattle.universe.proofs.Finding.{AllPairs-rising}
 use Rattle.universe.proofs.PairOrder.{of_itself}
-use Rattle.universe_build.specs.Build.{inputs_of}
-use Rattle.universe_build.specs.Choice.{AreBest, IsOrdered, best_exacts, candidate_at, exacts_of, is_sought, listed_pair, offer_name_cmp, stanza_of}
-use Rattle.universe_build.specs.Offer.{Offer, offers_by, offers_of, standing_offers, upward}
+use Rattle.candidates.specs.Candidates.{AreCandidates}
+use Rattle.candidates.specs.Inputs.{inputs_of}
+use Rattle.candidates.specs.Offer.{IsFor, Offer, offer_name_cmp}
+use Rattle.candidates.specs.Recorded.{IsByName, is_held, stands_as}
+use Rattle.candidates.specs.Stanza.{IsOrdered, stanza_of}
+use Rattle.candidates.proofs.Named.{StandsAs-from, StandsAs-is, held-from, held-is, known_within, of_record-known, standing-is, standing_record-none, standing_record-one, stands_as-same, stands_in, within_known}
+use Rattle.candidates.proofs.Ordered.{found_ordered, ordered_found}
+use Rattle.universe_build.specs.Choice.{best_exacts, candidate_at, exacts_of, is_sought, listed_pair}
 use Rattle.universe_build.specs.Chosen.{ArePairs, admitted_among, chosen_pairs, is_free, standing_pair, standing_pairs}
-use Rattle.universe_build.specs.Recorded.{IsByName, is_held, stands_as}
-use Rattle.universe_build.proofs.Asked.{Contains-filter_map, Contains-filter_map_intro, is_sought-from, is_sought-names}
-use Rattle.universe_build.proofs.Candidates.{best_of_candidate, best_sought, candidate_of_best, sought_best, upward_within}
-use Rattle.universe_build.proofs.Named.{StandsAs-from, StandsAs-is, held-from, held-is, known_within, of_record-known, standing-from, standing-is, standing_record-none, standing_record-one, stands_as-same, stands_in, within_known}
-use Rattle.universe_build.proofs.Ordered.{found_ordered, ordered_found, ordered_stanza}
-use Rattle.universe_build.proofs.Priorities.{IsFor, offered_listed, standing_from}
+use Rattle.universe_build.proofs.Asked.{Contains-filter_map, Contains-filter_map_intro, best_sought, is_sought-from, is_sought-names, sought_best}
 use mathlib.Core.Logic.{inl, inr}
 
 -- each element of a sorted list is before all that follow, also after a change that keeps the order
@@ -80,11 +82,33 @@ standing_pair-is listed found pair is = at (stands found) refl is
     at true stood whole = (stood, same_Some (pair_at listed found) pair whole)
     at false stood whole = absurd (let e : None ≡ Some pair = whole in cc)
 
-module _ (db : List Record) (indices : List Index) (goals : List Goal) (known : List Record) (ordered : List Listed) (best : List Offer)
-    (distinct : HasDistinctNames db) (named : IsByName db known) (is : IsOrdered (all_listed indices) ordered)
-    (are : AreBest (upward db (offers_of db indices)) best) where
+-- a version with a priority has a package that counts
+has_counting : (inputs : Inputs) (name version : List ℕ) (priority : ℤ) → HasPriority inputs name version priority
+    → IsSome (counting_package inputs name version)
+unfolding HasPriority
+has_counting inputs name version priority has = at (counting_package inputs name version) has
+  where
+    at : (o : Option Pkg) → MatchOption o ⊥ (λ (pkg : Pkg). HasPriorityAs inputs name pkg.version priority) → IsSome o
+    at None has = absurd has
+    at (Some pkg) has = refl
+
+-- a version that may be chosen has a priority
+eligible_priority : (inputs : Inputs) (name version : List ℕ) (priority : ℤ) → IsEligible inputs name version priority
+    → HasPriority inputs name version priority
+unfolding IsEligible
+eligible_priority inputs name version priority may = may.0
+
+module _ (db : List Record) (indices : List Index) (prefs : Preferences) (goals : List Goal) (known : List Record) (ordered : List Listed)
+    (best : List Offer) (distinct : HasDistinctNames db) (named : IsByName db known) (is : IsOrdered (all_listed indices) ordered)
+    (are : AreCandidates (inputs_of db indices prefs goals) best) where
   abbrev inputs : Inputs
-  inputs = inputs_of db indices goals
+  inputs = inputs_of db indices prefs goals
+
+  -- the candidate is among the best
+  top_of : (name version : List ℕ) (priority : ℤ) → IsCandidate inputs name version priority
+      → (offer : Offer) × Contains best offer × IsFor name version offer
+  top_of name version priority candidate = Any-elim (IsFor name version) best ((offer : Offer) × Contains best offer × IsFor name version offer)
+      (λ offer within of. (offer, within, of)) (are.covered name version priority candidate)
 
   abbrev made : List Pair
   made = chosen_pairs known ordered best (exacts_of goals)
@@ -196,37 +220,26 @@ module _ (db : List Record) (indices : List Index) (goals : List Goal) (known : 
     of,
   )
 
-  -- an offer of a version that doesn't stand is of an index
-  listed_offer : (name version : List ℕ) (offer : Offer) → IsFor name version offer → stands_as db name version ≡ false
-      → Contains (standing_offers db) offer ⊎ Contains (offers_by indices) offer → Contains (offers_by indices) offer
-  listed_offer name version offer of stood (inl status) =
-      let from = standing_from db offer status in
-      absurd (let e : false ≡ true = sym stood ∙ standing-from db distinct name version from.0 from.1
-      (ap (λ (o : Offer). o.name) from.3 ∙ of.0) from.2
-      (subst (λ (o : Offer). SameVersion o.version version) (sym from.3) of.1) in cc)
-  listed_offer name version offer of stood (inr listed) = listed
-
   -- what is offered of a version that doesn't stand, of a name that isn't held
   made_offered : (name version : List ℕ) → stands_as db name version ≡ false → is_held db name ≡ false → IsOffered inputs name version
       → IsMade name version
   unfolding IsOffered
-  made_offered name version stood held (inl candidate) =
-      let top = best_of_candidate db indices goals best distinct are name version candidate.0 candidate.1 in
-      let drawn = upward_within db indices goals top.0 (are.drawn top.0 top.1) in
-      let listed = listed_offer name version top.0 top.2 stood
-      (Contains-append_cases (standing_offers db) (offers_by indices) top.0 drawn.0) in
-      let from = offered_listed indices top.0 listed in
-      let of : IsOf name version from.0.pkg = (
-        from.2 ∙ top.2.0,
-        subst (λ (v : List ℕ). SameVersion v version) (sym from.3) top.2.1,
-      ) in
-      let there = ordered_stanza (all_listed indices) ordered is from.0 from.1 name version of in
-      let own : IsOf top.0.name top.0.version there.0.pkg = (
-        there.2.0 ∙ sym top.2.0,
-        SameVersion-trans there.0.pkg.version version top.0.version there.2.1 (SameVersion-symm top.0.version version top.2.1),
-      ) in
-      made_listed name version there.0 there.1 there.2 stood held
-      (or_left (is_sought (best_exacts best) there.0) (is_sought (exacts_of goals) there.0) (sought_best best top.0 top.1 there.0 own))
+  made_offered name version stood held (inl candidate) = at (index_package indices name version) refl
+      (subst IsSome (counting_listed name version stood)
+      (has_counting inputs name version candidate.0 (eligible_priority inputs name version candidate.0 candidate.1.eligible)))
+    where
+      at : (o : Option Listed) → index_package indices name version ≡ o → IsSome (option_map (λ (listed : Listed). listed.pkg) o)
+          → IsMade name version
+      at None from some = absurd (let e : false ≡ true = some in cc)
+      at (Some found) from some =
+          let top = top_of name version candidate.0 candidate.1 in
+          let there = ordered_found (all_listed indices) ordered is name version found from in
+          let own : IsOf top.0.name top.0.version found.pkg = (
+            there.1.0 ∙ sym top.2.0,
+            SameVersion-trans found.pkg.version version top.0.version there.1.1 (SameVersion-symm top.0.version version top.2.1),
+          ) in
+          made_listed name version found there.0 there.1 stood held
+          (or_left (is_sought (best_exacts best) found) (is_sought (exacts_of goals) found) (sought_best best top.0 top.1 found own))
   made_offered name version stood held (inr asked) = at (index_package indices name version) refl
       (subst IsSome (counting_listed name version stood) asked.0)
     where
@@ -270,7 +283,7 @@ module _ (db : List Record) (indices : List Index) (goals : List Goal) (known : 
             let top = best_sought best found chosen in
             inl (
               top.0.priority,
-              candidate_of_best db indices goals best distinct are top.0 top.1 name version (
+              are.drawn top.0 top.1 name version (
                 sym top.2.0 ∙ of.0,
                 SameVersion-trans top.0.version found.pkg.version version (SameVersion-symm found.pkg.version top.0.version top.2.1) of.1,
               ),
@@ -330,10 +343,10 @@ module _ (db : List Record) (indices : List Index) (goals : List Goal) (known : 
         (All-intro (λ (offer : Offer). (priority : ℤ) × IsCandidate inputs offer.name offer.version priority) best
         (λ offer within. (
           offer.priority,
-          candidate_of_best db indices goals best distinct are offer within offer.name offer.version (refl, SameVersion-refl offer.version),
+          are.drawn offer within offer.name offer.version (refl, SameVersion-refl offer.version),
         )));
     every_candidate = λ name version priority candidate.
-        let top = best_of_candidate db indices goals best distinct are name version priority candidate in
+        let top = top_of name version priority candidate in
         Any-intro (λ (candidate : Candidate). (candidate.name ≡ name) × SameVersion candidate.version version) (map candidate_at best)
         (candidate_at top.0) (Contains-map_intro candidate_at best top.0 top.1) top.2;
     one_candidate = AllPairs-sorted offer_name_cmp (λ (earlier : Candidate) (later : Candidate). earlier.name ≢ later.name) candidate_at

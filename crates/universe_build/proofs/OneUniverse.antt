@@ -18,7 +18,7 @@ use Rattle.rules.specs.Version.{SameVersion}
 use Rattle.rules.specs.VersionOrderLaws.{version_cmp-same_right}
 use Rattle.universe.specs.PairLaws.{pair_cmp_total}
 use Rattle.universe.proofs.PairOrder.{of_itself}
-use Rattle.universe_build.proofs.Searching.{find-agree}
+use Rattle.candidates.proofs.Searching.{find-agree}
 use mathlib.Core.Logic.{inl, inr}
 
 -- the first element is before each other

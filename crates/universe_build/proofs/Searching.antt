@@ -1,17 +1,14 @@
--- What a binary search finds among names and among what is sought, and that the stanzas in order have the names of all.
-use Rattle.std.proofs.Common.{◌≡◌, ℕ, ◌+◌, Bool, true, false, not, ◌&&◌, List, [], ◌∷◌, length, get_or, Result, Option, Some, None, refl, sym, ap, ◌∙◌, arith, bytes_eq}
+-- What a binary search finds among what is sought, and that a goal is unknown alike among the records and stanzas in order.
+use Rattle.std.proofs.Common.{◌≡◌, ℕ, Bool, false, not, ◌&&◌, List, length, Result, Option, Some, None, refl, ap, ◌∙◌}
 use Rattle.std.specs.Prelude.{is_ok}
-use Rattle.std.specs.Cmp.Lexicographic.{nat_list_cmp_total}
-use Rattle.std.specs.List.{find}
-use Rattle.std.specs.List.Sorted.{IsBinarySearchResult, IsSearchInRange, IsSorted, IsSortedBy, IsStrictlySortedBy}
+use Rattle.std.specs.List.Sorted.{IsBinarySearchResult, IsSearchInRange, IsSorted}
 use Rattle.std.specs.Option.{option_map, option_map_or}
-use Rattle.std.specs.Ordering.{is_eq, is_lt, ordering_reverse, ordering_then}
+use Rattle.std.specs.Ordering.{is_eq, ordering_reverse}
 use Rattle.std.specs.declared.cmp.Ordering.{Ordering}
 use Rattle.std.specs.declared.cmp.Ordering.TheVariants.{Less, Equal, Greater}
 use Rattle.std.proofs.lemmas.List.Sorted.{searchable_from_sorted}
 use Rattle.std.proofs.lemmas.Map.Text.{is_eq-slice_cmp}
 use Rattle.rules.specs.Available.{is_of, same_version}
-use Rattle.rules.specs.ElementLaws.{Any-elim, Any-from_list_any, list_any-from_contains}
 use Rattle.rules.specs.Database.{Record}
 use Rattle.rules.specs.Name.{name_cmp}
 use Rattle.rules.specs.State.{is_not_installed_state}
@@ -19,40 +16,14 @@ use Rattle.rules.specs.Step.{Listed}
 use Rattle.rules.specs.Version.{version_cmp}
 use Rattle.rules.specs.declared.goal.Goal.{Goal}
 use Rattle.rules.specs.declared.goal.GoalLine.{GoalLine}
-use Rattle.universe.proofs.Finding.{AllPairs-rising, find-some}
-use Rattle.universe.proofs.PairOrder.{is_eq-then, of_itself}
+use Rattle.universe.proofs.PairOrder.{is_eq-then}
 use Rattle.universe.proofs.Searching.{searched_any}
-use Rattle.universe_build.specs.Build.{first_unknown, has_name, is_unknown, named_by}
-use Rattle.universe_build.specs.Choice.{Exact, IsOrdered, exact_at, exact_cmp, is_sought, listed_cmp}
+use Rattle.candidates.specs.Recorded.{IsByName, is_recorded}
+use Rattle.candidates.specs.Stanza.{IsOrdered, has_name}
+use Rattle.candidates.proofs.Searching.{find-agree, has_name-ordered}
+use Rattle.universe_build.specs.Build.{first_unknown, is_unknown, named_by}
+use Rattle.universe_build.specs.Choice.{Exact, exact_at, exact_cmp, is_sought}
 use Rattle.universe_build.specs.ChoiceLaws.{exact_cmp_total}
-use Rattle.universe_build.proofs.Ordered.{found_ordered, ordered_stanza}
-use Rattle.universe_build.specs.Recorded.{IsByName, is_recorded}
-
--- of two in a row, the second isn't before the first
-not_before : (o v : Ordering) → ordering_then o v ≡ Less → is_lt (ordering_reverse o) ≡ false
-not_before Less v first = refl
-not_before Equal v first = refl
-not_before Greater v first = absurd (let e : Greater ≡ Less = first in cc)
-
--- stanzas in order are in the order of their names
-sorted_names : (ordered : List Listed) → IsStrictlySortedBy listed_cmp ordered
-    → IsSortedBy (λ a b. is_lt (name_cmp a.pkg.name b.pkg.name)) ordered
-sorted_names ordered ascending k d low high =
-    let first : Listed = get_or ordered k d in
-    let next : Listed = get_or ordered (k + 1) d in
-    let below : listed_cmp first next ≡ Less = AllPairs-rising listed_cmp ordered ascending k (k + 1) d (omega arith) high in
-    ap is_lt (nat_list_cmp_total.antisymm next.pkg.name first.pkg.name)
-    ∙ not_before (name_cmp first.pkg.name next.pkg.name) (version_cmp first.pkg.version next.pkg.version) below
-
--- a binary search among stanzas in order tells whether one has the name
-pub searched_name : (ordered : List Listed) (name : List ℕ) (r : Result ℕ ℕ) → IsStrictlySortedBy listed_cmp ordered
-    → IsSearchInRange r (length ordered) → IsBinarySearchResult (λ found. name_cmp found.pkg.name name) ordered r
-    → is_ok r ≡ has_name ordered name
-searched_name ordered name r ascending within found =
-    searched_any (λ (found : Listed). bytes_eq found.pkg.name name) (λ (found : Listed). name_cmp found.pkg.name name) ordered r
-    (λ found. is_eq-slice_cmp found.pkg.name name)
-    (searchable_from_sorted nat_list_cmp_total (λ (found : Listed). found.pkg.name) ordered name (sorted_names ordered ascending))
-    within found
 
 -- tied either way round
 is_eq-reverse : (o : Ordering) → is_eq (ordering_reverse o) ≡ is_eq o
@@ -76,42 +47,6 @@ searched_exact exacts found r ascending within at =
     searched_any (λ (exact : Exact). is_of exact.name exact.version found.pkg) (λ (exact : Exact). exact_cmp exact (exact_at found))
     exacts r (λ exact. exact_ties exact found)
     (searchable_from_sorted exact_cmp_total (λ (exact : Exact). exact) exacts (exact_at found) ascending) within at
-
--- one test passes where the other does
-same_tests : (a b : Bool) → (a ≡ true → b ≡ true) → (b ≡ true → a ≡ true) → a ≡ b
-same_tests true b to back = sym (to refl)
-same_tests false true to back = back refl
-same_tests false false to back = refl
-
--- the stanzas in order have the names of all stanzas
-has_name-ordered : (listed ordered : List Listed) → IsOrdered listed ordered → (name : List ℕ)
-    → has_name ordered name ≡ has_name listed name
-has_name-ordered listed ordered is name = same_tests (has_name ordered name) (has_name listed name)
-    (λ some. Any-elim named ordered (has_name listed name ≡ true)
-    (λ found within passes.
-    let at = find-some (λ (other : Listed). is_of found.pkg.name found.pkg.version other.pkg) listed found
-    (found_ordered listed ordered is found within found.pkg.name found.pkg.version (of_itself found.pkg)) in
-    list_any-from_contains has listed found at.0 passes)
-    (Any-from_list_any has ordered some))
-    (λ some. Any-elim named listed (has_name ordered name ≡ true)
-    (λ found within passes.
-    let there = ordered_stanza listed ordered is found within found.pkg.name found.pkg.version (of_itself found.pkg) in
-    list_any-from_contains has ordered there.0 there.1 (ap (λ (n : List ℕ). bytes_eq n name) there.2.0 ∙ passes))
-    (Any-from_list_any has listed some))
-  where
-    has : Listed → Bool
-    has found = bytes_eq found.pkg.name name
-
-    named : Listed → Type 0
-    named found = has found ≡ true
-
--- two tests that agree find the same
-pub find-agree : {X : Type 0} (p q : X → Bool) → ((x : X) → p x ≡ q x) → (xs : List X) → find p xs ≡ find q xs
-find-agree p q same [] = refl
-find-agree p q same (x ∷ xs) =
-    let here : p x ≡ q x = same x in
-    let rest : find p xs ≡ find q xs = find-agree p q same xs in
-    cc
 
 -- among records and stanzas that have the same names a goal is unknown alike
 is_unknown-agree : (start known : List Record) (listed other : List Listed)

@@ -9,7 +9,7 @@ use Rattle.rules.specs.Step.{Listed}
 use Rattle.rules.specs.declared.goal.GoalLine.{GoalLine}
 use Rattle.universe_build.specs.Build.{goals_of}
 use Rattle.universe_build.specs.Choice.{AreExacts, Exact, best_exacts, exact_of, exacts_of, is_sought}
-use Rattle.universe_build.specs.Offer.{Offer}
+use Rattle.candidates.specs.Offer.{Offer}
 use Rattle.universe_build.specs.Chosen.{admitted_among}
 
 -- what is left of changed elements by a filter that changes

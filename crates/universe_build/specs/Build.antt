@@ -1,24 +1,15 @@
--- The universe of a request over the start and the indices, where no record of preferences is given and no release is the
--- target (apt_preferences(5)). Which request is refused is this project's own.
-use Rattle.std.specs.Prelude.{ℕ, Bool, false, not, List, [], map, ◌&&◌, Option, Some, None, bytes_eq}
-use Rattle.std.specs.List.{list_any, find}
+-- Which request is refused (this project's own).
+use Rattle.std.specs.Prelude.{ℕ, Bool, false, not, List, map, ◌&&◌, Option, Some, None}
+use Rattle.std.specs.List.{find}
 use Rattle.std.specs.Option.{option_map, option_map_or}
-use Rattle.index.specs.Index.{ReadIndex}
-use Rattle.rules.specs.Available.{Index, Inputs}
+pub use Rattle.candidates.specs.Inputs.{indices_of, inputs_of}
 use Rattle.rules.specs.Database.{Record}
 use Rattle.rules.specs.Step.{Listed}
 use Rattle.rules.specs.declared.goal.Goal.{Goal}
 use Rattle.rules.specs.declared.goal.Goal.TheVariants as goal
 use Rattle.rules.specs.declared.goal.GoalLine.{GoalLine}
-use Rattle.universe_build.specs.Recorded.{is_recorded}
-
--- the indices that were read
-abbrev pub indices_of : List ReadIndex → List Index
-indices_of indices = map (λ read. read.index) indices
-
--- the inputs of a request where nothing is preferred
-abbrev pub inputs_of : List Record → List Index → List Goal → Inputs
-inputs_of start indices goals = record { start = start; indices = indices; preferences = []; target = None; goals = goals }
+use Rattle.candidates.specs.Recorded.{is_recorded}
+use Rattle.candidates.specs.Stanza.{has_name}
 
 -- the goals of the lines
 abbrev pub goals_of : List GoalLine → List Goal
@@ -32,10 +23,6 @@ named_by (goal.Purge name) = Some name
 named_by (goal.Upgrade name) = Some name
 named_by goal.UpgradeAll = None
 named_by goal.NoRemove = None
-
--- a stanza has the name
-abbrev pub has_name : List Listed → List ℕ → Bool
-has_name listed name = list_any (λ found. bytes_eq found.pkg.name name) listed
 
 -- the goal names a package that no stanza has, and that is in no state but not-installed
 abbrev pub is_unknown : List Record → List Listed → Goal → Bool

@@ -1,13 +1,11 @@
--- Which stanza of a version counts, which offer is to be chosen first and what goals ask for (this project's own, after
--- apt-get(8) and apt_preferences(5)).
-use Rattle.std.specs.Prelude.{◌≡◌, ℕ, Bool, false, true, List, map, Option, Some, None, if◌then◌else◌}
-use Rattle.std.specs.List.{Any, Contains, list_any, filter_map, find}
-use Rattle.std.specs.List.Sorted.{IsPermutation, IsSorted, IsStrictlySortedBy}
-use Rattle.std.specs.Ordering.{flip_args, int_cmp, on, then_cmp}
+-- Which versions are sought: those of the candidates, and those that goals ask for (this project's own, after apt-get(8)).
+use Rattle.std.specs.Prelude.{ℕ, Bool, false, true, List, map, Option, Some, None, if◌then◌else◌}
+use Rattle.std.specs.List.{list_any, filter_map}
+use Rattle.std.specs.List.Sorted.{IsPermutation, IsSorted}
+use Rattle.std.specs.Ordering.{on, then_cmp}
 use Rattle.std.specs.declared.cmp.Ordering.{Ordering}
 use Rattle.rules.specs.Available.{is_of}
 use Rattle.rules.specs.Name.{name_cmp}
-use Rattle.rules.specs.Priority.{IsUpTo}
 use Rattle.rules.specs.Step.{Listed}
 use Rattle.rules.specs.Universe.{Candidate, Pair}
 use Rattle.rules.specs.Version.{version_cmp}
@@ -16,48 +14,11 @@ use Rattle.rules.specs.declared.goal.Goal.TheVariants as goal
 use Rattle.rules.specs.declared.goal.Restriction.{Restriction}
 use Rattle.rules.specs.declared.op.Op.{Op}
 use Rattle.rules.specs.declared.op.Op.TheVariants as op
-use Rattle.universe_build.specs.Offer.{Offer}
+use Rattle.candidates.specs.Offer.{Offer}
 
 -- the pair of a stanza that counts alone
 abbrev pub listed_pair : Listed → Pair
 listed_pair found = record { pkg = found.pkg; listed = Some found }
-
--- the order of stanzas: by name and then by version
-abbrev pub listed_cmp : Listed → Listed → Ordering
-listed_cmp = then_cmp (on (λ found. found.pkg.name) name_cmp) (on (λ found. found.pkg.version) version_cmp)
-
--- the earliest stanza of this version of the name
-abbrev pub stanza_of : List Listed → List ℕ → List ℕ → Option Listed
-stanza_of listed name version = find (λ found. is_of name version found.pkg) listed
-
--- the stanzas in their order, and of those of one version of a name the earliest alone
-pub record IsOrdered (listed ordered : List Listed) : Type 0 where
-  pub ascending : IsStrictlySortedBy listed_cmp ordered
-  pub earliest : (name version : List ℕ) → stanza_of ordered name version ≡ stanza_of listed name version
-
--- the order of offers of one name, the one to choose first: the greater priority, and of one priority the higher version
-abbrev pub choice_cmp : Offer → Offer → Ordering
-choice_cmp =
-    flip_args (then_cmp (on (λ offer. offer.priority) int_cmp) (on (λ offer. offer.version) version_cmp))
-
--- the order of names of offers
-abbrev pub offer_name_cmp : Offer → Offer → Ordering
-offer_name_cmp = on (λ offer. offer.name) name_cmp
-
--- the order of offers: by name, and of one name the one to choose first
-abbrev pub offer_cmp : Offer → Offer → Ordering
-offer_cmp = then_cmp offer_name_cmp choice_cmp
-
--- the other offer is of the same name, and this one isn't to be chosen before it
-unfoldable pub IsBeaten : Offer → Offer → Type 0
-IsBeaten offer other = (other.name ≡ offer.name)
-    × IsUpTo offer.version offer.priority other.version other.priority
-
--- the offer of each name that is to be chosen first, in the order of names
-pub record AreBest (offers best : List Offer) : Type 0 where
-  pub ascending : IsStrictlySortedBy offer_name_cmp best
-  pub drawn : (offer : Offer) → Contains best offer → Contains offers offer
-  pub greatest : (offer : Offer) → Contains offers offer → Any (IsBeaten offer) best
 
 -- a version of a name that is sought
 pub record Exact : Type 0 where

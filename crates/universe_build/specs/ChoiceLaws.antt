@@ -1,29 +1,10 @@
--- The orders of stanzas, of offers and of what is sought are total.
-use Rattle.std.specs.Cmp.{IsTotalOrder, back_total, on_total, then_total}
+-- The order of what is sought is total.
+use Rattle.std.specs.Cmp.{IsTotalOrder, on_total, then_total}
 use Rattle.std.specs.Cmp.Lexicographic.{nat_list_cmp_total}
-use Rattle.std.proofs.lemmas.Cmp.{int_cmp_total}
-use Rattle.rules.specs.Step.{Listed}
 use Rattle.rules.specs.VersionOrderLaws.{version_cmp_total}
-use Rattle.universe_build.specs.Choice.{Exact, choice_cmp, exact_cmp, listed_cmp, offer_cmp, offer_name_cmp}
-use Rattle.universe_build.specs.Offer.{Offer}
-
-pub listed_cmp_total : IsTotalOrder listed_cmp
-listed_cmp_total = then_total
-    (on_total (λ (found : Listed). found.pkg.name) nat_list_cmp_total)
-    (on_total (λ (found : Listed). found.pkg.version) version_cmp_total)
+use Rattle.universe_build.specs.Choice.{Exact, exact_cmp}
 
 pub exact_cmp_total : IsTotalOrder exact_cmp
 exact_cmp_total = then_total
     (on_total (λ (exact : Exact). exact.name) nat_list_cmp_total)
     (on_total (λ (exact : Exact). exact.version) version_cmp_total)
-
-pub choice_cmp_total : IsTotalOrder choice_cmp
-choice_cmp_total = back_total (then_total
-    (on_total (λ (offer : Offer). offer.priority) int_cmp_total)
-    (on_total (λ (offer : Offer). offer.version) version_cmp_total))
-
-pub offer_name_cmp_total : IsTotalOrder offer_name_cmp
-offer_name_cmp_total = on_total (λ (offer : Offer). offer.name) nat_list_cmp_total
-
-pub offer_cmp_total : IsTotalOrder offer_cmp
-offer_cmp_total = then_total offer_name_cmp_total choice_cmp_total

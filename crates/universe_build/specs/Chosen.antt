@@ -5,9 +5,10 @@ use Rattle.std.specs.List.Sorted.{IsStrictlySortedBy}
 use Rattle.rules.specs.Database.{Record, pkg_of, stands}
 use Rattle.rules.specs.Step.{Listed}
 use Rattle.rules.specs.Universe.{IsOf, Pair, pair_cmp}
-use Rattle.universe_build.specs.Choice.{Exact, best_exacts, is_sought, listed_pair, stanza_of}
-use Rattle.universe_build.specs.Offer.{Offer}
-use Rattle.universe_build.specs.Recorded.{is_held, stands_as}
+use Rattle.candidates.specs.Offer.{Offer}
+use Rattle.candidates.specs.Recorded.{is_held, stands_as}
+use Rattle.candidates.specs.Stanza.{stanza_of}
+use Rattle.universe_build.specs.Choice.{Exact, best_exacts, is_sought, listed_pair}
 
 -- the stanza of what stands, if there is one
 abbrev pub standing_stanza : List Listed → Record → Option Listed

@@ -3,7 +3,4 @@ pub mod Choice
 pub mod ChoiceLaws
 pub mod Chosen
 pub mod Error
-pub mod Offer
-pub mod Recorded
-pub mod RecordedLaws
 pub mod UniverseLaws

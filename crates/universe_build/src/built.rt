@@ -1,25 +1,26 @@
-// The universe of a request over the records of the start and the indices.
+// The universe of a request over the records of the start, the indices and the preferences.
 
 ghost use Rattle.std.specs.Prelude.{◌≡◌, IfOk, IfErr, map};
 ghost use Rattle.std.specs.List.Sorted.{IsStrictlySortedBy};
 ghost use Rattle.std.specs.Option.{option_copied};
 ghost use Rattle.rules.specs.Database.{HasDistinctNames};
 ghost use Rattle.rules.specs.Entry.{records_of};
+ghost use Rattle.rules.specs.Universe.{starts_of};
+ghost use Rattle.candidates.specs.Recorded.{record_cmp};
+ghost use Rattle.candidates.specs.Stanza.{listed_cmp};
 ghost use Rattle.universe_build.specs.Build.{first_unknown, goals_of, indices_of, is_unknown, named_by};
-ghost use Rattle.universe_build.specs.Choice.{listed_cmp};
+ghost use Rattle.universe_build.specs.Choice.{candidate_at};
 ghost use Rattle.universe_build.specs.Error.{IsBuilt, IsUniverseFault};
-ghost use Rattle.universe_build.specs.Recorded.{record_cmp};
 
 use crate::chosen::pairs_of;
 use crate::error::UniverseError;
-use crate::offer::{best_of, candidates_of, offers_of, upward};
-use crate::order::{Found, has_name, in_order};
-use crate::recorded::{Recorded, by_name, is_recorded, records_in, starts_of};
+use candidates::{Found, Offer, Offered, Recorded, has_name, is_recorded, records_in};
 use index::Index;
+use pins::Prefs;
 use rules::{Goal, GoalLine, PAIRS};
 use status_record::Record;
 use std::alloc::{AllocError, Global};
-use universe::{Pairs, Universe};
+use universe::{Candidate, Pairs, Start, Universe};
 
 fn named_by(goal: &Goal) -> Option<&[u8]>
     ensures { option_copied result ≡ named_by goal.now }
@@ -64,34 +65,53 @@ fn goals_of(alloc: Global, lines: Vec<GoalLine>) -> Result<Vec<Goal>, AllocError
     lines.into_iter().map(|asked| asked.goal).collect(alloc)
 }
 
-/// The universe of the goals over the records of the start and the indices, where no record of preferences is given and no
-/// release is the target. The priority of a version is the greatest that a place with it gives by default: of the status
-/// file 100, of an index 500, or of a NotAutomatic index 100 with ButAutomaticUpgrades and 1 without (apt_preferences(5)).
-/// Of equal versions the one that stands counts, then the stanza of the earlier index, and then the earlier stanza. The
-/// universe lends the stanzas of the indices, and of no stanza the relations are read here.
+fn starts_of<'a>(alloc: Global, start: &[Recorded<'_, 'a>]) -> Result<Vec<Start<'a>>, AllocError>
+    ensures { IfOk result (λ starts. starts.items ≡ starts_of start.now) }
+{
+    start.iter().map(|found| found.start()).collect(alloc)
+}
+
+fn candidate_at<'a>(offer: &Offer<'a>) -> Candidate<'a>
+    ensures { result ≡ candidate_at offer.now }
+{
+    Candidate::new(offer.name(), offer.version().again())
+}
+
+// The best offers' versions as the candidates of their names.
+fn candidates_of<'a>(alloc: Global, best: &[Offer<'a>]) -> Result<Vec<Candidate<'a>>, AllocError>
+    ensures { IfOk result (λ candidates. candidates.items ≡ map candidate_at best.now) }
+{
+    best.iter().map(|offer| candidate_at(offer)).collect(alloc)
+}
+
+/// The universe of the goals over the records of the start and the indices, where these preferences hold
+/// (apt_preferences(5)). Of equal versions the one that stands counts, then the stanza of the earlier index, and then the
+/// earlier stanza. The universe lends the stanzas of the indices, and of no stanza the relations are read here.
 ///
 /// It refuses the first goal that names a package that no stanza has and that is in no state but not-installed, then more
-/// than 1,000,000 admitted pairs, and growths that are refused. About n log n comparisons of n stanzas and records, and for
-/// m goals about m log n and n log m more.
+/// than 1,000,000 admitted pairs, and growths that are refused. About n log n comparisons of n stanzas and records, for
+/// each version what `Prefs::priority` costs, and for m goals about m log n and n log m comparisons more.
 pub fn build<'p, 'a>(
     alloc: Global,
     start: &[&Record<'a>],
     indices: &'p [Index<'a>],
+    prefs: &Prefs,
     goals: Vec<GoalLine>,
 ) -> Result<Universe<'p, 'a>, UniverseError>
     requires { HasDistinctNames (records_of (map (λ r. r.now) start.now)) }
-    ensures ok { IfOk result (λ u. IsBuilt (records_of (map (λ r. r.now) start.now)) (indices_of indices.now) goals.items u) }
-    ensures err { IfErr result (λ e. IsUniverseFault (records_of (map (λ r. r.now) start.now)) (indices_of indices.now) goals.items e) }
+    ensures ok { IfOk result (λ u. IsBuilt (records_of (map (λ r. r.now) start.now)) (indices_of indices.now) prefs.now goals.items u) }
+    ensures err { IfErr result (λ e. IsUniverseFault (records_of (map (λ r. r.now) start.now)) (indices_of indices.now) prefs.now goals.items e) }
 {
     let recorded = records_in(alloc, start)?;
     let starts = starts_of(alloc, recorded.as_slice())?;
-    let offers = offers_of(alloc, recorded.as_slice(), indices)?;
-    let known = by_name(recorded)?;
-    let ordered = in_order(alloc, indices)?;
+    let Offered {
+        known,
+        ordered,
+        candidates: best,
+    } = Offered::find(alloc, recorded, indices, prefs)?;
     if let Some(line) = first_unknown(known.as_slice(), ordered.as_slice(), goals.as_slice()) {
         return Err(UniverseError::UnknownName(line));
     }
-    let best = best_of(upward(known.as_slice(), offers))?;
     let pairs = pairs_of(
         alloc,
         known.as_slice(),

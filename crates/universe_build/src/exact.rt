@@ -8,8 +8,7 @@ ghost use Rattle.std.specs.Ordering.{as_partial_cmp, eq_by_cmp};
 ghost use Rattle.universe_build.specs.Choice.{AreExacts, best_exacts, exact_at, exact_by, exact_cmp, exact_of, is_exactly, is_sought, offered_exact};
 ghost use Rattle.universe_build.specs.ChoiceLaws.{exact_cmp_total};
 
-use crate::offer::Offer;
-use crate::order::Found;
+use candidates::{Found, Offer};
 use debversion::Version;
 use rules::{Goal, GoalLine, Name, Op, Restriction};
 use std::alloc::{AllocError, Global};

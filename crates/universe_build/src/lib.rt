@@ -1,5 +1,5 @@
-// Builds the universe of a request from the records of the start, the indices and the goals. It stands on `rules`,
-// which says which pairs are admitted. The main function is `build`.
+// Builds the universe of a request from the records of the start, the indices, the preferences and the goals. It stands on
+// `rules`, which says which pairs are admitted, and on `candidates`. The main function is `build`.
 #![tactic(auto)]
 
 mod built;
@@ -7,9 +7,6 @@ mod chosen;
 mod error;
 mod exact;
 mod laws;
-mod offer;
-mod order;
-mod recorded;
 
 pub use built::build;
 pub use error::UniverseError;

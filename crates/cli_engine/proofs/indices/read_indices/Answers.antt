@@ -1,7 +1,7 @@
 -- Behind an index that is read the others go on, one that is refused is the first refusal, and at the end nothing is left.
 use Rattle.std.proofs.Common.{rules, ◌≡◌, ◌+◌, ◌∷◌, length, sym, ap, ◌∙◌, arith}
 use Rattle.std.specs.Vec.Iter.{into_iter_items}
-use Rattle.universe_build.specs.Build.{indices_of}
+use Rattle.candidates.specs.Inputs.{indices_of}
 use Rattle.cli_engine.specs.Indices.{read_indices}
 use Rattle.cli_engine.proofs.IndicesLemmas.{at_end, goes_on, index_fits, is_refused}
 use Rattle.cli_engine.proofs.indices.read_indices.Goals as goal

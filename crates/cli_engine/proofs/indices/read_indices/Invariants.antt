@@ -2,7 +2,7 @@
 use Rattle.std.proofs.Common.{◌≡◌, ◌≤◌, ◌+◌, length, map, drop, Bor, List, ℕ}
 use Rattle.std.specs.Vec.Iter.{into_iter_items, into_iter_len}
 use Rattle.rules.specs.declared.limits.TheConstants.{PACKAGES}
-use Rattle.universe_build.specs.Build.{indices_of}
+use Rattle.candidates.specs.Inputs.{indices_of}
 use Rattle.cli_engine.specs.Indices.{indices_from, with_indices}
 use Rattle.cli_engine.proofs.indices.read_indices.Given as goal
 

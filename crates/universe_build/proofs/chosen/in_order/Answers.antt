@@ -2,7 +2,7 @@
 use Rattle.std.specs.Ordering.{eq_by_cmp}
 use Rattle.std.proofs.lemmas.List.Filters.{dedup_is}
 use Rattle.rules.specs.Universe.{pair_cmp}
-use Rattle.universe_build.proofs.RecordOrder.{ArePairs-from_sort}
+use Rattle.universe_build.proofs.PairsInOrder.{ArePairs-from_sort}
 use Rattle.universe_build.proofs.chosen.in_order.Goals as goal
 
 pub returns : goal.returns

@@ -1,0 +1,38 @@
+"""The wall time and the peak memory of whole processes."""
+
+import os
+import statistics
+import subprocess
+import sys
+import time
+
+# apt builds no cache on disk, and so reads its lists in each run.
+NO_CACHE = ["-o", "Dir::Cache::pkgcache=", "-o", "Dir::Cache::srcpkgcache="]
+
+
+def measured(command):
+    """The wall time of a process in milliseconds, its peak memory in MiB, and what it prints."""
+    start = time.perf_counter()
+    process = subprocess.Popen(command, stdout=subprocess.PIPE)
+    printed = process.stdout.read().decode()
+    _, status, usage = os.wait4(process.pid, 0)
+    wall = time.perf_counter() - start
+    if status != 0:
+        sys.exit(f"{sys.argv[0]}: {command[0]} ended with status {status}: {printed}")
+    return wall * 1000, usage.ru_maxrss / 1024, printed
+
+
+def table(commands, rounds, check):
+    """Runs each command once a round, and prints a table of the times and the peak memory. `check` is handed each
+    subject with what its command printed."""
+    times, peaks = {}, {}
+    for _ in range(rounds):
+        for subject, command in commands.items():
+            wall, peak, printed = measured(command)
+            check(subject, printed)
+            times.setdefault(subject, []).append(wall)
+            peaks[subject] = max(peaks.get(subject, 0), peak)
+    print("| Subject | Median | Least | Most | Peak |\n|---|---|---|---|---|")
+    for subject, walls in times.items():
+        median = statistics.median(walls)
+        print(f"| {subject} | {median:.0f} ms | {min(walls):.0f} ms | {max(walls):.0f} ms | {peaks[subject]:.0f} MiB |")

@@ -1,0 +1,16 @@
+pub mod Alone
+pub mod Available
+pub mod Best
+pub mod Candidates
+pub mod Finding
+pub mod Given
+pub mod Kept
+pub mod Listing
+pub mod Named
+pub mod Ordered
+pub mod Origins
+pub mod Priorities
+pub mod RecordOrder
+pub mod Runs
+pub mod Searching
+pub mod StanzaOrder

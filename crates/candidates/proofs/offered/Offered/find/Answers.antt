@@ -1,0 +1,22 @@
+-- What is found among the records and the places in order is what the records and the indices offer.
+use Rattle.std.proofs.Common.{List, subst}
+use Rattle.rules.specs.Database.{Record}
+use Rattle.candidates.specs.Inputs.{indices_of}
+use Rattle.candidates.specs.Place.{Place, stanzas_of}
+use Rattle.candidates.specs.Rated.{AreChosen}
+use Rattle.candidates.specs.Stanza.{IsOrdered}
+use Rattle.candidates.proofs.Given.{AreCandidates-given, IsOrdered-given}
+use Rattle.candidates.proofs.offered.Offered.find.Goals as goal
+
+pub returns-clause-ordered : goal.returns-clause-ordered
+returns-clause-ordered c = IsOrdered-given (indices_of c.args.indices.now) c.in_ok-places.places.items c.in_ok-ordered.ordered.items
+    c.in_ok-places.ensures
+    (subst (λ (places : List Place). IsOrdered (stanzas_of places) c.in_ok-ordered.ordered.items) c.as_slice.ensures.value c.in_ok-ordered.ensures)
+
+pub returns-clause-candidates : goal.returns-clause-candidates
+returns-clause-candidates c = λ goals. AreCandidates-given c.args.start.items c.in_ok-known.known.items (indices_of c.args.indices.now)
+    c.args.prefs.now goals c.in_ok-places.places.items c.in_ok-candidates.candidates.items c.requires c.in_ok-known.ensures c.in_ok-places.ensures
+    (subst (λ (places : List Place). AreChosen c.args.prefs.now c.in_ok-known.known.items places c.in_ok-candidates.candidates.items)
+    c.as_slice-3.ensures.value
+    (subst (λ (known : List Record). AreChosen c.args.prefs.now known c.as_slice-3.result.now c.in_ok-candidates.candidates.items)
+    c.as_slice-2.ensures.value c.in_ok-candidates.ensures))

@@ -1,0 +1,24 @@
+-- A binary search among the records in the order of their names.
+use Rattle.std.proofs.Common.{rules, arith, ◌<◌, ◌∙◌, Result, ℕ, length, subst}
+use Rattle.std.specs.List.Sorted.{IsBinarySearchResult, IsSearchInRange}
+use Rattle.std.proofs.lemmas.Fn.{always_returns_same}
+use Rattle.rules.specs.Database.{Record}
+use Rattle.rules.specs.Name.{name_cmp}
+use Rattle.universe.proofs.Searching.{got}
+use Rattle.candidates.proofs.RecordOrder.{searched_record, searched_no_record}
+use Rattle.candidates.proofs.recorded.record_of.Goals as goal
+
+pub returns-in-Ok : goal.returns-in-Ok
+returns-in-Ok c =
+    let within : c.in-Ok.place < length c.args.known.now = subst (λ (r : Result ℕ ℕ). IsSearchInRange r (length c.args.known.now)) c.in-Ok.is c.binary_search_by.ensures.bound in
+    got _ c.get.result c.args.known.now c.in-Ok.place within (c.get.ensures.lookup.2 within) (c.get.ensures.lookup.4 (omega arith))
+    ∙ searched_record c.args.known.now c.args.name.now c.in-Ok.place c.requires
+    within
+    (subst (λ (r : Result ℕ ℕ). IsBinarySearchResult (λ (found : Record). name_cmp found.name c.args.name.now) c.args.known.now r) c.in-Ok.is
+    (c.binary_search_by.ensures.position (λ (found : Record). name_cmp found.name c.args.name.now) (always_returns_same _ _ _ (λ a r f k. search rules))))
+
+pub returns-in-Err : goal.returns-in-Err
+returns-in-Err c = searched_no_record c.args.known.now c.args.name.now c.in-Err.field-0 c.requires
+    (subst (λ (r : Result ℕ ℕ). IsSearchInRange r (length c.args.known.now)) c.in-Err.is c.binary_search_by.ensures.bound)
+    (subst (λ (r : Result ℕ ℕ). IsBinarySearchResult (λ (found : Record). name_cmp found.name c.args.name.now) c.args.known.now r) c.in-Err.is
+    (c.binary_search_by.ensures.position (λ (found : Record). name_cmp found.name c.args.name.now) (always_returns_same _ _ _ (λ a r f k. search rules))))

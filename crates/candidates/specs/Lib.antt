@@ -1,0 +1,10 @@
+pub mod Candidates
+pub mod Inputs
+pub mod Offer
+pub mod OfferLaws
+pub mod Place
+pub mod Rated
+pub mod Recorded
+pub mod RecordedLaws
+pub mod Stanza
+pub mod StanzaLaws

@@ -1,0 +1,17 @@
+// What the start and the indices offer, with the priorities that the preferences give, and the candidate of each name.
+// It stands on `rules`, which says what candidates are, and on `pins`. The main call is `Offered::find`.
+#![tactic(auto)]
+
+mod of_name;
+mod offer;
+mod offered;
+mod order;
+mod place;
+mod rated;
+mod recorded;
+
+pub use of_name::candidate;
+pub use offer::Offer;
+pub use offered::Offered;
+pub use order::{Found, has_name, stanza_of};
+pub use recorded::{Recorded, is_held, is_recorded, records_in, stands_as};

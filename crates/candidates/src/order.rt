@@ -1,0 +1,161 @@
+// The stanzas of the indices in their order, of those of one version the earliest alone.
+
+ghost use Rattle.std.specs.Prelude.{◌≡◌, IfOk, refl};
+ghost use Rattle.std.specs.Cmp.{eq_by_cmp_equiv, partial_equiv_from_equiv, po};
+ghost use Rattle.std.specs.List.Sorted.{IsSorted, IsStrictlySortedBy};
+ghost use Rattle.std.specs.Ordering.{as_partial_cmp, eq_by_cmp};
+ghost use Rattle.std.specs.Option.{option_copied};
+ghost use Rattle.universe.specs.Pair.{pkg_order};
+ghost use Rattle.candidates.specs.Place.{place_cmp, stanzas_of};
+ghost use Rattle.candidates.specs.Stanza.{IsOrdered, has_name, listed_cmp, stanza_of};
+ghost use Rattle.candidates.specs.StanzaLaws.{listed_cmp_total};
+
+use crate::place::Place;
+use debversion::Version;
+use index::Entry;
+use std::alloc::{AllocError, Global};
+use std::cmp::Ordering;
+use std::marker::Model;
+
+/// A stanza of an index. Stanzas are ordered by the bytes of the name and then by the version (deb-version(7)), and two
+/// of one name and version are equal.
+#[derive(Drop)]
+pub struct Found<'p, 'a> {
+    entry: &'p Entry<'a>,
+}
+
+impl<'p, 'a> Model for Found<'p, 'a> {
+    ghost use Rattle.rules.specs.Step.{Listed as ListedValue};
+
+    ghost Value = { ListedValue };
+
+    ghost view = { λ f. f.entry.now };
+}
+
+impl<'p, 'a> Found<'p, 'a> {
+    /// The name of the package.
+    pub fn name(&self) -> &'a [u8]
+        ensures { result.now ≡ self.now.pkg.name }
+    {
+        self.entry.name()
+    }
+
+    /// The version of the package.
+    pub fn version(&self) -> &Version<'a>
+        ensures { result.now ≡ self.now.pkg.version }
+    {
+        self.entry.version()
+    }
+
+    /// The stanza.
+    pub fn entry(&self) -> &'p Entry<'a>
+        ensures { result.now ≡ self.now }
+    {
+        self.entry
+    }
+}
+
+fn found_at<'p, 'a>(place: &Place<'p, 'a>) -> Found<'p, 'a>
+    ensures { result ≡ place.now.listed }
+{
+    Found {
+        entry: place.entry(),
+    }
+}
+
+fn stanzas_of<'p, 'a>(
+    alloc: Global,
+    places: &[Place<'p, 'a>],
+) -> Result<Vec<Found<'p, 'a>>, AllocError>
+    ensures { IfOk result (λ found. found.items ≡ stanzas_of places.now) }
+{
+    places.iter().map(|place| found_at(place)).collect(alloc)
+}
+
+/// The stanzas of the places, of equal ones the first alone. Linear.
+pub fn in_order<'p, 'a>(
+    alloc: Global,
+    sorted: &[Place<'p, 'a>],
+) -> Result<Vec<Found<'p, 'a>>, AllocError>
+    requires { IsSorted place_cmp sorted.now }
+    ensures { IfOk result (λ ordered. IsOrdered (stanzas_of sorted.now) ordered.items) }
+{
+    let mut found = stanzas_of(alloc, sorted)?;
+    found.dedup();
+    Ok(found)
+}
+
+fn order_to(found: &Found<'_, '_>, name: &[u8], version: &Version<'_>) -> Ordering
+    ensures { result ≡ pkg_order found.now.pkg name.now version.now }
+{
+    match found.name().cmp(name) {
+        Ordering::Equal => found.version().cmp(version),
+        decided => decided,
+    }
+}
+
+/// The stanza of this version of the name, by a binary search.
+pub fn stanza_of<'k, 'p, 'a>(
+    ordered: &'k [Found<'p, 'a>],
+    name: &[u8],
+    version: &Version<'_>,
+) -> Option<&'k Found<'p, 'a>>
+    requires { IsStrictlySortedBy listed_cmp ordered.now }
+    ensures { option_copied result ≡ stanza_of ordered.now name.now version.now }
+{
+    match ordered.binary_search_by(|found| order_to(found, name, version)) {
+        Ok(place) => ordered.get(place),
+        Err(_) => None,
+    }
+}
+
+/// Whether a stanza has the name, by a binary search.
+pub fn has_name(ordered: &[Found<'_, '_>], name: &[u8]) -> bool
+    requires { IsStrictlySortedBy listed_cmp ordered.now }
+    ensures { result ≡ has_name ordered.now name.now }
+{
+    ordered
+        .binary_search_by(|found| found.name().cmp(name))
+        .is_ok()
+}
+
+impl PartialEq for Found<'_, '_> {
+    ghost eq = { eq_by_cmp listed_cmp };
+
+    ghost laws = { partial_equiv_from_equiv (eq_by_cmp_equiv listed_cmp_total) };
+
+    fn eq(&self, other: &Self) -> bool {
+        self.cmp(other) == Ordering::Equal
+    }
+}
+
+impl Eq for Found<'_, '_> {
+    ghost laws = { eq_by_cmp_equiv listed_cmp_total };
+}
+
+impl PartialOrd for Found<'_, '_> {
+    ghost partial_cmp = { as_partial_cmp listed_cmp };
+
+    ghost laws = { po listed_cmp_total (λ found other. refl) };
+
+    fn partial_cmp(&self, other: &Self) -> Option<Ordering> {
+        Some(self.cmp(other))
+    }
+}
+
+impl Ord for Found<'_, '_> {
+    ghost cmp = { listed_cmp };
+
+    ghost total = { listed_cmp_total };
+
+    ghost matches_partial_cmp = { λ found other. refl };
+
+    ghost matches_eq = { λ found other. refl };
+
+    fn cmp(&self, other: &Self) -> Ordering {
+        match self.name().cmp(other.name()) {
+            Ordering::Equal => self.version().cmp(other.version()),
+            decided => decided,
+        }
+    }
+}

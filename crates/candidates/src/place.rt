@@ -1,0 +1,183 @@
+// The places that stanzas come from, in the order of their stanzas.
+
+ghost use Rattle.std.specs.Prelude.{◌≡◌, ◌+◌, ◌≤◌, [], IfOk, IfSome, MatchOption, drop, length, refl};
+ghost use Rattle.std.specs.Cmp.{eq_by_cmp_equiv, partial_equiv_from_equiv, po};
+ghost use Rattle.std.specs.List.{prefix_len};
+ghost use Rattle.std.specs.Ordering.{as_partial_cmp, eq_by_cmp};
+ghost use Rattle.pins.specs.Origin.{release_origin};
+ghost use Rattle.candidates.specs.Inputs.{indices_of};
+ghost use Rattle.candidates.specs.Place.{AreSorted, IsNextRun, is_like, place_at, place_cmp, places_in, places_of};
+ghost use Rattle.candidates.specs.StanzaLaws.{place_cmp_total};
+
+use debversion::Version;
+use index::{Entry, Index};
+use pins::Origin;
+use rules::Release;
+use std::alloc::{AllocError, Global};
+use std::cmp::Ordering;
+use std::marker::Model;
+
+/// A stanza of an index, with the index's release keys. Places are ordered by the bytes of the name and then by the
+/// version (deb-version(7)), and two of one name and version are equal.
+#[derive(Drop)]
+pub struct Place<'p, 'a> {
+    entry: &'p Entry<'a>,
+    release: &'p Release,
+}
+
+impl<'p, 'a> Model for Place<'p, 'a> {
+    ghost use Rattle.candidates.specs.Place.{Place as PlaceValue};
+
+    ghost Value = { PlaceValue };
+
+    ghost view = { λ p. record { listed = p.entry.now; release = p.release.now } };
+}
+
+impl<'p, 'a> Place<'p, 'a> {
+    /// The name of the package.
+    pub fn name(&self) -> &'a [u8]
+        ensures { result.now ≡ self.now.listed.pkg.name }
+    {
+        self.entry.name()
+    }
+
+    /// The version of the package.
+    pub fn version(&self) -> &Version<'a>
+        ensures { result.now ≡ self.now.listed.pkg.version }
+    {
+        self.entry.version()
+    }
+
+    /// The stanza.
+    pub fn entry(&self) -> &'p Entry<'a>
+        ensures { result.now ≡ self.now.listed }
+    {
+        self.entry
+    }
+
+    /// The index, as an origin of the version.
+    pub fn origin(&self) -> Origin<'p>
+        ensures { result ≡ release_origin self.now.release }
+    {
+        Origin::index(self.release)
+    }
+
+    // Whether it has the name and the version of another.
+    fn is_like(&self, other: &Place<'_, '_>) -> bool
+        ensures { result ≡ is_like other.now self.now }
+    {
+        self.name() == other.name() && self.version() == other.version()
+    }
+}
+
+fn place_at<'p, 'a>(release: &'p Release, entry: &'p Entry<'a>) -> Place<'p, 'a>
+    ensures { result ≡ place_at release.now entry.now }
+{
+    Place { entry, release }
+}
+
+fn places_in<'p, 'a>(alloc: Global, index: &'p Index<'a>) -> Result<Vec<Place<'p, 'a>>, AllocError>
+    ensures { IfOk result (λ places. places.items ≡ places_in index.now.index) }
+{
+    let mut places = Vec::new(alloc);
+    for entry in index.packages() {
+        places.push(place_at(index.release(), entry))?;
+    }
+    Ok(places)
+}
+
+fn places_of<'p, 'a>(
+    alloc: Global,
+    indices: &'p [Index<'a>],
+) -> Result<Vec<Place<'p, 'a>>, AllocError>
+    ensures { IfOk result (λ places. places.items ≡ places_of (indices_of indices.now)) }
+{
+    let mut places = Vec::new(alloc);
+    for index in indices {
+        let mut further = places_in(alloc, index)?;
+        places.append(&mut further)?;
+    }
+    Ok(places)
+}
+
+/// The stanzas of the indices in their order, with the release keys of their indices. About n log n comparisons of n
+/// stanzas.
+pub fn sorted_places<'p, 'a>(
+    alloc: Global,
+    indices: &'p [Index<'a>],
+) -> Result<Vec<Place<'p, 'a>>, AllocError>
+    ensures { IfOk result (λ sorted. AreSorted (places_of (indices_of indices.now)) sorted.items) }
+{
+    let mut places = places_of(alloc, indices)?;
+    // The sort is stable, so of equal stanzas the earliest stays in front.
+    places.sort()?;
+    Ok(places)
+}
+
+// How many places at the front have the name and the version of this one.
+fn run_length(first: &Place<'_, '_>, places: &[Place<'_, '_>]) -> usize
+    ensures value { result ≡ prefix_len (is_like first.now) places.now }
+    ensures within { result ≤ length places.now }
+{
+    places
+        .iter()
+        .take_while(|place| place.is_like(first))
+        .count()
+}
+
+/// The first place from here on, and those that follow it with its version, unless there is none. Linear in these.
+pub fn run_from<'s, 'p, 'a>(
+    places: &'s [Place<'p, 'a>],
+    start: usize,
+) -> Option<(&'s Place<'p, 'a>, &'s [Place<'p, 'a>])>
+    requires { start ≤ length places.now }
+    ensures run { MatchOption result (drop start places.now ≡ []) (λ found. IsNextRun (drop start places.now) found.0.now found.1.now) }
+    ensures within { IfSome result (λ found. start + length found.1.now ≤ length places.now) }
+{
+    let left = places.split_at(start).1;
+    match left.split_first() {
+        None => None,
+        Some((first, _)) => Some((first, left.split_at(run_length(first, left)).0)),
+    }
+}
+
+impl PartialEq for Place<'_, '_> {
+    ghost eq = { eq_by_cmp place_cmp };
+
+    ghost laws = { partial_equiv_from_equiv (eq_by_cmp_equiv place_cmp_total) };
+
+    fn eq(&self, other: &Self) -> bool {
+        self.cmp(other) == Ordering::Equal
+    }
+}
+
+impl Eq for Place<'_, '_> {
+    ghost laws = { eq_by_cmp_equiv place_cmp_total };
+}
+
+impl PartialOrd for Place<'_, '_> {
+    ghost partial_cmp = { as_partial_cmp place_cmp };
+
+    ghost laws = { po place_cmp_total (λ place other. refl) };
+
+    fn partial_cmp(&self, other: &Self) -> Option<Ordering> {
+        Some(self.cmp(other))
+    }
+}
+
+impl Ord for Place<'_, '_> {
+    ghost cmp = { place_cmp };
+
+    ghost total = { place_cmp_total };
+
+    ghost matches_partial_cmp = { λ place other. refl };
+
+    ghost matches_eq = { λ place other. refl };
+
+    fn cmp(&self, other: &Self) -> Ordering {
+        match self.name().cmp(other.name()) {
+            Ordering::Equal => self.version().cmp(other.version()),
+            decided => decided,
+        }
+    }
+}

@@ -1,0 +1,181 @@
+// The versions that are available, each with the priority that the preferences give it (apt_preferences(5)).
+
+ghost use Rattle.std.specs.Prelude.{◌≡◌, ◌≢◌, [], ◌∷◌, IfOk, Some, if◌then◌else◌};
+ghost use Rattle.std.specs.List.Sorted.{IsSorted, IsStrictlySortedBy};
+ghost use Rattle.std.specs.Option.{option_or};
+ghost use Rattle.rules.specs.Priority.{status_origin};
+ghost use Rattle.candidates.specs.Place.{place_cmp, stanzas_of};
+ghost use Rattle.candidates.specs.Rated.{AreChosen, AreRated, HasPlace, IsFrom, IsKept, IsOfRun, StandsAlone, origins_with, standing_alone};
+ghost use Rattle.candidates.specs.Recorded.{record_cmp};
+ghost use Rattle.candidates.specs.Stanza.{IsOrdered, listed_cmp};
+
+use crate::offer::{Offer, best_of, eligible};
+use crate::order::{Found, stanza_of};
+use crate::place::{Place, run_from};
+use crate::recorded::{Recorded, standing_version};
+use debversion::Version;
+use pins::{Origin, Prefs};
+use std::alloc::{AllocError, Global};
+
+fn status_origins<'p>(alloc: Global, stood: bool) -> Result<Vec<Origin<'p>>, AllocError>
+    ensures { IfOk result (λ origins. origins.items ≡ (if stood then status_origin ∷ [] else [])) }
+{
+    let mut origins = Vec::new(alloc);
+    if stood {
+        origins.push(Origin::status_file())?;
+    }
+    Ok(origins)
+}
+
+// The origins of a version that has these places.
+fn origins_with<'p>(
+    alloc: Global,
+    stood: bool,
+    places: &[Place<'p, '_>],
+) -> Result<Vec<Origin<'p>>, AllocError>
+    ensures { IfOk result (λ origins. origins.items ≡ origins_with stood places.now) }
+{
+    let mut origins = status_origins(alloc, stood)?;
+    for place in places {
+        origins.push(place.origin())?;
+    }
+    Ok(origins)
+}
+
+// The offer of a version that comes from these origins.
+fn offer_from<'a>(
+    prefs: &Prefs,
+    name: &'a [u8],
+    version: Version<'a>,
+    origins: &[Origin<'_>],
+) -> Offer<'a>
+    requires { origins.now ≢ [] }
+    ensures { IsFrom prefs.now name.now version.entry origins.now result }
+{
+    match prefs.priority(name, &version, origins) {
+        Some(priority) => Offer::new(name, version, priority),
+        None => unreachable!(),
+    }
+}
+
+fn kept<'a>(standing: Option<Version<'a>>, first: &Place<'_, 'a>) -> Version<'a>
+    ensures { Some result ≡ option_or standing.entry (Some first.now.listed.pkg.version) }
+{
+    match standing {
+        Some(version) => version,
+        None => first.version().again(),
+    }
+}
+
+// The offer of the version of the first place, of which these are all places.
+fn offer_of<'a>(
+    alloc: Global,
+    prefs: &Prefs,
+    known: &[Recorded<'_, 'a>],
+    first: &Place<'_, 'a>,
+    run: &[Place<'_, 'a>],
+) -> Result<Offer<'a>, AllocError>
+    requires known { IsStrictlySortedBy record_cmp known.now }
+    requires run { run.now ≢ [] }
+    ensures { IfOk result (λ offer. IsOfRun prefs.now known.now first.now run.now offer) }
+{
+    let standing = standing_version(known, first.name(), first.version());
+    let origins = origins_with(alloc, standing.is_some(), run)?;
+    let version = kept(standing, first);
+    Ok(offer_from(prefs, first.name(), version, origins.as_slice()))
+}
+
+// The offers of the versions that have places.
+fn listed_offers<'a>(
+    alloc: Global,
+    prefs: &Prefs,
+    known: &[Recorded<'_, 'a>],
+    places: &[Place<'_, 'a>],
+) -> Result<Vec<Offer<'a>>, AllocError>
+    requires known { IsStrictlySortedBy record_cmp known.now }
+    requires places { IsSorted place_cmp places.now }
+    ensures { IfOk result (λ offers. AreRated (HasPlace places.now) prefs.now known.now places.now offers.items) }
+{
+    let mut offers = Vec::new(alloc);
+    let mut start = 0;
+    while let Some((first, run)) = run_from(places, start) {
+        offers.push(offer_of(alloc, prefs, known, first, run)?)?;
+        start += run.len();
+    }
+    Ok(offers)
+}
+
+// The version that stands, where no stanza has it.
+fn standing_alone<'a>(ordered: &[Found<'_, '_>], found: &Recorded<'_, 'a>) -> Option<Version<'a>>
+    requires { IsStrictlySortedBy listed_cmp ordered.now }
+    ensures { result ≡ standing_alone ordered.now found.now }
+{
+    match found.standing() {
+        None => None,
+        Some(version) => match stanza_of(ordered, found.name(), &version) {
+            Some(_) => None,
+            None => Some(version),
+        },
+    }
+}
+
+// The offers of what stands in versions that have no place.
+fn standing_offers<'a>(
+    alloc: Global,
+    prefs: &Prefs,
+    known: &[Recorded<'_, 'a>],
+    places: &[Place<'_, 'a>],
+    ordered: &[Found<'_, 'a>],
+) -> Result<Vec<Offer<'a>>, AllocError>
+    requires known { IsStrictlySortedBy record_cmp known.now }
+    requires ordered { IsOrdered (stanzas_of places.now) ordered.now }
+    ensures { IfOk result (λ offers. AreRated (StandsAlone known.now places.now) prefs.now known.now places.now offers.items) }
+{
+    let from = [Origin::status_file()];
+    let mut offers = Vec::new(alloc);
+    for found in known {
+        let Some(version) = standing_alone(ordered, found) else {
+            continue;
+        };
+        offers.push(offer_from(prefs, found.name(), version, &from))?;
+    }
+    Ok(offers)
+}
+
+// The offers of all versions that are available.
+fn rated_offers<'a>(
+    alloc: Global,
+    prefs: &Prefs,
+    known: &[Recorded<'_, 'a>],
+    places: &[Place<'_, 'a>],
+    ordered: &[Found<'_, 'a>],
+) -> Result<Vec<Offer<'a>>, AllocError>
+    requires known { IsStrictlySortedBy record_cmp known.now }
+    requires places { IsSorted place_cmp places.now }
+    requires ordered { IsOrdered (stanzas_of places.now) ordered.now }
+    ensures { IfOk result (λ offers. AreRated (IsKept known.now places.now) prefs.now known.now places.now offers.items) }
+{
+    let mut offers = listed_offers(alloc, prefs, known, places)?;
+    let mut further = standing_offers(alloc, prefs, known, places, ordered)?;
+    offers.append(&mut further)?;
+    Ok(offers)
+}
+
+/// The offer of each name that is to be chosen first of those that may be, in the order of names. About n log n
+/// comparisons of n versions, and for each what `Prefs::priority` costs.
+pub fn chosen_offers<'a>(
+    alloc: Global,
+    prefs: &Prefs,
+    known: &[Recorded<'_, 'a>],
+    places: &[Place<'_, 'a>],
+    ordered: &[Found<'_, 'a>],
+) -> Result<Vec<Offer<'a>>, AllocError>
+    requires known { IsStrictlySortedBy record_cmp known.now }
+    requires places { IsSorted place_cmp places.now }
+    requires ordered { IsOrdered (stanzas_of places.now) ordered.now }
+    ensures { IfOk result (λ best. AreChosen prefs.now known.now places.now best.items) }
+{
+    let offers = rated_offers(alloc, prefs, known, places, ordered)?;
+    let best = best_of(eligible(known, offers))?;
+    Ok(best)
+}

@@ -1,0 +1,264 @@
+// The records of the start, and what they say of a name.
+
+ghost use Rattle.std.specs.Prelude.{◌≡◌, ◌&&◌, IfOk, None, Some, if◌then◌else◌, map, not, refl};
+ghost use Rattle.std.specs.Cmp.{eq_by_cmp_equiv, partial_equiv_from_equiv, po};
+ghost use Rattle.std.specs.List.{find};
+ghost use Rattle.std.specs.List.Sorted.{IsStrictlySortedBy};
+ghost use Rattle.std.specs.Option.{option_copied};
+ghost use Rattle.std.specs.Ordering.{as_partial_cmp, eq_by_cmp, is_lt};
+ghost use Rattle.rules.specs.Available.{same_version};
+ghost use Rattle.rules.specs.Database.{Stands, pkg_of, stands};
+ghost use Rattle.rules.specs.Entry.{records_of};
+ghost use Rattle.rules.specs.State.{is_hold, is_not_installed_state};
+ghost use Rattle.rules.specs.Step.{is_named};
+ghost use Rattle.rules.specs.Universe.{start_of};
+ghost use Rattle.rules.specs.Version.{version_cmp};
+ghost use Rattle.candidates.specs.Recorded.{IsByName, is_downgrade, is_held, is_recorded, record_cmp, standing_as, standing_version, stands_as};
+ghost use Rattle.candidates.specs.RecordedLaws.{record_cmp_total};
+
+use debversion::Version;
+use relation::Pkg;
+use status_record::Record;
+use std::alloc::{AllocError, Global};
+use std::cmp::Ordering;
+use std::marker::Model;
+use universe::Start;
+
+/// A record of the start. Records are ordered by the bytes of their names.
+#[derive(Drop)]
+pub struct Recorded<'p, 'a> {
+    record: &'p Record<'a>,
+}
+
+impl<'p, 'a> Model for Recorded<'p, 'a> {
+    ghost use Rattle.rules.specs.Database.{Record as RecordValue};
+
+    ghost Value = { RecordValue };
+
+    ghost view = { λ r. r.record.now.found };
+}
+
+impl<'p, 'a> Recorded<'p, 'a> {
+    /// The name.
+    pub fn name(&self) -> &'a [u8]
+        ensures { result.now ≡ self.now.name }
+    {
+        self.record.name()
+    }
+
+    /// The version, if the package stands.
+    pub fn standing(&self) -> Option<Version<'a>>
+        ensures { result ≡ (if stands self.now then Some self.now.version else None) }
+    {
+        if !self.record.stands() {
+            return None;
+        }
+        match self.record.version() {
+            Some(version) => Some(version.again()),
+            None => unreachable!(),
+        }
+    }
+
+    /// The package, if it stands, with its relations. Memory alone can fail. Linear in the stanza.
+    pub fn standing_pkg(&self, alloc: Global) -> Result<Option<Pkg<'a>>, AllocError>
+        ensures { IfOk result (λ pkg. pkg ≡ (if stands self.now then Some (pkg_of self.now) else None)) }
+    {
+        if self.record.stands() {
+            let pkg = self.record.pkg(alloc)?;
+            Ok(Some(pkg))
+        } else {
+            Ok(None)
+        }
+    }
+
+    /// The facts of the record.
+    pub fn start(&self) -> Start<'a>
+        ensures { result ≡ start_of self.now }
+    {
+        Start::new(
+            self.name(),
+            self.record.is_present(),
+            self.standing(),
+            self.record.is_held(),
+            self.record.is_essential(),
+        )
+    }
+
+    fn is_held(&self) -> bool
+        ensures { result ≡ is_hold self.now.want }
+    {
+        self.record.is_held()
+    }
+
+    fn is_recorded(&self) -> bool
+        ensures { result ≡ not (is_not_installed_state self.now.state) }
+    {
+        !self.record.state().is_not_installed()
+    }
+
+    fn stands_as(&self, version: &Version<'_>) -> bool
+        ensures { result ≡ (stands self.now && same_version self.now.version version.now) }
+    {
+        match self.standing() {
+            None => false,
+            Some(standing) => standing == *version,
+        }
+    }
+
+    // The version that it stands in, where it is this one.
+    fn standing_as(&self, version: &Version<'_>) -> Option<Version<'a>>
+        ensures { result ≡ standing_as version.now self.now }
+    {
+        match self.standing() {
+            None => None,
+            Some(standing) => {
+                if standing == *version {
+                    Some(standing)
+                } else {
+                    None
+                }
+            }
+        }
+    }
+
+    fn stands_above(&self, version: &Version<'_>) -> bool
+        ensures { result ≡ (stands self.now && is_lt (version_cmp version.now self.now.version)) }
+    {
+        match self.standing() {
+            None => false,
+            Some(standing) => version.cmp(&standing).is_lt(),
+        }
+    }
+}
+
+/// The records, in their order.
+pub fn records_in<'p, 'a>(
+    alloc: Global,
+    start: &[&'p Record<'a>],
+) -> Result<Vec<Recorded<'p, 'a>>, AllocError>
+    ensures { IfOk result (λ recorded. recorded.items ≡ records_of (map (λ r. r.now) start.now)) }
+{
+    start
+        .iter()
+        .map(|record| Recorded { record })
+        .collect(alloc)
+}
+
+/// The records in the order of their names. About n log n comparisons of n records.
+pub fn by_name<'p, 'a>(start: Vec<Recorded<'p, 'a>>) -> Result<Vec<Recorded<'p, 'a>>, AllocError>
+    ensures { IfOk result (λ known. IsByName start.entry.items known.items) }
+{
+    let mut known = start;
+    known.sort()?;
+    // No two have one name, so nothing is dropped: that each is before the next is seen from this call alone.
+    known.dedup();
+    Ok(known)
+}
+
+/// The record of the name, by a binary search.
+fn record_of<'k, 'p, 'a>(known: &'k [Recorded<'p, 'a>], name: &[u8]) -> Option<&'k Recorded<'p, 'a>>
+    requires { IsStrictlySortedBy record_cmp known.now }
+    ensures { option_copied result ≡ find (is_named name.now) known.now }
+{
+    match known.binary_search_by(|found| found.name().cmp(name)) {
+        Ok(place) => known.get(place),
+        Err(_) => None,
+    }
+}
+
+/// Whether the name is held.
+pub fn is_held(known: &[Recorded<'_, '_>], name: &[u8]) -> bool
+    requires { IsStrictlySortedBy record_cmp known.now }
+    ensures { result ≡ is_held known.now name.now }
+{
+    match record_of(known, name) {
+        None => false,
+        Some(found) => found.is_held(),
+    }
+}
+
+/// Whether the name is in a state other than not-installed.
+pub fn is_recorded(known: &[Recorded<'_, '_>], name: &[u8]) -> bool
+    requires { IsStrictlySortedBy record_cmp known.now }
+    ensures { result ≡ is_recorded known.now name.now }
+{
+    match record_of(known, name) {
+        None => false,
+        Some(found) => found.is_recorded(),
+    }
+}
+
+/// Whether the version of the name stands.
+pub fn stands_as(known: &[Recorded<'_, '_>], name: &[u8], version: &Version<'_>) -> bool
+    requires { IsStrictlySortedBy record_cmp known.now }
+    ensures { result ≡ stands_as known.now name.now version.now }
+{
+    match record_of(known, name) {
+        None => false,
+        Some(found) => found.stands_as(version),
+    }
+}
+
+/// The version of the name that stands, where it is this one: the text may be another.
+pub fn standing_version<'a>(
+    known: &[Recorded<'_, 'a>],
+    name: &[u8],
+    version: &Version<'_>,
+) -> Option<Version<'a>>
+    requires { IsStrictlySortedBy record_cmp known.now }
+    ensures { result ≡ standing_version known.now name.now version.now }
+{
+    match record_of(known, name) {
+        None => None,
+        Some(found) => found.standing_as(version),
+    }
+}
+
+/// Whether the version is lower than the one of the name that stands.
+pub fn is_downgrade(known: &[Recorded<'_, '_>], name: &[u8], version: &Version<'_>) -> bool
+    requires { IsStrictlySortedBy record_cmp known.now }
+    ensures { result ≡ is_downgrade known.now name.now version.now }
+{
+    match record_of(known, name) {
+        None => false,
+        Some(found) => found.stands_above(version),
+    }
+}
+
+impl PartialEq for Recorded<'_, '_> {
+    ghost eq = { eq_by_cmp record_cmp };
+
+    ghost laws = { partial_equiv_from_equiv (eq_by_cmp_equiv record_cmp_total) };
+
+    fn eq(&self, other: &Self) -> bool {
+        self.cmp(other) == Ordering::Equal
+    }
+}
+
+impl Eq for Recorded<'_, '_> {
+    ghost laws = { eq_by_cmp_equiv record_cmp_total };
+}
+
+impl PartialOrd for Recorded<'_, '_> {
+    ghost partial_cmp = { as_partial_cmp record_cmp };
+
+    ghost laws = { po record_cmp_total (λ found other. refl) };
+
+    fn partial_cmp(&self, other: &Self) -> Option<Ordering> {
+        Some(self.cmp(other))
+    }
+}
+
+impl Ord for Recorded<'_, '_> {
+    ghost cmp = { record_cmp };
+
+    ghost total = { record_cmp_total };
+
+    ghost matches_partial_cmp = { λ found other. refl };
+
+    ghost matches_eq = { λ found other. refl };
+
+    fn cmp(&self, other: &Self) -> Ordering {
+        self.name().cmp(other.name())
+    }
+}

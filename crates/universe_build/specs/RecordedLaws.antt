@@ -1,8 +1,0 @@
--- The order of records is total.
-use Rattle.std.specs.Cmp.{IsTotalOrder, on_total}
-use Rattle.std.specs.Cmp.Lexicographic.{nat_list_cmp_total}
-use Rattle.rules.specs.Database.{Record}
-use Rattle.universe_build.specs.Recorded.{record_cmp}
-
-pub record_cmp_total : IsTotalOrder record_cmp
-record_cmp_total = on_total (λ (found : Record). found.name) nat_list_cmp_total
