@@ -7,7 +7,7 @@
 #[cfg(test)]
 mod candidate_rows;
 #[cfg(test)]
-mod candidates;
+mod choosing;
 #[cfg(test)]
 mod comparing;
 #[cfg(test)]
