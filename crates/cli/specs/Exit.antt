@@ -44,4 +44,3 @@ exit_of_fault (fault.Request refused) = exit.Refused
 exit_of_fault (fault.UnknownName line) = exit.Refused
 exit_of_fault (fault.Plan refused) = exit.Refused
 exit_of_fault fault.TooLarge = exit.Refused
-exit_of_fault (fault.NotYet found) = exit.Refused

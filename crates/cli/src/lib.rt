@@ -20,8 +20,7 @@ pub use answer::{candidate_line, comparison_line, verdict_line};
 pub use arguments::{Arguments, Options, Query};
 pub use candidate::Candidate;
 pub use cli_engine::{
-    Fault, Inputs, Later, Offer, Place, Refusal, Relation, candidate_bytes, check_plan_bytes,
-    compare,
+    Fault, Inputs, Offer, Place, Refusal, Relation, candidate_bytes, check_plan_bytes, compare,
 };
 pub use exit::{Exit, exit_of_candidate, exit_of_comparison, exit_of_refusal, exit_of_verdict};
 pub use find::find_candidate;

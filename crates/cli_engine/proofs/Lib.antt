@@ -1,4 +1,3 @@
 pub mod DenoteLemmas
 pub mod IndicesLemmas
 pub mod MeaningLemmas
-pub mod SingleLemmas

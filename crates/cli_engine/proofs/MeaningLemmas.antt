@@ -102,7 +102,6 @@ not_requested one arch text start indices prefs lines u fault.TooLarge is found 
     let within = is.built.bounded in
     let beyond = other.beyond in
     absurd (omega arith)
-not_requested one arch text start indices prefs lines u (fault.NotYet later) is no_fault = no_fault
 not_requested one arch text start indices prefs lines u fault.Read is no_fault = no_fault
 not_requested one arch text start indices prefs lines u fault.OutOfMemory is no_fault = no_fault
 

@@ -16,7 +16,7 @@ use Rattle.universe_build.specs.Build.{first_unknown, goals_of}
 use Rattle.universe_build.specs.Error.{IsBuilt, IsTooLarge}
 use Rattle.universe_request.specs.Request.{read_request}
 use Rattle.cli_engine.specs.Before.{AreRead, IsFaultBefore}
-use Rattle.cli_engine.specs.Texts.{Texts, read_early_plan}
+use Rattle.cli_engine.specs.Texts.{Texts, plan_of}
 use Rattle.cli_engine.specs.declared.refusal.Fault.{Fault}
 use Rattle.cli_engine.specs.declared.refusal.Fault.TheVariants as fault
 use Rattle.cli_engine.specs.declared.refusal.Place.{Place}
@@ -85,7 +85,7 @@ pub record IsAsked (texts : Texts) (found : Fault) : Type 0 where
 abbrev pub IsFault : Texts → List ℕ → Place → Fault → Type 0
 IsFault texts plan place.Request found = IsAsked texts found
 IsFault texts plan place.Plan found =
-    ((u : Universe) × (start : List Record) × Denotes texts u start) × (read_early_plan plan ≡ Err found)
+    ((u : Universe) × (start : List Record) × Denotes texts u start) × (plan_of plan ≡ Err found)
 IsFault texts plan before found = IsFaultBefore texts before found
 
 -- the first refusal of the texts and of the plan, in the order of reading
@@ -98,7 +98,7 @@ pub record IsAnswer (texts : Texts) (plan : List ℕ) (verdict : Verdict) : Type
   pub start : List Record
   pub steps : List Step
   pub denoted : Denotes texts universe start
-  pub read : read_early_plan plan ≡ Ok steps
+  pub read : plan_of plan ≡ Ok steps
   pub holds : IsVerdict universe start steps verdict
 
 -- it is the candidate of the name, if the name has one, by what the texts before the request are read as

@@ -1,8 +1,7 @@
--- Readings of a text, and what is refused for having something that isn't judged yet.
-use Rattle.std.specs.Prelude.{◌≡◌, ◌≢◌, ◌⊎◌, Option, Some, None, Result, Ok, Err}
+-- Readings of a text, and where their refusals stand.
+use Rattle.std.specs.Prelude.{◌≡◌, ◌≢◌, ◌⊎◌, Result, Ok, Err}
 use Rattle.cli_engine.specs.declared.refusal.Fault.{Fault}
 use Rattle.cli_engine.specs.declared.refusal.Fault.TheVariants as fault
-use Rattle.cli_engine.specs.declared.refusal.Later.{Later}
 use Rattle.cli_engine.specs.declared.refusal.Place.{Place}
 use Rattle.cli_engine.specs.declared.refusal.Place.TheVariants as place
 use Rattle.cli_engine.specs.declared.refusal.Refusal.{Refusal}
@@ -11,12 +10,6 @@ use Rattle.cli_engine.specs.declared.refusal.Refusal.{Refusal}
 abbrev pub with_fault : {A E : Type 0} → (E → Fault) → Result A E → Result A Fault
 with_fault as_fault (Ok read) = Ok read
 with_fault as_fault (Err refused) = Err (as_fault refused)
-
--- a reading, refused where there is something later
-abbrev pub unless_later : {A : Type 0} → Option Later → Result A Fault → Result A Fault
-unless_later found (Err refused) = Err refused
-unless_later None (Ok read) = Ok read
-unless_later (Some found) (Ok read) = Err (fault.NotYet found)
 
 -- the fault is one of these, or want of memory
 abbrev pub OrMemory : (Fault → Type 0) → Fault → Type 0

@@ -1,22 +1,17 @@
--- The texts that a request is answered from, and what each is read as: of plans today the unpacking and the configuring of
--- one package.
-use Rattle.std.specs.Prelude.{ℕ, ◌==◌, List, [], ◌∷◌, length, Option, Some, None, Result, Ok, Err, if◌then◌else◌}
-use Rattle.std.specs.Option.{option_or}
+-- The texts that a request is answered from, and what each and a plan are read as.
+use Rattle.std.specs.Prelude.{ℕ, List, [], Option, Some, None, Result, Ok, Err}
 use Rattle.index.specs.Sources.{SourceText, read_sources}
 use Rattle.pins.specs.Prefs.{Preferences, read_preferences}
 use Rattle.plantext.specs.Plan.{read_plan}
 use Rattle.rules.specs.declared.release.Preference.{Preference}
 use Rattle.rules.specs.declared.step.Step.{Step}
-use Rattle.rules.specs.declared.step.Step.TheVariants as step
 use Rattle.status_text.specs.Slot.{FileSlot}
 use Rattle.status_text.specs.Status.{read_status}
 use Rattle.status_text.specs.declared.error.StatusFault.{StatusFault}
 use Rattle.status_text.specs.declared.error.StatusFault.TheVariants as from
-use Rattle.cli_engine.specs.Reading.{with_fault, unless_later}
+use Rattle.cli_engine.specs.Reading.{with_fault}
 use Rattle.cli_engine.specs.declared.refusal.Fault.{Fault}
 use Rattle.cli_engine.specs.declared.refusal.Fault.TheVariants as fault
-use Rattle.cli_engine.specs.declared.refusal.Later.{Later}
-use Rattle.cli_engine.specs.declared.refusal.Later.TheVariants as later
 use Rattle.cli_engine.specs.declared.status_refusal.StatusRefusal.{StatusRefusal}
 use Rattle.cli_engine.specs.declared.status_refusal.StatusRefusal.TheVariants as refusal
 
@@ -67,24 +62,6 @@ preferences_of (Some text) target = with_target target (with_fault fault.Prefere
 
 -- The plan
 
--- the configuring of several packages and the actions other than unpack and configure aren't judged yet
-abbrev pub later_step : Step → Option Later
-later_step (step.Unpack name version) = None
-later_step (step.Deconfigure name) = Some later.Deconfigure
-later_step (step.Configure names) = if length names == 1 then None else Some later.Configure
-later_step (step.Remove name) = Some later.Remove
-later_step (step.Purge name) = Some later.Purge
-
--- the first of the steps that isn't judged yet
-abbrev pub first_later_step : List Step → Option Later
-first_later_step [] = None
-first_later_step (step ∷ steps) = option_or (later_step step) (first_later_step steps)
-
--- the steps, unless one of them isn't judged yet
-abbrev pub unless_later_step : Result (List Step) Fault → Result (List Step) Fault
-unless_later_step (Err refused) = Err refused
-unless_later_step (Ok steps) = unless_later (first_later_step steps) (Ok steps)
-
 -- what a plan is read as
-unfoldable pub read_early_plan : List ℕ → Result (List Step) Fault
-read_early_plan text = unless_later_step (with_fault fault.Plan (read_plan text))
+abbrev pub plan_of : List ℕ → Result (List Step) Fault
+plan_of text = with_fault fault.Plan (read_plan text)

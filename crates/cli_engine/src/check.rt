@@ -1,9 +1,7 @@
 // A plan judged by texts, read in the order status, sources, indices, preferences, request and plan.
 
 ghost use Rattle.std.specs.Prelude.{◌≡◌, IfErr, IfOk, List, ℕ};
-ghost use Rattle.std.specs.List.{All};
 ghost use Rattle.candidates.specs.Inputs.{indices_of};
-ghost use Rattle.plancheck.specs.Single.{IsSingle};
 ghost use Rattle.rules.specs.Verdict.{IsBuiltOn, IsVerdict};
 ghost use Rattle.status_store.specs.Slots.{slot_records};
 ghost use Rattle.cli_engine.specs.Answer.{Denotes, HasItsIndices, IsAnswer, IsFirstRefusal};
@@ -12,7 +10,7 @@ ghost use Rattle.cli_engine.specs.Inputs.{texts_of};
 ghost use Rattle.cli_engine.specs.Texts.{sources_of};
 
 use crate::inputs::Inputs;
-use crate::plan::read_early_plan;
+use crate::plan::read_steps;
 use crate::read::{ReadTexts, read_texts};
 use crate::refusal::{Place, Refusal, refused_at};
 use crate::request::read_request;
@@ -61,8 +59,7 @@ fn judge<'a>(
     universe: &Universe<'_, 'a>,
     steps: &[Step],
 ) -> Result<Verdict, AllocError>
-    requires built { IsBuiltOn (slot_records database.now.slots) universe.now }
-    requires single { All IsSingle steps.now }
+    requires { IsBuiltOn (slot_records database.now.slots) universe.now }
     ensures { IfOk result (λ verdict. IsVerdict universe.now (slot_records database.now.slots) steps.now verdict) }
 {
     let records = database.records(alloc)?;
@@ -91,7 +88,7 @@ pub fn check_plan_bytes(
         prefs,
     } = read_texts(alloc, inputs)?;
     let universe = universe_of(alloc, &database, indices.as_slice(), &prefs, inputs)?;
-    let steps = match read_early_plan(alloc, plan) {
+    let steps = match read_steps(alloc, plan) {
         Ok(steps) => steps,
         Err(fault) => return Err(refused_at(Place::Plan, fault)),
     };

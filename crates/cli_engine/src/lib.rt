@@ -25,7 +25,7 @@ pub use check::check_plan_bytes;
 pub use comparison::{Relation, compare};
 pub use inputs::Inputs;
 pub use laws::{a_meaning_is_not_refused, texts_have_one_meaning};
-pub use refusal::{Fault, Later, Place, Refusal};
+pub use refusal::{Fault, Place, Refusal};
 pub use rules::{Reason, Rule, Verdict};
 pub use sources::read_sources;
 pub use status_refusal::{NamedPackage, StatusRefusal};

@@ -41,23 +41,6 @@ pub enum Place {
     Memory,
 }
 
-/// What a plan has that isn't judged yet.
-#[derive(Clone, Copy, Debug, PartialEq, Eq, Error)]
-pub enum Later {
-    /// The step `deconfigure`.
-    #[error("deconfigure")]
-    Deconfigure,
-    /// A step that configures more than one package.
-    #[error("configure")]
-    Configure,
-    /// The step `remove`.
-    #[error("remove")]
-    Remove,
-    /// The step `purge`.
-    #[error("purge")]
-    Purge,
-}
-
 /// What is wrong with a text.
 #[derive(Debug, Drop, Error)]
 pub enum Fault {
@@ -88,9 +71,6 @@ pub enum Fault {
     /// A request that admits more pairs than are kept.
     #[error("E10 TooLarge")]
     TooLarge,
-    /// The plan is accepted, but has what isn't judged yet.
-    #[error("E27 NotYet {0}")]
-    NotYet(Later),
     /// A file couldn't be read.
     #[error("E5 Read")]
     Read,

@@ -1,2 +1,1 @@
 pub mod End
-pub mod Single

@@ -1,13 +1,11 @@
 // A whole plan: its start, its steps one after another, and its end (Policy 7).
 
 ghost use Rattle.std.specs.Prelude.{◌≡◌, IfOk, MatchOption, map};
-ghost use Rattle.std.specs.List.{All};
 ghost use Rattle.rules.specs.Database.{HasDistinctNames, IsQuiet};
 ghost use Rattle.rules.specs.Run.{Run, StopsAt};
 ghost use Rattle.rules.specs.Universe.{listed_for};
 ghost use Rattle.rules.specs.Verdict.{IsBuiltOn, IsVerdict};
 ghost use Rattle.plancheck.specs.End.{IsEndVerdict};
-ghost use Rattle.plancheck.specs.Single.{IsSingle};
 
 use crate::quiet::is_quiet;
 use crate::stanzas::{stanza_at, stanzas_for};
@@ -22,13 +20,13 @@ use universe::Universe;
 // The number of the step that isn't allowed when its turn comes, and the first rule that it fails. Where every
 // step is allowed, the records are left as the steps leave them.
 fn run<'p, 'a>(
+    alloc: Global,
     db: &mut Vec<PackageRecord<'p, 'a>>,
     universe: &Universe<'_, 'a>,
     steps: &[Step],
     stanzas: &'p [Option<Listed<'a>>],
 ) -> Result<Option<(usize, Rule)>, AllocError>
     requires distinct { HasDistinctNames db.old.items }
-    requires single { All IsSingle steps.now }
     requires stanzas { stanzas.now ≡ map (listed_for universe.now) steps.now }
     ensures { IfOk result (λ stop. MatchOption stop
         (Run universe.now db.old.items steps.now db.new.items)
@@ -38,7 +36,7 @@ fn run<'p, 'a>(
     for step in steps {
         let listed = stanza_at(stanzas, number);
         number += 1;
-        if let Some(rule) = legal(db.as_slice(), universe, listed, step) {
+        if let Some(rule) = legal(alloc, db.as_slice(), universe, listed, step)? {
             return Ok(Some((number, rule)));
         }
         apply(db, universe, listed, step)?;
@@ -69,14 +67,13 @@ fn run_verdict<'p, 'a>(
     stanzas: &'p [Option<Listed<'a>>],
 ) -> Result<Verdict, AllocError>
     requires built { IsBuiltOn start.now universe.now }
-    requires single { All IsSingle steps.now }
     requires quiet { IsQuiet start.now }
     requires stanzas { stanzas.now ≡ map (listed_for universe.now) steps.now }
     ensures { IfOk result (λ verdict. IsVerdict universe.now start.now steps.now verdict) }
 {
     good_where_nothing_is_against();
     let mut db = try_copy(alloc, start)?;
-    let stop = run(&mut db, universe, steps, stanzas)?;
+    let stop = run(alloc, &mut db, universe, steps, stanzas)?;
     match stop {
         Some((number, rule)) => Ok(Verdict::Step(number, rule)),
         None => {
@@ -94,7 +91,6 @@ fn quiet_verdict<'p, 'a>(
     steps: &[Step],
 ) -> Result<Verdict, AllocError>
     requires built { IsBuiltOn start.now universe.now }
-    requires single { All IsSingle steps.now }
     requires quiet { IsQuiet start.now }
     ensures { IfOk result (λ verdict. IsVerdict universe.now start.now steps.now verdict) }
 {
@@ -113,7 +109,6 @@ pub fn check_plan<'p, 'a>(
     steps: &[Step],
 ) -> Result<Verdict, AllocError>
     requires built { IsBuiltOn start.now universe.now }
-    requires single { All IsSingle steps.now }
     ensures { IfOk result (λ verdict. IsVerdict universe.now start.now steps.now verdict) }
 {
     if is_quiet(start) {

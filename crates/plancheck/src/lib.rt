@@ -1,10 +1,9 @@
 // Legality of plans: whether each action is legal by Policy chapter 7 when its turn comes, and whether the end
-// is good. It stands on `rules`, which says what legal is, on the values of `relation` and `status`, and on
-// `plancheck_end`; it uses nothing of what finds plans. A judge of its own: the call is `check_plan`.
+// is good. It stands on `rules`, which says what legal is, on the values of `relation` and `status`, on
+// `plancheck_group` and on `plancheck_end`; it uses nothing of what finds plans. A judge of its own: the call is `check_plan`.
 #![tactic(auto)]
 
 mod check;
-mod configure;
 mod held;
 mod quiet;
 mod remove;

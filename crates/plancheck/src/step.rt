@@ -9,7 +9,6 @@ ghost use Rattle.rules.specs.Run.{after};
 ghost use Rattle.rules.specs.Step.{after_unpack};
 ghost use Rattle.rules.specs.Universe.{listed_for, listed_of};
 ghost use Rattle.rules.specs.declared.step.Step.TheVariants.{Remove, Unpack};
-ghost use Rattle.plancheck.specs.Single.{IsSingle};
 
 use crate::stanzas::version_of;
 use crate::table::{
@@ -18,7 +17,7 @@ use crate::table::{
 use index::Listed;
 use rules::{Name, Rule, Step, VersionText, allowed_acts_on_present, distinct_names_kept};
 use status::{PackageRecord, configure, deconfigure, purge, remove, unpack};
-use std::alloc::AllocError;
+use std::alloc::{AllocError, Global};
 use universe::Universe;
 
 // The first rule that an unpacking of the version fails.
@@ -52,25 +51,25 @@ fn remove_stop(
 }
 
 /// The first rule that the step fails, if there is one. Of a step that unpacks, `listed` is the stanza, read already. The
-/// cost is that of the action's rules.
-#[tactic(auto, unfolding(rules::specs::Legal::Allowed, rules::specs::Legal::IsFirstFailing, crate::specs::Single::IsSingle))]
+/// cost is that of the action's rules. Memory alone can fail, of a step that configures a group.
+#[tactic(auto, unfolding(rules::specs::Legal::Allowed, rules::specs::Legal::IsFirstFailing))]
 pub fn legal(
+    alloc: Global,
     db: &[PackageRecord<'_, '_>],
     universe: &Universe<'_, '_>,
     listed: Option<&Listed<'_>>,
     step: &Step,
-) -> Option<Rule>
-    requires listed { option_copied listed ≡ listed_for universe.now step.now }
-    requires single { IsSingle step.now }
-    ensures { MatchOption result (Allowed universe.now db.now step.now)
-        (λ rule. IsFirstFailing universe.now db.now step.now rule) }
+) -> Result<Option<Rule>, AllocError>
+    requires { option_copied listed ≡ listed_for universe.now step.now }
+    ensures { IfOk result (λ failing. MatchOption failing (Allowed universe.now db.now step.now)
+        (λ rule. IsFirstFailing universe.now db.now step.now rule)) }
 {
     match step {
-        Step::Unpack(name, version) => unpack_stop(db, universe, listed, name, version),
-        Step::Deconfigure(name) => deconfigure_failing(db, name.as_bytes()),
-        Step::Configure(names) => configure_failing(db, names.as_slice()),
-        Step::Remove(name) => remove_stop(db, universe, name),
-        Step::Purge(name) => purge_failing(db, name.as_bytes()),
+        Step::Unpack(name, version) => Ok(unpack_stop(db, universe, listed, name, version)),
+        Step::Deconfigure(name) => Ok(deconfigure_failing(db, name.as_bytes())),
+        Step::Configure(names) => configure_failing(alloc, db, names.as_slice()),
+        Step::Remove(name) => Ok(remove_stop(db, universe, name)),
+        Step::Purge(name) => Ok(purge_failing(db, name.as_bytes())),
     }
 }
 

@@ -1,22 +1,23 @@
 // The first rule that an action fails, by the table of its rules (Policy 7.2 to 7.4).
 
-ghost use Rattle.std.specs.Prelude.{◌≡◌, ◌↔◌, ℕ, ◌<◌, IsTrue, MatchOption, MatchBool, length};
+ghost use Rattle.std.specs.Prelude.{◌≡◌, ◌↔◌, ℕ, ◌<◌, IfOk, IsTrue, MatchOption, MatchBool};
 ghost use Rattle.std.specs.List.{All};
 ghost use Rattle.std.specs.Option.{option_copied};
-ghost use Rattle.rules.specs.Configure.{IsIndivisible};
 ghost use Rattle.rules.specs.Database.{HasRecord, HasSoundFlag, IsEssential, IsInstalled, IsPresent, IsRemoved};
 ghost use Rattle.rules.specs.Legal.{ConfigureAsks, DeconfigureAsks, IsFirstUnkept, PurgeAsks, RemoveAsks, UnpackAsks, configure_rules, deconfigure_rules, purge_rules, remove_rules, unpack_rules};
 
-use crate::configure::{
-    are_configurable, are_depends_installed, are_pre_depends_installed, are_unbroken,
-};
 use crate::held::{is_not_held, stands_as};
 use crate::remove::{can_be_removed, is_essential, is_installed, is_not_needed, is_removed};
 use crate::unpack::{breaks_none, has_no_conflict, has_pre_depends};
 use debversion::Version;
 use index::Listed;
+use plancheck_group::{
+    are_configurable, are_depends_installed, are_pre_depends_installed, are_unbroken,
+    is_indivisible,
+};
 use rules::{Name, Rule};
 use status::PackageRecord;
+use std::alloc::{AllocError, Global};
 
 // Whether the unpacking keeps the rule.
 fn unpack_keeps(
@@ -145,35 +146,35 @@ pub fn deconfigure_failing(db: &[PackageRecord<'_, '_>], name: &[u8]) -> Option<
     None
 }
 
-// Whether no part of the group could be configured by itself: of one name there is no proper part.
-fn is_indivisible(_db: &[PackageRecord<'_, '_>], _names: &[Name]) -> bool
-    requires { length _names.now ≡ 1 }
-    ensures { IsTrue result ↔ IsIndivisible _db.now _names.now }
-{
-    true
-}
-
-// Whether the configuring of one name keeps the rule.
-fn configure_keeps(db: &[PackageRecord<'_, '_>], names: &[Name], rule: Rule) -> bool
-    requires { length names.now ≡ 1 }
-    ensures { IsTrue result ↔ ConfigureAsks db.now names.now rule }
+// Whether the configuring of the group keeps the rule.
+fn configure_keeps(
+    alloc: Global,
+    db: &[PackageRecord<'_, '_>],
+    names: &[Name],
+    rule: Rule,
+) -> Result<bool, AllocError>
+    ensures { IfOk result (λ answer. IsTrue answer ↔ ConfigureAsks db.now names.now rule) }
 {
     match rule {
-        Rule::WrongState => are_configurable(db, names),
-        Rule::PreDepends => are_pre_depends_installed(db, names),
-        Rule::Depends => are_depends_installed(db, names),
-        Rule::Breaks => are_unbroken(db, names),
-        Rule::Group => is_indivisible(db, names),
-        _ => true,
+        Rule::WrongState => Ok(are_configurable(db, names)),
+        Rule::PreDepends => Ok(are_pre_depends_installed(db, names)),
+        Rule::Depends => Ok(are_depends_installed(db, names)),
+        Rule::Breaks => Ok(are_unbroken(db, names)),
+        Rule::Group => is_indivisible(alloc, db, names),
+        _ => Ok(true),
     }
 }
 
-/// The first rule that a configuring of one name fails, if there is one. Linear in the records for each clause of
-/// the package.
-pub fn configure_failing(db: &[PackageRecord<'_, '_>], names: &[Name]) -> Option<Rule>
-    requires { length names.now ≡ 1 }
-    ensures { MatchOption result (All (ConfigureAsks db.now names.now) configure_rules)
-        (λ rule. IsFirstUnkept (ConfigureAsks db.now names.now) configure_rules rule) }
+/// The first rule that a configuring of these names together fails, if there is one. For each member linear in the
+/// records for each of its clauses; the last rule, whether a part could be configured by itself, costs what
+/// `plancheck_group::is_indivisible` says. Memory alone can fail.
+pub fn configure_failing(
+    alloc: Global,
+    db: &[PackageRecord<'_, '_>],
+    names: &[Name],
+) -> Result<Option<Rule>, AllocError>
+    ensures { IfOk result (λ failing. MatchOption failing (All (ConfigureAsks db.now names.now) configure_rules)
+        (λ rule. IsFirstUnkept (ConfigureAsks db.now names.now) configure_rules rule)) }
 {
     for rule in [
         Rule::WrongState,
@@ -182,9 +183,9 @@ pub fn configure_failing(db: &[PackageRecord<'_, '_>], names: &[Name]) -> Option
         Rule::Breaks,
         Rule::Group,
     ] {
-        if !configure_keeps(db, names, rule) {
-            return Some(rule);
+        if !configure_keeps(alloc, db, names, rule)? {
+            return Ok(Some(rule));
         }
     }
-    None
+    Ok(None)
 }

@@ -5,6 +5,8 @@
 #![tactic(auto)]
 
 #[cfg(test)]
+mod actions;
+#[cfg(test)]
 mod candidate_rows;
 #[cfg(test)]
 mod choosing;

@@ -40,14 +40,6 @@ Package: foo$Version: 1.0$Architecture: all$→install foo$→plan 1$unpack foo 
 Package: a$Version: 1$Architecture: all$→install a$→plan 1$step$→3 |debplan: plan: E18 BadPlan 2$
 ";
 
-// The first of two steps that aren't judged yet is named.
-const NOT_YET: &str = "\
-Package: a$Version: 1$Architecture: all$→install a$→plan 1$deconfigure a$purge a$→3 |debplan: plan: E27 NotYet deconfigure$
-Package: a$Version: 1$Architecture: all$→install a$→plan 1$configure a b$→3 |debplan: plan: E27 NotYet configure$
-Package: a$Version: 1$Architecture: all$→install a$→plan 1$remove a$→3 |debplan: plan: E27 NotYet remove$
-Package: a$Version: 1$Architecture: all$→install a$→plan 1$purge a$→3 |debplan: plan: E27 NotYet purge$
-";
-
 // The first index that is refused is named by its number, behind a refusal of the sources.
 const PLACES: &str = "\
 File: index1$$File: index2$→Package: a$Version: 1$Architecture: all$→Package: b$Version: 1$Architecture: all$$Package: c$Version: 1$Architecture: all$Depends: a (= )$→→→3 |debplan: index 2: E7 BadRelation 8 5$
@@ -68,7 +60,7 @@ Package: x$Status: install ok installed$Version: 1$Architecture: all$Breaks: y |
 
 #[test]
 fn the_first_fault_of_a_text_is_named(rt: HostRuntime) -> Result<(), Fail> {
-    for table in [VERSIONS, INDICES, PLANS, NOT_YET] {
+    for table in [VERSIONS, INDICES, PLANS] {
         for row in table.lines() {
             assert!(rt; holds_over_one(rt.alloc(), row)?, "{row}");
         }

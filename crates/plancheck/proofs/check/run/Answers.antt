@@ -41,8 +41,8 @@ loop-step-preserved c = record {
   distinct = c.in_ok-apply.ensures.distinct;
 }
 
-pub legal-requires-clause-listed : goal.legal-requires-clause-listed
-legal-requires-clause-listed c = stanza_of_step c.args.universe.now c.args.steps.now c.args.stanzas.now _ c.loop-step.step-index
+pub legal-requires : goal.legal-requires
+legal-requires c = stanza_of_step c.args.universe.now c.args.steps.now c.args.stanzas.now _ c.loop-step.step-index
     c.loop-step.number c.step-item.result c.requires.stanzas c.loop-step-test.true c.loop-step.invariant.number c.stanza_at-listed.ensures
     (sym c.step-item.is)
 

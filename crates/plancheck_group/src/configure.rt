@@ -7,6 +7,7 @@ ghost use Rattle.rules.specs.Database.{ForMembers, ForOthers, HasRecord, IsInsta
 ghost use Rattle.rules.specs.Package.{BreaksOther, MatchesSome, MeetsClause};
 ghost use Rattle.rules.specs.Sound.{MeetsClauses};
 ghost use Rattle.rules.specs.Step.{is_among};
+ghost use Rattle.plancheck_group.specs.Part.{AreSupplied};
 
 use plancheck_end::{are_met, breaks_other, is_met, is_same, matches_some};
 use relation::{Clause, Pkg};
@@ -159,24 +160,34 @@ fn are_met_with(db: &[PackageRecord<'_, '_>], names: &[Name], clauses: &[Clause<
     clauses.iter().all(|clause| is_met_with(db, names, clause))
 }
 
-// Whether the record isn't of these names, or its Depends are met by installed packages and members.
+// Whether the record isn't of these names, or its Depends are met by installed packages and the part's.
 fn is_other_or_supplied(
     db: &[PackageRecord<'_, '_>],
+    part: &[Name],
     names: &[Name],
     member: &PackageRecord<'_, '_>,
 ) -> bool
     ensures { IsTrue result ↔ (Contains names.now member.now.name
-        → MeetsClauses (installed_of db.now ++ members_of names.now db.now) member.now.relations.depends) }
+        → MeetsClauses (installed_of db.now ++ members_of part.now db.now) member.now.relations.depends) }
 {
-    !is_member(names, member) || are_met_with(db, names, member.depends())
+    !is_member(names, member) || are_met_with(db, part, member.depends())
+}
+
+/// Whether each Depends clause of the packages of these names is met by installed packages and those of the
+/// part. For each of them linear in the records for each clause.
+#[tactic(auto, unfolding(crate::specs::Part::AreSupplied))]
+pub fn are_supplied(db: &[PackageRecord<'_, '_>], part: &[Name], names: &[Name]) -> bool
+    ensures { IsTrue result ↔ AreSupplied db.now part.now names.now }
+{
+    db.iter()
+        .all(|member| is_other_or_supplied(db, part, names, member))
 }
 
 /// Whether each Depends clause of the group's members is met by installed packages and members. For each member
 /// linear in the records for each clause.
-#[tactic(auto, unfolding(rules::specs::Configure::AreDependsInstalled))]
+#[tactic(auto, unfolding(crate::specs::Part::AreSupplied, rules::specs::Configure::AreDependsInstalled))]
 pub fn are_depends_installed(db: &[PackageRecord<'_, '_>], names: &[Name]) -> bool
     ensures { IsTrue result ↔ AreDependsInstalled db.now names.now }
 {
-    db.iter()
-        .all(|member| is_other_or_supplied(db, names, member))
+    are_supplied(db, names, names)
 }

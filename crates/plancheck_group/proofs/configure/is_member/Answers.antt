@@ -1,7 +1,7 @@
 -- The test says whether the names contain the record's.
 use Rattle.std.proofs.Common.{sym, ◌∙◌}
 use Rattle.rules.specs.NamedLaws.{contains-is_among, is_among-contains}
-use Rattle.plancheck.proofs.configure.is_member.Goals as goal
+use Rattle.plancheck_group.proofs.configure.is_member.Goals as goal
 
 pub returns : goal.returns
 returns c = (

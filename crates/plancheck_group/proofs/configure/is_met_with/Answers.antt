@@ -4,7 +4,7 @@ use Rattle.rules.specs.Configure.{is_present_among, members_of}
 use Rattle.rules.specs.Database.{installed_of, pkg_of}
 use Rattle.rules.specs.ElementLaws.{Any-append, Any-append_left, Any-append_right, Any-map_filter, Any-filter_map}
 use Rattle.rules.specs.Package.{MatchesSome, MeetsClause}
-use Rattle.plancheck.proofs.configure.is_met_with.Goals as goal
+use Rattle.plancheck_group.proofs.configure.is_met_with.Goals as goal
 use mathlib.Core.Logic.{inl, inr}
 
 pub returns-then-is_met : goal.returns-then-is_met

@@ -1,0 +1,32 @@
+-- The parts of a group, name by name (Policy 7.2 and 7.3).
+use Rattle.std.specs.Prelude.{◌≡◌, ℕ, List, [], ◌∷◌, ◌++◌, ◌↔◌}
+use Rattle.std.specs.List.{All, Contains}
+use Rattle.rules.specs.Configure.{AreConfigurable, ArePreDependsInstalled, AreUnbroken, GroupPasses, IsGreatestPart, members_of, others_of}
+use Rattle.rules.specs.Database.{Record, ForMembers, installed_of}
+use Rattle.rules.specs.Sound.{MeetsClauses}
+
+-- the name passes the tests that ask nothing of the other names of its group
+unfoldable pub IsReady : List Record → List ℕ → Type 0
+IsReady db name = AreConfigurable db (name ∷ []) × ArePreDependsInstalled db (name ∷ []) × AreUnbroken db (name ∷ [])
+
+-- each Depends clause of the packages of these names is met by installed packages and members of the part
+unfoldable pub AreSupplied : List Record → List (List ℕ) → List (List ℕ) → Type 0
+AreSupplied db part names =
+    ForMembers (λ member. MeetsClauses (installed_of db ++ members_of part db) member.relations.depends) names db
+
+-- each Depends clause of the name's package is met by installed packages and members of the part
+abbrev pub IsSupplied : List Record → List (List ℕ) → List ℕ → Type 0
+IsSupplied db part name = AreSupplied db part (name ∷ [])
+
+-- the part has exactly those names of the group that have the property
+abbrev pub IsPartWith : (List ℕ → Type 0) → List (List ℕ) → List (List ℕ) → Type 0
+IsPartWith P names part = (name : List ℕ) → Contains part name ↔ (Contains names name × P name)
+
+-- the part has names of the group alone, and each name of every part of the group that passes
+pub record HasWhatPasses (db : List Record) (names part : List (List ℕ)) : Type 0 where
+  pub within : All (Contains names) part
+  pub greatest : (other : List (List ℕ)) → All (Contains names) other → GroupPasses db other → All (Contains part) other
+
+-- the greatest part that passes of the group's names but for this one is empty
+abbrev pub HasNoPartWithout : List Record → List (List ℕ) → List ℕ → Type 0
+HasNoPartWithout db names name = (part : List (List ℕ)) → IsGreatestPart db (others_of name names) part → part ≡ []
