@@ -1,3 +1,4 @@
+pub mod RecordNames
 pub mod Alone
 pub mod Available
 pub mod Best

@@ -2,6 +2,7 @@
 // It stands on `rules`, which says what candidates are, and on `pins`. The main call is `Offered::find`.
 #![tactic(auto)]
 
+mod known;
 mod of_name;
 mod offer;
 mod offered;
@@ -10,8 +11,9 @@ mod place;
 mod rated;
 mod recorded;
 
+pub use known::{Known, is_held, is_recorded, stands_as};
 pub use of_name::candidate;
 pub use offer::Offer;
 pub use offered::Offered;
 pub use order::{Found, has_name, stanza_of};
-pub use recorded::{Recorded, is_held, is_recorded, records_in, stands_as};
+pub use recorded::{Recorded, records_in};

@@ -2,13 +2,11 @@
 
 ghost use Rattle.std.specs.Prelude.{◌≡◌, IfOk, refl};
 ghost use Rattle.std.specs.Cmp.{eq_by_cmp_equiv, partial_equiv_from_equiv, po};
-ghost use Rattle.std.specs.List.Sorted.{IsStrictlySortedBy};
 ghost use Rattle.std.specs.Ordering.{as_partial_cmp, eq_by_cmp};
 ghost use Rattle.candidates.specs.Offer.{AreBest, choice_cmp, eligible, is_eligible, offer_cmp};
 ghost use Rattle.candidates.specs.OfferLaws.{offer_cmp_total};
-ghost use Rattle.candidates.specs.Recorded.{record_cmp};
 
-use crate::recorded::{Recorded, is_downgrade};
+use crate::known::{Known, is_downgrade};
 use debversion::Version;
 use std::alloc::AllocError;
 use std::cmp::Ordering;
@@ -75,18 +73,16 @@ impl<'a> Offer<'a> {
     }
 }
 
-fn is_eligible(known: &[Recorded<'_, '_>], offer: &Offer<'_>) -> bool
-    requires { IsStrictlySortedBy record_cmp known.now }
+fn is_eligible(known: &Known<'_, '_>, offer: &Offer<'_>) -> bool
     ensures { result ≡ is_eligible known.now offer.now }
 {
     offer.priority > 0
         && !(offer.priority < 1000 && is_downgrade(known, offer.name, &offer.version))
 }
 
-/// The offers that may be chosen: those with a priority above 0 that are no downgrade with a priority below 1000. A binary
-/// search for each.
-pub fn eligible<'a>(known: &[Recorded<'_, '_>], offers: Vec<Offer<'a>>) -> Vec<Offer<'a>>
-    requires { IsStrictlySortedBy record_cmp known.now }
+/// The offers that may be chosen: those with a priority above 0 that are no downgrade with a priority below 1000.
+/// Linear.
+pub fn eligible<'a>(known: &Known<'_, '_>, offers: Vec<Offer<'a>>) -> Vec<Offer<'a>>
     ensures { result.items ≡ eligible known.now offers.entry.items }
 {
     let mut kept = offers;

@@ -9,11 +9,12 @@ ghost use Rattle.candidates.specs.Inputs.{indices_of, inputs_of};
 ghost use Rattle.candidates.specs.Recorded.{IsByName};
 ghost use Rattle.candidates.specs.Stanza.{IsOrdered};
 
+use crate::known::Known;
 use crate::offer::Offer;
 use crate::order::{Found, in_order};
 use crate::place::sorted_places;
 use crate::rated::chosen_offers;
-use crate::recorded::{Recorded, by_name};
+use crate::recorded::Recorded;
 use index::Index;
 use pins::Prefs;
 use std::alloc::{AllocError, Global};
@@ -23,7 +24,7 @@ use std::alloc::{AllocError, Global};
 #[derive(Drop)]
 pub struct Offered<'s, 'p, 'a> {
     /// The records.
-    pub known: Vec<Recorded<'s, 'a>>,
+    pub known: Known<'s, 'a>,
     /// The stanzas.
     pub ordered: Vec<Found<'p, 'a>>,
     /// The candidates.
@@ -41,18 +42,18 @@ impl<'s, 'p, 'a> Offered<'s, 'p, 'a> {
         prefs: &Prefs,
     ) -> Result<Offered<'s, 'p, 'a>, AllocError>
         requires { HasDistinctNames start.items }
-        ensures known { IfOk result (λ offered. IsByName start.entry.items offered.known.items) }
+        ensures known { IfOk result (λ offered. IsByName start.entry.items offered.known) }
         ensures ordered { IfOk result (λ offered. IsOrdered (all_listed (indices_of indices.now)) offered.ordered.items) }
         ensures candidates { (goals : List Goal) → IfOk result (λ offered.
             AreCandidates (inputs_of start.entry.items (indices_of indices.now) prefs.now goals) offered.candidates.items) }
     {
-        let known = by_name(start)?;
+        let known = Known::new(alloc, start)?;
         let places = sorted_places(alloc, indices)?;
         let ordered = in_order(alloc, places.as_slice())?;
         let candidates = chosen_offers(
             alloc,
             prefs,
-            known.as_slice(),
+            &known,
             places.as_slice(),
             ordered.as_slice(),
         )?;

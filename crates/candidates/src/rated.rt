@@ -9,10 +9,11 @@ ghost use Rattle.candidates.specs.Rated.{AreChosen, AreRated, HasPlace, IsFrom, 
 ghost use Rattle.candidates.specs.Recorded.{record_cmp};
 ghost use Rattle.candidates.specs.Stanza.{IsOrdered, listed_cmp};
 
+use crate::known::{Known, standing_version};
 use crate::offer::{Offer, best_of, eligible};
 use crate::order::{Found, stanza_of};
 use crate::place::{Place, run_from};
-use crate::recorded::{Recorded, standing_version};
+use crate::recorded::Recorded;
 use debversion::Version;
 use pins::{Origin, Prefs};
 use std::alloc::{AllocError, Global};
@@ -71,12 +72,11 @@ fn kept<'a>(standing: Option<Version<'a>>, first: &Place<'_, 'a>) -> Version<'a>
 fn offer_of<'a>(
     alloc: Global,
     prefs: &Prefs,
-    known: &[Recorded<'_, 'a>],
+    known: &Known<'_, 'a>,
     first: &Place<'_, 'a>,
     run: &[Place<'_, 'a>],
 ) -> Result<Offer<'a>, AllocError>
-    requires known { IsStrictlySortedBy record_cmp known.now }
-    requires run { run.now ≢ [] }
+    requires { run.now ≢ [] }
     ensures { IfOk result (λ offer. IsOfRun prefs.now known.now first.now run.now offer) }
 {
     let standing = standing_version(known, first.name(), first.version());
@@ -89,10 +89,9 @@ fn offer_of<'a>(
 fn listed_offers<'a>(
     alloc: Global,
     prefs: &Prefs,
-    known: &[Recorded<'_, 'a>],
+    known: &Known<'_, 'a>,
     places: &[Place<'_, 'a>],
 ) -> Result<Vec<Offer<'a>>, AllocError>
-    requires known { IsStrictlySortedBy record_cmp known.now }
     requires places { IsSorted place_cmp places.now }
     ensures { IfOk result (λ offers. AreRated (HasPlace places.now) prefs.now known.now places.now offers.items) }
 {
@@ -146,17 +145,16 @@ fn standing_offers<'a>(
 fn rated_offers<'a>(
     alloc: Global,
     prefs: &Prefs,
-    known: &[Recorded<'_, 'a>],
+    known: &Known<'_, 'a>,
     places: &[Place<'_, 'a>],
     ordered: &[Found<'_, 'a>],
 ) -> Result<Vec<Offer<'a>>, AllocError>
-    requires known { IsStrictlySortedBy record_cmp known.now }
     requires places { IsSorted place_cmp places.now }
     requires ordered { IsOrdered (stanzas_of places.now) ordered.now }
     ensures { IfOk result (λ offers. AreRated (IsKept known.now places.now) prefs.now known.now places.now offers.items) }
 {
     let mut offers = listed_offers(alloc, prefs, known, places)?;
-    let mut further = standing_offers(alloc, prefs, known, places, ordered)?;
+    let mut further = standing_offers(alloc, prefs, known.as_slice(), places, ordered)?;
     offers.append(&mut further)?;
     Ok(offers)
 }
@@ -166,11 +164,10 @@ fn rated_offers<'a>(
 pub fn chosen_offers<'a>(
     alloc: Global,
     prefs: &Prefs,
-    known: &[Recorded<'_, 'a>],
+    known: &Known<'_, 'a>,
     places: &[Place<'_, 'a>],
     ordered: &[Found<'_, 'a>],
 ) -> Result<Vec<Offer<'a>>, AllocError>
-    requires known { IsStrictlySortedBy record_cmp known.now }
     requires places { IsSorted place_cmp places.now }
     requires ordered { IsOrdered (stanzas_of places.now) ordered.now }
     ensures { IfOk result (λ best. AreChosen prefs.now known.now places.now best.items) }

@@ -2,18 +2,14 @@
 
 ghost use Rattle.std.specs.Prelude.{◌≡◌, ◌&&◌, IfOk, None, Some, if◌then◌else◌, map, not, refl};
 ghost use Rattle.std.specs.Cmp.{eq_by_cmp_equiv, partial_equiv_from_equiv, po};
-ghost use Rattle.std.specs.List.{find};
-ghost use Rattle.std.specs.List.Sorted.{IsStrictlySortedBy};
-ghost use Rattle.std.specs.Option.{option_copied};
 ghost use Rattle.std.specs.Ordering.{as_partial_cmp, eq_by_cmp, is_lt};
 ghost use Rattle.rules.specs.Available.{same_version};
 ghost use Rattle.rules.specs.Database.{Stands, pkg_of, stands};
 ghost use Rattle.rules.specs.Entry.{records_of};
 ghost use Rattle.rules.specs.State.{is_hold, is_not_installed_state};
-ghost use Rattle.rules.specs.Step.{is_named};
 ghost use Rattle.rules.specs.Universe.{start_of};
 ghost use Rattle.rules.specs.Version.{version_cmp};
-ghost use Rattle.candidates.specs.Recorded.{IsByName, is_downgrade, is_held, is_recorded, record_cmp, standing_as, standing_version, stands_as};
+ghost use Rattle.candidates.specs.Recorded.{IsByName, record_cmp, standing_as};
 ghost use Rattle.candidates.specs.RecordedLaws.{record_cmp_total};
 
 use debversion::Version;
@@ -84,19 +80,19 @@ impl<'p, 'a> Recorded<'p, 'a> {
         )
     }
 
-    fn is_held(&self) -> bool
+    pub(crate) fn is_held(&self) -> bool
         ensures { result ≡ is_hold self.now.want }
     {
         self.record.is_held()
     }
 
-    fn is_recorded(&self) -> bool
+    pub(crate) fn is_recorded(&self) -> bool
         ensures { result ≡ not (is_not_installed_state self.now.state) }
     {
         !self.record.state().is_not_installed()
     }
 
-    fn stands_as(&self, version: &Version<'_>) -> bool
+    pub(crate) fn stands_as(&self, version: &Version<'_>) -> bool
         ensures { result ≡ (stands self.now && same_version self.now.version version.now) }
     {
         match self.standing() {
@@ -106,7 +102,7 @@ impl<'p, 'a> Recorded<'p, 'a> {
     }
 
     // The version that it stands in, where it is this one.
-    fn standing_as(&self, version: &Version<'_>) -> Option<Version<'a>>
+    pub(crate) fn standing_as(&self, version: &Version<'_>) -> Option<Version<'a>>
         ensures { result ≡ standing_as version.now self.now }
     {
         match self.standing() {
@@ -121,7 +117,7 @@ impl<'p, 'a> Recorded<'p, 'a> {
         }
     }
 
-    fn stands_above(&self, version: &Version<'_>) -> bool
+    pub(crate) fn stands_above(&self, version: &Version<'_>) -> bool
         ensures { result ≡ (stands self.now && is_lt (version_cmp version.now self.now.version)) }
     {
         match self.standing() {
@@ -153,76 +149,6 @@ pub fn by_name<'p, 'a>(start: Vec<Recorded<'p, 'a>>) -> Result<Vec<Recorded<'p, 
     // No two have one name, so nothing is dropped: that each is before the next is seen from this call alone.
     known.dedup();
     Ok(known)
-}
-
-/// The record of the name, by a binary search.
-fn record_of<'k, 'p, 'a>(known: &'k [Recorded<'p, 'a>], name: &[u8]) -> Option<&'k Recorded<'p, 'a>>
-    requires { IsStrictlySortedBy record_cmp known.now }
-    ensures { option_copied result ≡ find (is_named name.now) known.now }
-{
-    match known.binary_search_by(|found| found.name().cmp(name)) {
-        Ok(place) => known.get(place),
-        Err(_) => None,
-    }
-}
-
-/// Whether the name is held.
-pub fn is_held(known: &[Recorded<'_, '_>], name: &[u8]) -> bool
-    requires { IsStrictlySortedBy record_cmp known.now }
-    ensures { result ≡ is_held known.now name.now }
-{
-    match record_of(known, name) {
-        None => false,
-        Some(found) => found.is_held(),
-    }
-}
-
-/// Whether the name is in a state other than not-installed.
-pub fn is_recorded(known: &[Recorded<'_, '_>], name: &[u8]) -> bool
-    requires { IsStrictlySortedBy record_cmp known.now }
-    ensures { result ≡ is_recorded known.now name.now }
-{
-    match record_of(known, name) {
-        None => false,
-        Some(found) => found.is_recorded(),
-    }
-}
-
-/// Whether the version of the name stands.
-pub fn stands_as(known: &[Recorded<'_, '_>], name: &[u8], version: &Version<'_>) -> bool
-    requires { IsStrictlySortedBy record_cmp known.now }
-    ensures { result ≡ stands_as known.now name.now version.now }
-{
-    match record_of(known, name) {
-        None => false,
-        Some(found) => found.stands_as(version),
-    }
-}
-
-/// The version of the name that stands, where it is this one: the text may be another.
-pub fn standing_version<'a>(
-    known: &[Recorded<'_, 'a>],
-    name: &[u8],
-    version: &Version<'_>,
-) -> Option<Version<'a>>
-    requires { IsStrictlySortedBy record_cmp known.now }
-    ensures { result ≡ standing_version known.now name.now version.now }
-{
-    match record_of(known, name) {
-        None => None,
-        Some(found) => found.standing_as(version),
-    }
-}
-
-/// Whether the version is lower than the one of the name that stands.
-pub fn is_downgrade(known: &[Recorded<'_, '_>], name: &[u8], version: &Version<'_>) -> bool
-    requires { IsStrictlySortedBy record_cmp known.now }
-    ensures { result ≡ is_downgrade known.now name.now version.now }
-{
-    match record_of(known, name) {
-        None => false,
-        Some(found) => found.stands_above(version),
-    }
 }
 
 impl PartialEq for Recorded<'_, '_> {

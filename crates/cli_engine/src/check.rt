@@ -65,7 +65,7 @@ fn judge<'a>(
     let records = database.records(alloc)?;
     let packages = parse_packages(alloc, records.as_slice())?;
     let start = view(alloc, records.as_slice(), packages.as_slice())?;
-    let answer = check_plan(alloc, start.as_slice(), universe, steps)?;
+    let answer = check_plan(alloc, &start, universe, steps)?;
     Ok(answer)
 }
 

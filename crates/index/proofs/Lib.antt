@@ -1,3 +1,4 @@
+pub mod WalkLemmas
 pub mod SourcesLemmas
 pub mod IndexLemmas
 pub mod NameLemmas

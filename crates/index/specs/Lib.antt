@@ -4,3 +4,4 @@ pub mod Index
 pub mod Names
 pub mod Providers
 pub mod Alone
+pub mod Walk

@@ -17,7 +17,6 @@ use std::marker::Model;
 pub struct Entry<'a> {
     name: &'a [u8],
     version: Version<'a>,
-    fields: PkgFields<'a>,
     arch: &'a [u8],
     is_essential: bool,
     stanza: Stanza<'a>,
@@ -32,27 +31,26 @@ impl<'a> Model for Entry<'a> {
 
     ghost Value = { ListedValue };
 
-    ghost view = { λ e. record { pkg = pkg_of e.arch.now e.fields; is_essential = e.is_essential; stanza = read_stanza e.stanza } };
+    ghost view = { λ e. record { pkg = pkg_of e.arch.now (fields_of e.stanza); is_essential = e.is_essential; stanza = read_stanza e.stanza } };
 
-    ghost invariant = { λ e. (pkg_fault e.fields ≡ None)
-        × (e.fields ≡ fields_of e.stanza)
-        × (e.name.now ≡ value_in e.fields.name)
-        × (e.version ≡ value_in e.fields.version) };
+    ghost invariant = { λ e. (pkg_fault (fields_of e.stanza) ≡ None)
+        × (e.name.now ≡ value_in (fields_of e.stanza).name)
+        × (e.version ≡ value_in (fields_of e.stanza).version) };
 }
 
 impl<'a> Entry<'a> {
     // The stanza with the package that its fields, which are these, spell for this configured architecture, or their first refusal.
     pub(crate) fn read(
-        fields: PkgFields<'a>,
+        fields: &PkgFields<'a>,
         arch: &'a [u8],
         is_essential: bool,
         stanza: Stanza<'a>,
     ) -> Result<Entry<'a>, PkgFault>
-        requires { fields ≡ fields_of stanza }
+        requires { fields.now ≡ fields_of stanza }
         ensures { MatchResult result
-            (λ entry. (pkg_fault fields.entry ≡ None)
-            × (entry ≡ record { pkg = pkg_of arch.now fields.entry; is_essential = is_essential; stanza = read_stanza stanza.entry }))
-            (λ fault. pkg_fault fields.entry ≡ Some fault) }
+            (λ entry. (pkg_fault fields.now ≡ None)
+            × (entry ≡ record { pkg = pkg_of arch.now fields.now; is_essential = is_essential; stanza = read_stanza stanza.entry }))
+            (λ fault. pkg_fault fields.now ≡ Some fault) }
     {
         let name = fields.name()?;
         let version = fields.version()?;
@@ -60,7 +58,6 @@ impl<'a> Entry<'a> {
         Ok(Entry {
             name,
             version,
-            fields,
             arch,
             is_essential,
             stanza,
@@ -103,19 +100,18 @@ impl<'a> Entry<'a> {
         (&self.stanza, self.arch)
     }
 
-    /// The package, with its relations. Memory alone can fail. Linear in the values of the relation fields.
+    /// The package, with its relations. Memory alone can fail. Linear in the stanza.
     pub fn pkg(&self, alloc: Global) -> Result<Pkg<'a>, AllocError>
         ensures { IfOk result (λ pkg. pkg ≡ self.now.pkg) }
     {
-        match Pkg::from_fields(alloc, &self.fields, self.arch) {
+        match Pkg::from_stanza(alloc, &self.stanza, self.arch) {
             Ok(pkg) => Ok(pkg),
             Err(PkgError::OutOfMemory) => Err(AllocError),
             Err(_) => unreachable!(),
         }
     }
 
-    /// The stanza with its package, as `pkg` reads it. Memory alone can fail. Linear in the values of the relation
-    /// fields.
+    /// The stanza with its package, as `pkg` reads it. Memory alone can fail. Linear in the stanza.
     pub fn listed(&self, alloc: Global) -> Result<Listed<'a>, AllocError>
         ensures { IfOk result (λ listed. listed ≡ self.now) }
     {

@@ -1,27 +1,26 @@
 //! One item of an index's text: whether its stanza counts, and what it gives.
 ghost use Rattle.std.specs.Prelude.{◌≡◌, Err, MatchResult, None, Ok, Some};
-ghost use Rattle.relation.specs.PkgFields.{fields_of};
-ghost use Rattle.relation.specs.PkgText.{pkg_fault, pkg_of, read_fields};
 ghost use Rattle.index.specs.Index as Spec;
+ghost use Rattle.index.specs.Walk.{found_of};
 
 use crate::entry::Entry;
 use crate::error::IndexFault;
-use package_stanza::{counts_for, is_essential};
-use relation::PkgFields;
+use crate::walk::Found;
+use package_stanza::counts_for;
 use stanza::{Stanza, StanzaError};
 
-// The stanza, which counts, with the package of these fields.
+// The stanza, which counts, with the package of the fields that were found in it.
 fn read_listed<'a>(
     stanza: &Stanza<'a>,
-    fields: PkgFields<'a>,
+    found: &Found<'a>,
     arch: &'a [u8],
 ) -> Result<Option<Entry<'a>>, IndexFault>
-    requires { fields ≡ fields_of stanza.now }
+    requires { found.now ≡ found_of stanza.now }
     ensures { MatchResult result
-        (λ entry. Spec.listed_with stanza.now (read_fields arch.now fields.entry) ≡ Ok entry)
-        (λ fault. Spec.listed_with stanza.now (read_fields arch.now fields.entry) ≡ Err fault) }
+        (λ entry. Spec.read_listed arch.now stanza.now ≡ Ok entry)
+        (λ fault. Spec.read_listed arch.now stanza.now ≡ Err fault) }
 {
-    match Entry::read(fields, arch, is_essential(stanza), stanza.again()) {
+    match Entry::read(&found.pkg, arch, found.is_essential, stanza.again()) {
         Ok(entry) => Ok(Some(entry)),
         Err(fault) => Err(IndexFault::Pkg(fault)),
     }
@@ -33,15 +32,15 @@ fn read_entry<'a>(stanza: &Stanza<'a>, arch: &'a [u8]) -> Result<Option<Entry<'a
         (λ entry. Spec.read_entry arch.now stanza.now ≡ Ok entry)
         (λ fault. Spec.read_entry arch.now stanza.now ≡ Err fault) }
 {
-    let fields = PkgFields::in_stanza(stanza);
-    if let Err(fault) = fields.name() {
+    let found = Found::in_stanza(stanza);
+    if let Err(fault) = found.pkg.name() {
         return Err(IndexFault::Pkg(fault));
     }
-    match stanza.get(b"Architecture") {
+    match found.architecture {
         None => Err(IndexFault::MissingArchitecture(stanza.line())),
         Some(value) => {
             if counts_for(arch, value) {
-                read_listed(stanza, fields, arch)
+                read_listed(stanza, &found, arch)
             } else {
                 Ok(None)
             }

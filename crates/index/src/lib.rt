@@ -13,6 +13,7 @@ mod providers;
 mod read;
 mod sources;
 mod stanzas;
+mod walk;
 
 pub use alone::read_alone;
 pub use entry::Entry;

@@ -3,4 +3,4 @@
 
 mod says;
 
-pub use says::{counts_for, is_essential};
+pub use says::{counts_for, is_essential, marks_essential};

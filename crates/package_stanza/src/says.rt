@@ -13,15 +13,16 @@ fn is_called(name: &[u8], field: &Field<'_>) -> bool
     field.name().eq_ignore_ascii_case(name)
 }
 
-fn marks_essential(field: &Field<'_>) -> bool
+/// Whether the field marks the package of its stanza essential: `Essential: yes` or `Protected: yes`, these very bytes (Debian
+/// Policy 5.6.9).
+pub fn marks_essential(field: &Field<'_>) -> bool
     ensures { result ≡ marks_essential (field_of field.now) }
 {
     (is_called(b"Essential", field) || is_called(b"Protected", field))
         && field.value() == b"yes".as_slice()
 }
 
-/// Whether a field of the stanza marks the package essential: `Essential: yes` or `Protected: yes`, these very bytes (Debian
-/// Policy 5.6.9). It walks over the stanza's lines.
+/// Whether a field of the stanza marks the package essential. It walks over the stanza's lines.
 pub fn is_essential(stanza: &Stanza<'_>) -> bool
     ensures { result ≡ Spec.is_essential stanza.now.fields }
 {

@@ -3,16 +3,16 @@
 ghost use Rattle.std.specs.Prelude.{◌≡◌, true, false};
 ghost use Rattle.rules.specs.State.{is_present_state};
 
-use crate::packages::{name_of, package};
+use crate::packages::{database, name_of, package};
 use debversion::Version;
 use plancheck_end::first_against;
 use relation::Pkg;
 use rules::{Flag, Goal, Name, Op, Reason, Restriction, State, Text, VersionText, Want};
-use status::PackageRecord;
+use status::{PackageRecord, Records};
 use std::alloc::Global;
 use std::str;
 use std::test::Fail;
-use universe::{Candidate, Pairs, Start, Universe};
+use universe::{Candidate, Candidates, Pairs, Start, Universe};
 
 fn there<'p, 'a>(pkg: &'p Pkg<'a>, state: State, flag: Flag) -> PackageRecord<'p, 'a>
     requires { is_present_state state ≡ true }
@@ -42,26 +42,35 @@ fn record_of<'p, 'a>(pkg: &'p Pkg<'a>, state: State) -> PackageRecord<'p, 'a> {
 }
 
 fn both<'p, 'a>(
+    alloc: Global,
     first: &'p Pkg<'a>,
     first_state: State,
     second: &'p Pkg<'a>,
     second_state: State,
-) -> [PackageRecord<'p, 'a>; 2] {
-    [
+) -> Result<Records<'p, 'a>, Fail> {
+    database(
+        alloc,
         record_of(first, first_state),
         record_of(second, second_state),
-    ]
+    )
 }
 
-// A universe of these goals and facts, in which `a` and `h` have the candidate 2.
-fn universe_of<'p, 'a>(
+// The candidates are in the order of their names.
+fn candidates_two<'a>(alloc: Global) -> Result<Candidates<'a>, Fail> {
+    let two = Version::parse(b"2")?;
+    let mut candidates = Vec::new(alloc);
+    candidates.push(Candidate::new(b"a", two.again()))?;
+    candidates.push(Candidate::new(b"h", two))?;
+    Ok(Candidates::new(candidates))
+}
+
+/// A universe of these goals and facts, in which `a` and `h` have the candidate 2.
+pub(crate) fn universe_of<'p, 'a>(
     alloc: Global,
     goals: Vec<Goal>,
     starts: Vec<Start<'a>>,
 ) -> Result<Universe<'p, 'a>, Fail> {
-    let mut candidates = Vec::new(alloc);
-    candidates.push(Candidate::new(b"a", Version::parse(b"2")?))?;
-    candidates.push(Candidate::new(b"h", Version::parse(b"2")?))?;
+    let candidates = candidates_two(alloc)?;
     let pairs = Pairs::new(Vec::new(alloc));
     Ok(Universe::new(pairs, goals, starts, candidates))
 }
@@ -74,7 +83,7 @@ fn words_of(alloc: Global, word: &str, name: &Text) -> Result<String, Fail> {
 fn against(
     alloc: Global,
     universe: &Universe<'_, '_>,
-    db: &[PackageRecord<'_, '_>],
+    db: &Records<'_, '_>,
 ) -> Result<String, Fail> {
     match first_against(alloc, universe, db)? {
         None => Ok(format!(in alloc; "nothing")?),
@@ -127,7 +136,7 @@ fn ends_so(
     let Some((app_state, wanted)) = rest.split_once(' ') else {
         return Ok(false);
     };
-    let db = both(lib, state_of(lib_state), app, state_of(app_state));
+    let db = both(alloc, lib, state_of(lib_state), app, state_of(app_state))?;
     Ok(against(alloc, universe, &db)?.as_str() == wanted)
 }
 
@@ -196,7 +205,7 @@ fn is_done(
     h: &Pkg<'_>,
     h_state: State,
 ) -> Result<bool, Fail> {
-    let db = both(a, State::Installed, h, h_state);
+    let db = both(alloc, a, State::Installed, h, h_state)?;
     match first_against(alloc, universe, &db) {
         Ok(found) => Ok(found.is_none()),
         Err(refused) => Err(refused.into()),

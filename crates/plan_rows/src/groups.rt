@@ -1,15 +1,18 @@
 //! Which groups are configured together, over packages read from stanzas. What is wanted is worked out by hand from
 //! Policy 7.2 and 7.3: the Depends of a group may be met within it, its Pre-Depends may not, nobody may break a member,
 //! and no smaller group of it could be configured by itself.
+use crate::ends::universe_of;
 use crate::packages::{name_of, package};
-use plancheck::configure_failing;
+use plancheck::{configure_failing, legal};
 use plancheck_group::{greatest_part, is_indivisible};
+use plantext::read_plan;
 use relation::Pkg;
-use rules::{Flag, Name, Rule, State, Want};
-use status::PackageRecord;
+use rules::{Flag, Name, Rule, State, Step, Want};
+use status::{PackageRecord, Records};
 use std::alloc::Global;
 use std::str;
 use std::test::Fail;
+use universe::Universe;
 
 // The stanza of a row's package, in which `;` stands for a newline.
 fn stanza_of(alloc: Global, words: &str) -> Result<Vec<u8>, Fail> {
@@ -90,7 +93,7 @@ fn word_of(rule: Option<Rule>) -> &'static str {
 }
 
 // The first rule that fails, whether no part could be configured by itself, and the names of the greatest that could.
-fn shown(alloc: Global, db: &[PackageRecord<'_, '_>], names: &[Name]) -> Result<String, Fail> {
+fn shown(alloc: Global, db: &Records<'_, '_>, names: &[Name]) -> Result<String, Fail> {
     let mut shown = String::new(alloc);
     let word = word_of(configure_failing(alloc, db, names)?);
     let whole = is_indivisible(alloc, db, names)?;
@@ -111,7 +114,7 @@ fn answer(alloc: Global, packages: &str, names: &str) -> Result<String, Fail> {
         db.push(record_of(pkg, *mark))?;
     }
     let names = names_of(alloc, names)?;
-    shown(alloc, db.as_slice(), names.as_slice())
+    shown(alloc, &Records::new(alloc, db)?, names.as_slice())
 }
 
 // The packages, unpacked but for those with `+`, which are installed; the group; and behind the second arrow the first rule
@@ -163,10 +166,38 @@ fn a_group_is_configured_where_no_part_could_be(rt: HostRuntime) -> Result<(), F
     Ok(())
 }
 
-// With an allocation refused (`rt try --test --fail-alloc N`) the answer is the same, or there is none.
+// The first rule that the step fails, if it configures a group.
+fn rule_of(
+    alloc: Global,
+    db: &Records<'_, '_>,
+    universe: &Universe<'_, '_>,
+    step: &Step,
+) -> Result<&'static str, Fail> {
+    match step {
+        Step::Configure(_) => Ok(word_of(legal(alloc, db, universe, None, step)?)),
+        _ => Err("not a group".into()),
+    }
+}
+
+// Of `a; Depends: b`, `b; Depends: a` and `c`, all unpacked.
 #[test]
-fn a_refused_growth_is_no_answer(rt: HostRuntime) -> Result<(), Fail> {
-    let answer = answer(rt.alloc(), "a;Depends: b|b;Depends: a|c", "a b c")?;
-    assert_eq!(rt; answer.as_str(), "F5 false: a b c");
+fn a_step_is_judged_as_its_group(rt: HostRuntime) -> Result<(), Fail> {
+    let alloc = rt.alloc();
+    let stanzas = stanzas_of(alloc, "a;Depends: b|b;Depends: a|c")?;
+    let pkgs = packages_of(alloc, stanzas.as_slice())?;
+    let mut db = Vec::new(alloc);
+    for pkg in &pkgs {
+        db.push(record_of(pkg, false))?;
+    }
+    let db = Records::new(alloc, db)?;
+    let universe = universe_of(alloc, Vec::new(alloc), Vec::new(alloc))?;
+    let steps = read_plan(
+        alloc,
+        b"plan 1\nconfigure a b\nconfigure a b c\nconfigure a\n",
+    )?;
+    for (step, wanted) in steps.iter().zip(["allowed", "F5", "F4"]) {
+        let rule = rule_of(alloc, &db, &universe, step)?;
+        assert_eq!(rt; rule, wanted);
+    }
     Ok(())
 }

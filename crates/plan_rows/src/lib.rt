@@ -8,6 +8,8 @@ mod ends;
 #[cfg(test)]
 mod groups;
 #[cfg(test)]
+mod lookups;
+#[cfg(test)]
 mod packages;
 #[cfg(test)]
 mod steps;

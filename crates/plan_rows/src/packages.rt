@@ -3,7 +3,7 @@ use index::Listed;
 use relation::Pkg;
 use rules::{Flag, Name, State, Want, is_name};
 use stanza::Stanzas;
-use status::PackageRecord;
+use status::{PackageRecord, Records};
 use std::alloc::Global;
 use std::test::Fail;
 
@@ -47,4 +47,21 @@ pub(crate) fn name_of(alloc: Global, text: &str) -> Result<Name, Fail> {
         Ok(name) => Ok(name),
         Err(refused) => Err(refused.into()),
     }
+}
+
+/// The database of these two records.
+pub(crate) fn database<'p, 'a>(
+    alloc: Global,
+    first: PackageRecord<'p, 'a>,
+    second: PackageRecord<'p, 'a>,
+) -> Result<Records<'p, 'a>, Fail> {
+    Ok(Records::new(alloc, vec![in alloc; first, second]?)?)
+}
+
+/// The database of this record alone.
+pub(crate) fn alone<'p, 'a>(
+    alloc: Global,
+    record: PackageRecord<'p, 'a>,
+) -> Result<Records<'p, 'a>, Fail> {
+    Ok(Records::new(alloc, vec![in alloc; record]?)?)
 }

@@ -1,10 +1,11 @@
 //! Which rule an action fails in small databases, over packages read from stanzas (Policy 7.2 to 7.4).
-use crate::packages::{left, listed};
+use crate::packages::{alone, database, left, listed};
 use debversion::Version;
 use index::Listed;
 use plancheck::{deconfigure_failing, purge_failing, remove_failing, unpack_failing};
 use rules::{Flag, Rule, State, Want};
-use status::PackageRecord;
+use status::{PackageRecord, Records};
+use std::alloc::Global;
 use std::test::Fail;
 
 fn unpacked<'p, 'a>(
@@ -35,18 +36,19 @@ fn installed<'p, 'a>(listed: &'p Listed<'a>) -> PackageRecord<'p, 'a> {
 
 // Both packages, the first in this state and the second installed.
 fn both<'p, 'a>(
+    alloc: Global,
     first: &'p Listed<'a>,
     state: State,
     second: &'p Listed<'a>,
-) -> [PackageRecord<'p, 'a>; 2] {
+) -> Result<Records<'p, 'a>, Fail> {
     let first = match state {
         State::Installed => installed(first),
         _ => unpacked(first, None),
     };
-    [first, installed(second)]
+    database(alloc, first, installed(second))
 }
 
-fn unpack_rule(db: &[PackageRecord<'_, '_>], listed: &Listed<'_>) -> Option<Rule> {
+fn unpack_rule(db: &Records<'_, '_>, listed: &Listed<'_>) -> Option<Rule> {
     let pkg = listed.pkg();
     unpack_failing(db, Some(listed), pkg.name(), pkg.version())
 }
@@ -54,19 +56,21 @@ fn unpack_rule(db: &[PackageRecord<'_, '_>], listed: &Listed<'_>) -> Option<Rule
 // `a 1; Conflicts: b` and `b 1`: neither is unpacked beside the other, and each is alone.
 #[test]
 fn a_conflict_counts_either_way(rt: HostRuntime) -> Result<(), Fail> {
-    let a = listed(rt.alloc(), b"Package: a\nVersion: 1\nConflicts: b\n")?;
+    let alloc = rt.alloc();
+    let none = Records::new(alloc, Vec::new(alloc))?;
+    let a = listed(alloc, b"Package: a\nVersion: 1\nConflicts: b\n")?;
     let b = listed(rt.alloc(), b"Package: b\nVersion: 1\n")?;
     assert_eq!(rt;
-        unpack_rule(&[unpacked(&a, None)], &b),
+        unpack_rule(&alone(rt.alloc(), unpacked(&a, None))?, &b),
         Some(Rule::Conflict)
     );
     assert_eq!(rt;
-        unpack_rule(&[unpacked(&b, None)], &a),
+        unpack_rule(&alone(rt.alloc(), unpacked(&b, None))?, &a),
         Some(Rule::Conflict)
     );
-    assert_eq!(rt; unpack_rule(&[], &a), None);
+    assert_eq!(rt; unpack_rule(&none, &a), None);
     assert_eq!(rt;
-        unpack_failing(&[], None, b"a", a.pkg().version()),
+        unpack_failing(&none, None, b"a", a.pkg().version()),
         Some(Rule::NotAdmitted)
     );
     Ok(())
@@ -82,16 +86,22 @@ fn an_unpacked_package_satisfies_as_it_was_configured(rt: HostRuntime) -> Result
     )?;
     let later = Version::parse(b"1.5")?;
     let earlier = Version::parse(b"0.9")?;
-    assert_eq!(rt; unpack_rule(&[unpacked(&lib, Some(later))], &app), None);
     assert_eq!(rt;
-        unpack_rule(&[unpacked(&lib, Some(earlier))], &app),
+        unpack_rule(&alone(rt.alloc(), unpacked(&lib, Some(later)))?, &app),
+        None
+    );
+    assert_eq!(rt;
+        unpack_rule(&alone(rt.alloc(), unpacked(&lib, Some(earlier)))?, &app),
         Some(Rule::PreDepends)
     );
     assert_eq!(rt;
-        unpack_rule(&[unpacked(&lib, None)], &app),
+        unpack_rule(&alone(rt.alloc(), unpacked(&lib, None))?, &app),
         Some(Rule::PreDepends)
     );
-    assert_eq!(rt; unpack_rule(&[installed(&lib)], &app), None);
+    assert_eq!(rt;
+        unpack_rule(&alone(rt.alloc(), installed(&lib))?, &app),
+        None
+    );
     Ok(())
 }
 
@@ -100,9 +110,18 @@ fn an_unpacked_package_satisfies_as_it_was_configured(rt: HostRuntime) -> Result
 fn an_installed_package_is_not_broken(rt: HostRuntime) -> Result<(), Fail> {
     let p = listed(rt.alloc(), b"Package: p\nVersion: 2\nBreaks: q (<< 2)\n")?;
     let q = listed(rt.alloc(), b"Package: q\nVersion: 1\n")?;
-    assert_eq!(rt; unpack_rule(&[installed(&q)], &p), Some(Rule::Breaks));
-    assert_eq!(rt; unpack_rule(&[unpacked(&q, None)], &p), None);
-    assert_eq!(rt; unpack_rule(&[installed(&p)], &p), Some(Rule::WrongState));
+    assert_eq!(rt;
+        unpack_rule(&alone(rt.alloc(), installed(&q))?, &p),
+        Some(Rule::Breaks)
+    );
+    assert_eq!(rt;
+        unpack_rule(&alone(rt.alloc(), unpacked(&q, None))?, &p),
+        None
+    );
+    assert_eq!(rt;
+        unpack_rule(&alone(rt.alloc(), installed(&p))?, &p),
+        Some(Rule::WrongState)
+    );
     Ok(())
 }
 
@@ -111,14 +130,17 @@ fn an_installed_package_is_not_broken(rt: HostRuntime) -> Result<(), Fail> {
 fn a_needed_package_is_not_removed(rt: HostRuntime) -> Result<(), Fail> {
     let a = listed(rt.alloc(), b"Package: a\nVersion: 1\nDepends: b\n")?;
     let b = listed(rt.alloc(), b"Package: b\nVersion: 1\nDepends: a\n")?;
-    let installed_both = both(&a, State::Installed, &b);
-    let unpacked_first = both(&a, State::Unpacked, &b);
+    let installed_both = both(rt.alloc(), &a, State::Installed, &b)?;
+    let unpacked_first = both(rt.alloc(), &a, State::Unpacked, &b)?;
     assert_eq!(rt; remove_failing(&installed_both, b"a"), Some(Rule::NeededBy));
     assert_eq!(rt; deconfigure_failing(&installed_both, b"a"), None);
     assert_eq!(rt; remove_failing(&unpacked_first, b"b"), None);
-    assert_eq!(rt; remove_failing(&[unpacked(&a, None)], b"a"), None);
     assert_eq!(rt;
-        deconfigure_failing(&[unpacked(&a, None)], b"a"),
+        remove_failing(&alone(rt.alloc(), unpacked(&a, None))?, b"a"),
+        None
+    );
+    assert_eq!(rt;
+        deconfigure_failing(&alone(rt.alloc(), unpacked(&a, None))?, b"a"),
         Some(Rule::WrongState)
     );
     Ok(())
@@ -127,7 +149,11 @@ fn a_needed_package_is_not_removed(rt: HostRuntime) -> Result<(), Fail> {
 // Configuration files alone are purged.
 #[test]
 fn what_is_removed_is_purged(rt: HostRuntime) -> Result<(), Fail> {
-    let db = [left(b"o", Want::Deinstall), left(b"h", Want::Hold)];
+    let db = database(
+        rt.alloc(),
+        left(b"o", Want::Deinstall),
+        left(b"h", Want::Hold),
+    )?;
     assert_eq!(rt; purge_failing(&db, b"o"), None);
     assert_eq!(rt; purge_failing(&db, b"h"), Some(Rule::Held));
     assert_eq!(rt; purge_failing(&db, b"x"), Some(Rule::WrongState));

@@ -35,7 +35,7 @@ fn goals_of(alloc: Global, words: &str) -> Result<Vec<GoalLine>, Fail> {
     Ok(goals)
 }
 
-fn release(
+pub(crate) fn release(
     alloc: Global,
     not_automatic: bool,
     but_automatic_upgrades: bool,
@@ -98,8 +98,8 @@ fn shown(alloc: Global, universe: &Universe<'_, '_>) -> Result<String, Fail> {
     Ok(shown)
 }
 
-// The bytes of a row's text, in which `$` stands for a newline.
-fn unescaped(alloc: Global, text: &str) -> Result<Vec<u8>, Fail> {
+/// The bytes of a row's text, in which `$` stands for a newline.
+pub(crate) fn unescaped(alloc: Global, text: &str) -> Result<Vec<u8>, Fail> {
     let mut bytes = Vec::new(alloc);
     for byte in text.as_bytes() {
         bytes.push(if *byte == b'$' { b'\n' } else { *byte })?;

@@ -1,1 +1,3 @@
 pub mod EndLemmas
+pub mod SatisfiedLemmas
+pub mod QuietLemmas

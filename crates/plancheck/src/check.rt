@@ -13,7 +13,7 @@ use crate::step::{apply, legal};
 use index::Listed;
 use plancheck_end::first_against;
 use rules::{Rule, Step, Verdict, good_where_nothing_is_against};
-use status::{PackageRecord, try_copy};
+use status::{Records, try_copy};
 use std::alloc::{AllocError, Global};
 use universe::Universe;
 
@@ -21,22 +21,22 @@ use universe::Universe;
 // step is allowed, the records are left as the steps leave them.
 fn run<'p, 'a>(
     alloc: Global,
-    db: &mut Vec<PackageRecord<'p, 'a>>,
+    db: &mut Records<'p, 'a>,
     universe: &Universe<'_, 'a>,
     steps: &[Step],
     stanzas: &'p [Option<Listed<'a>>],
 ) -> Result<Option<(usize, Rule)>, AllocError>
-    requires distinct { HasDistinctNames db.old.items }
+    requires distinct { HasDistinctNames db.old }
     requires stanzas { stanzas.now ≡ map (listed_for universe.now) steps.now }
     ensures { IfOk result (λ stop. MatchOption stop
-        (Run universe.now db.old.items steps.now db.new.items)
-        (λ found. StopsAt universe.now db.old.items steps.now found.0 found.1)) }
+        (Run universe.now db.old steps.now db.new)
+        (λ found. StopsAt universe.now db.old steps.now found.0 found.1)) }
 {
     let mut number = 0;
     for step in steps {
         let listed = stanza_at(stanzas, number);
         number += 1;
-        if let Some(rule) = legal(alloc, db.as_slice(), universe, listed, step)? {
+        if let Some(rule) = legal(alloc, db, universe, listed, step)? {
             return Ok(Some((number, rule)));
         }
         apply(db, universe, listed, step)?;
@@ -48,7 +48,7 @@ fn run<'p, 'a>(
 fn end_verdict(
     alloc: Global,
     universe: &Universe<'_, '_>,
-    db: &[PackageRecord<'_, '_>],
+    db: &Records<'_, '_>,
 ) -> Result<Verdict, AllocError>
     ensures { IfOk result (λ verdict. IsEndVerdict universe.now db.now verdict) }
 {
@@ -61,7 +61,7 @@ fn end_verdict(
 // What is answered of the run from a quiet start, with the stanzas that the steps unpack.
 fn run_verdict<'p, 'a>(
     alloc: Global,
-    start: &[PackageRecord<'p, 'a>],
+    start: &Records<'p, 'a>,
     universe: &Universe<'_, 'a>,
     steps: &[Step],
     stanzas: &'p [Option<Listed<'a>>],
@@ -72,12 +72,12 @@ fn run_verdict<'p, 'a>(
     ensures { IfOk result (λ verdict. IsVerdict universe.now start.now steps.now verdict) }
 {
     good_where_nothing_is_against();
-    let mut db = try_copy(alloc, start)?;
+    let mut db = Records::new(alloc, try_copy(alloc, start.as_slice())?)?;
     let stop = run(alloc, &mut db, universe, steps, stanzas)?;
     match stop {
         Some((number, rule)) => Ok(Verdict::Step(number, rule)),
         None => {
-            let verdict = end_verdict(alloc, universe, db.as_slice())?;
+            let verdict = end_verdict(alloc, universe, &db)?;
             Ok(verdict)
         }
     }
@@ -86,7 +86,7 @@ fn run_verdict<'p, 'a>(
 // What is answered of the run from a quiet start, for which the stanzas that the steps unpack are read.
 fn quiet_verdict<'p, 'a>(
     alloc: Global,
-    start: &[PackageRecord<'p, 'a>],
+    start: &Records<'p, 'a>,
     universe: &Universe<'_, 'a>,
     steps: &[Step],
 ) -> Result<Verdict, AllocError>
@@ -100,11 +100,11 @@ fn quiet_verdict<'p, 'a>(
 
 /// Judges a plan from this start, on which the universe is built: whether each step is legal when its turn comes
 /// and the end is good, and else what is first against it. Memory alone can fail. Of the stanzas of the universe those that
-/// the steps unpack are read, each once for each step. For each step the cost is that of its rules, and the end is linear
-/// in the records for each atom of an installed package.
+/// the steps unpack are read, each once for each step. The start is copied once. For each step the cost is that of its
+/// rules, and of the end that of `plancheck_end::first_against`.
 pub fn check_plan<'p, 'a>(
     alloc: Global,
-    start: &[PackageRecord<'p, 'a>],
+    start: &Records<'p, 'a>,
     universe: &Universe<'_, 'a>,
     steps: &[Step],
 ) -> Result<Verdict, AllocError>

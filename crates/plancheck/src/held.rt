@@ -9,7 +9,7 @@ ghost use Rattle.rules.specs.Version.{SameVersion};
 
 use debversion::Version;
 use plancheck_end::is_same;
-use status::PackageRecord;
+use status::{Holders, PackageRecord, Records};
 
 fn is_held_name(found: &PackageRecord<'_, '_>, name: &[u8]) -> bool
     ensures { IsTrue result ↔ ((found.now.name ≡ name.now) × IsHeld found.now) }
@@ -17,15 +17,21 @@ fn is_held_name(found: &PackageRecord<'_, '_>, name: &[u8]) -> bool
     is_same(found.name(), name) && found.want().is_hold()
 }
 
-fn has_hold(db: &[PackageRecord<'_, '_>], name: &[u8]) -> bool
-    ensures { IsTrue result ↔ HasRecord IsHeld name.now db.now }
+fn some_is_held(mut found: Holders<'_, '_, '_>, name: &[u8]) -> bool
+    ensures { IsTrue result ↔ HasRecord IsHeld name.now found.entry }
 {
-    db.iter().any(|found| is_held_name(found, name))
+    found.any(|found| is_held_name(found, name))
 }
 
-/// Whether the name isn't held. Linear in the records.
+fn has_hold(db: &Records<'_, '_>, name: &[u8]) -> bool
+    ensures { IsTrue result ↔ HasRecord IsHeld name.now db.now }
+{
+    some_is_held(db.holders(name), name)
+}
+
+/// Whether the name isn't held. Linear in the records that have or provide the name.
 #[tactic(auto, unfolding(rules::specs::Legal::IsNotHeld))]
-pub fn is_not_held(db: &[PackageRecord<'_, '_>], name: &[u8]) -> bool
+pub fn is_not_held(db: &Records<'_, '_>, name: &[u8]) -> bool
     ensures { IsTrue result ↔ IsNotHeld db.now name.now }
 {
     !has_hold(db, name)
@@ -48,11 +54,16 @@ fn is_named_version(found: &PackageRecord<'_, '_>, name: &[u8], version: &Versio
     is_same(found.name(), name) && is_version(found, version)
 }
 
-/// Whether the name stands in this version. Linear in the records.
-#[tactic(auto, unfolding(rules::specs::Universe::StandsAs))]
-pub fn stands_as(db: &[PackageRecord<'_, '_>], name: &[u8], version: &Version<'_>) -> bool
+fn some_stands_as(mut found: Holders<'_, '_, '_>, name: &[u8], version: &Version<'_>) -> bool
+    ensures { IsTrue result
+        ↔ HasRecord (λ found. Stands found × SameVersion found.version version.now) name.now found.entry }
+{
+    found.any(|found| is_named_version(found, name, version))
+}
+
+/// Whether the name stands in this version. Linear in the records that have or provide the name.
+pub fn stands_as(db: &Records<'_, '_>, name: &[u8], version: &Version<'_>) -> bool
     ensures { IsTrue result ↔ StandsAs db.now name.now version.now }
 {
-    db.iter()
-        .any(|found| is_named_version(found, name, version))
+    some_stands_as(db.holders(name), name, version)
 }

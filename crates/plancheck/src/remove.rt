@@ -3,12 +3,12 @@
 ghost use Rattle.std.specs.Prelude.{◌≡◌, ◌≢◌, ◌↔◌, ◌++◌, IsTrue};
 ghost use Rattle.std.specs.List.{All, Any};
 ghost use Rattle.rules.specs.Database.{ForOthers, HasRecord, HasSoundFlag, IsEssential, IsInstalled, IsPresent, IsRemoved, SomeOther, Stands, pkg_of};
-ghost use Rattle.rules.specs.Package.{MatchesSome};
+ghost use Rattle.rules.specs.Package.{Matches, MatchesSome};
 ghost use Rattle.rules.specs.Remove.{IsExpendable, IsNotNeeded, ManagesWithout, NeedsNot};
 
 use plancheck_end::{is_same, matches_some};
-use relation::{Clause, Pkg};
-use status::PackageRecord;
+use relation::{Atom, Clause, Pkg};
+use status::{Holders, PackageRecord, Records};
 
 fn is_present_and_sound(found: &PackageRecord<'_, '_>, name: &[u8]) -> bool
     ensures { IsTrue result ↔ ((found.now.name ≡ name.now) × (IsPresent found.now × HasSoundFlag found.now)) }
@@ -16,11 +16,17 @@ fn is_present_and_sound(found: &PackageRecord<'_, '_>, name: &[u8]) -> bool
     is_same(found.name(), name) && found.state().is_present() && found.flag().is_sound()
 }
 
-/// Whether the name is present with flag ok. Linear in the records.
-pub fn can_be_removed(db: &[PackageRecord<'_, '_>], name: &[u8]) -> bool
+fn some_can_be_removed(mut found: Holders<'_, '_, '_>, name: &[u8]) -> bool
+    ensures { IsTrue result ↔ HasRecord (λ found. IsPresent found × HasSoundFlag found) name.now found.entry }
+{
+    found.any(|found| is_present_and_sound(found, name))
+}
+
+/// Whether the name is present with flag ok. Linear in the records that have or provide it.
+pub fn can_be_removed(db: &Records<'_, '_>, name: &[u8]) -> bool
     ensures { IsTrue result ↔ HasRecord (λ found. IsPresent found × HasSoundFlag found) name.now db.now }
 {
-    db.iter().any(|found| is_present_and_sound(found, name))
+    some_can_be_removed(db.holders(name), name)
 }
 
 fn is_essential_name(found: &PackageRecord<'_, '_>, name: &[u8]) -> bool
@@ -29,11 +35,17 @@ fn is_essential_name(found: &PackageRecord<'_, '_>, name: &[u8]) -> bool
     is_same(found.name(), name) && found.is_essential()
 }
 
-/// Whether the name is essential. Linear in the records.
-pub fn is_essential(db: &[PackageRecord<'_, '_>], name: &[u8]) -> bool
+fn some_is_essential(mut found: Holders<'_, '_, '_>, name: &[u8]) -> bool
+    ensures { IsTrue result ↔ HasRecord IsEssential name.now found.entry }
+{
+    found.any(|found| is_essential_name(found, name))
+}
+
+/// Whether the name is essential. Linear in the records that have or provide it.
+pub fn is_essential(db: &Records<'_, '_>, name: &[u8]) -> bool
     ensures { IsTrue result ↔ HasRecord IsEssential name.now db.now }
 {
-    db.iter().any(|found| is_essential_name(found, name))
+    some_is_essential(db.holders(name), name)
 }
 
 fn is_installed_name(found: &PackageRecord<'_, '_>, name: &[u8]) -> bool
@@ -42,11 +54,17 @@ fn is_installed_name(found: &PackageRecord<'_, '_>, name: &[u8]) -> bool
     is_same(found.name(), name) && found.state().is_installed()
 }
 
-/// Whether the name is installed. Linear in the records.
-pub fn is_installed(db: &[PackageRecord<'_, '_>], name: &[u8]) -> bool
+fn some_is_installed(mut found: Holders<'_, '_, '_>, name: &[u8]) -> bool
+    ensures { IsTrue result ↔ HasRecord IsInstalled name.now found.entry }
+{
+    found.any(|found| is_installed_name(found, name))
+}
+
+/// Whether the name is installed. Linear in the records that have or provide it.
+pub fn is_installed(db: &Records<'_, '_>, name: &[u8]) -> bool
     ensures { IsTrue result ↔ HasRecord IsInstalled name.now db.now }
 {
-    db.iter().any(|found| is_installed_name(found, name))
+    some_is_installed(db.holders(name), name)
 }
 
 fn is_removed_name(found: &PackageRecord<'_, '_>, name: &[u8]) -> bool
@@ -55,37 +73,62 @@ fn is_removed_name(found: &PackageRecord<'_, '_>, name: &[u8]) -> bool
     is_same(found.name(), name) && found.state().is_removed()
 }
 
-/// Whether configuration files alone are left of the name. Linear in the records.
-pub fn is_removed(db: &[PackageRecord<'_, '_>], name: &[u8]) -> bool
-    ensures { IsTrue result ↔ HasRecord IsRemoved name.now db.now }
+fn some_is_removed(mut found: Holders<'_, '_, '_>, name: &[u8]) -> bool
+    ensures { IsTrue result ↔ HasRecord IsRemoved name.now found.entry }
 {
-    db.iter().any(|found| is_removed_name(found, name))
+    found.any(|found| is_removed_name(found, name))
 }
 
-// Whether the record is of another name, stands and matches the clause.
-fn stands_in(other: &PackageRecord<'_, '_>, name: &[u8], clause: &Clause<'_>) -> bool
-    ensures { IsTrue result ↔ ((other.now.name ≢ name.now)
-        × (Stands other.now × MatchesSome (pkg_of other.now) clause.now)) }
+/// Whether configuration files alone are left of the name. Linear in the records that have or provide it.
+pub fn is_removed(db: &Records<'_, '_>, name: &[u8]) -> bool
+    ensures { IsTrue result ↔ HasRecord IsRemoved name.now db.now }
+{
+    some_is_removed(db.holders(name), name)
+}
+
+// Whether the record is of another name, stands and matches the atom.
+fn stands_in(other: &PackageRecord<'_, '_>, name: &[u8], atom: &Atom<'_>) -> bool
+    ensures { IsTrue result ↔ (((other.now.name ≢ name.now) × Stands other.now)
+        × Matches (pkg_of other.now) atom.now) }
 {
     match other.present_pkg() {
-        Some(there) => {
-            !is_same(other.name(), name) && other.stands() && matches_some(there, clause.as_slice())
-        }
+        Some(there) => !is_same(other.name(), name) && other.stands() && atom.matched_by(there),
         None => false,
     }
 }
 
-fn some_stands_in(db: &[PackageRecord<'_, '_>], name: &[u8], clause: &Clause<'_>) -> bool
+fn some_holder_stands_in(mut others: Holders<'_, '_, '_>, name: &[u8], atom: &Atom<'_>) -> bool
+    ensures { IsTrue result ↔ Any (λ other. ((other.name ≢ name.now) × Stands other)
+        × Matches (pkg_of other) atom.now) others.entry }
+{
+    others.any(|other| stands_in(other, name, atom))
+}
+
+fn some_stands_in_atom(db: &Records<'_, '_>, name: &[u8], atom: &Atom<'_>) -> bool
+    ensures { IsTrue result ↔ Any (λ other. ((other.name ≢ name.now) × Stands other)
+        × Matches (pkg_of other) atom.now) db.now }
+{
+    some_holder_stands_in(db.holders(atom.name()), name, atom)
+}
+
+fn some_stands_in_atoms(db: &Records<'_, '_>, name: &[u8], atoms: &[Atom<'_>]) -> bool
+    ensures { IsTrue result ↔ Any (λ atom. Any (λ other. ((other.name ≢ name.now) × Stands other)
+        × Matches (pkg_of other) atom) db.now) atoms.now }
+{
+    atoms.iter().any(|atom| some_stands_in_atom(db, name, atom))
+}
+
+fn some_stands_in(db: &Records<'_, '_>, name: &[u8], clause: &Clause<'_>) -> bool
     ensures { IsTrue result
         ↔ SomeOther (λ other. Stands other × MatchesSome (pkg_of other) clause.now) name.now db.now }
 {
-    db.iter().any(|other| stands_in(other, name, clause))
+    some_stands_in_atoms(db, name, clause.as_slice())
 }
 
 // Whether the clause, if the package to be removed matches it, is matched by another that stands.
 #[tactic(auto, unfolding(rules::specs::Remove::ManagesWithout))]
 fn manages_without(
-    db: &[PackageRecord<'_, '_>],
+    db: &Records<'_, '_>,
     removed: &PackageRecord<'_, '_>,
     there: &Pkg<'_>,
     clause: &Clause<'_>,
@@ -97,7 +140,7 @@ fn manages_without(
 }
 
 fn manages_without_all(
-    db: &[PackageRecord<'_, '_>],
+    db: &Records<'_, '_>,
     removed: &PackageRecord<'_, '_>,
     there: &Pkg<'_>,
     clauses: &[Clause<'_>],
@@ -112,7 +155,7 @@ fn manages_without_all(
 
 // Whether each clause of the other record that the package matches is matched by another.
 fn manages_without_needs(
-    db: &[PackageRecord<'_, '_>],
+    db: &Records<'_, '_>,
     removed: &PackageRecord<'_, '_>,
     there: &Pkg<'_>,
     other: &PackageRecord<'_, '_>,
@@ -128,7 +171,7 @@ fn manages_without_needs(
 // Whether the other record isn't installed or doesn't need the package to be removed.
 #[tactic(auto, unfolding(rules::specs::Remove::NeedsNot))]
 fn needs_not(
-    db: &[PackageRecord<'_, '_>],
+    db: &Records<'_, '_>,
     removed: &PackageRecord<'_, '_>,
     there: &Pkg<'_>,
     other: &PackageRecord<'_, '_>,
@@ -140,7 +183,7 @@ fn needs_not(
 }
 
 fn is_own_or_needs_not(
-    db: &[PackageRecord<'_, '_>],
+    db: &Records<'_, '_>,
     removed: &PackageRecord<'_, '_>,
     there: &Pkg<'_>,
     other: &PackageRecord<'_, '_>,
@@ -153,20 +196,17 @@ fn is_own_or_needs_not(
 
 // Whether no installed package of another name needs the package of the record.
 #[tactic(auto, unfolding(rules::specs::Remove::IsExpendable))]
-fn is_expendable(
-    db: &[PackageRecord<'_, '_>],
-    removed: &PackageRecord<'_, '_>,
-    there: &Pkg<'_>,
-) -> bool
+fn is_expendable(db: &Records<'_, '_>, removed: &PackageRecord<'_, '_>, there: &Pkg<'_>) -> bool
     requires { there.now ≡ pkg_of removed.now }
     ensures { IsTrue result ↔ IsExpendable db.now removed.now }
 {
-    db.iter()
+    db.as_slice()
+        .iter()
         .all(|other| is_own_or_needs_not(db, removed, there, other))
 }
 
 fn is_other_or_expendable(
-    db: &[PackageRecord<'_, '_>],
+    db: &Records<'_, '_>,
     name: &[u8],
     removed: &PackageRecord<'_, '_>,
 ) -> bool
@@ -178,12 +218,14 @@ fn is_other_or_expendable(
     }
 }
 
-/// Whether no installed package of another name needs the present package of this name. Linear in the installed
-/// packages' clauses, for each that the package matches in the records.
+/// Whether no installed package of another name needs the present package of this name. Linear in the records and
+/// the installed packages' clauses, for each that the package matches in the records that have or provide a name of
+/// it.
 #[tactic(auto, unfolding(rules::specs::Remove::IsNotNeeded))]
-pub fn is_not_needed(db: &[PackageRecord<'_, '_>], name: &[u8]) -> bool
+pub fn is_not_needed(db: &Records<'_, '_>, name: &[u8]) -> bool
     ensures { IsTrue result ↔ IsNotNeeded db.now name.now }
 {
-    db.iter()
+    db.as_slice()
+        .iter()
         .all(|removed| is_other_or_expendable(db, name, removed))
 }

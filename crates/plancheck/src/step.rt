@@ -16,14 +16,14 @@ use crate::table::{
 };
 use index::Listed;
 use rules::{Name, Rule, Step, VersionText, allowed_acts_on_present, distinct_names_kept};
-use status::{PackageRecord, configure, deconfigure, purge, remove, unpack};
+use status::Records;
 use std::alloc::{AllocError, Global};
 use universe::Universe;
 
 // The first rule that an unpacking of the version fails.
 #[tactic(auto, unfolding(rules::specs::Legal::Allowed, rules::specs::Legal::IsFirstFailing))]
 fn unpack_stop(
-    db: &[PackageRecord<'_, '_>],
+    db: &Records<'_, '_>,
     universe: &Universe<'_, '_>,
     listed: Option<&Listed<'_>>,
     name: &Name,
@@ -39,11 +39,7 @@ fn unpack_stop(
 
 // The first rule that a removal of the name fails.
 #[tactic(auto, unfolding(rules::specs::Legal::Allowed, rules::specs::Legal::IsFirstFailing))]
-fn remove_stop(
-    db: &[PackageRecord<'_, '_>],
-    universe: &Universe<'_, '_>,
-    name: &Name,
-) -> Option<Rule>
+fn remove_stop(db: &Records<'_, '_>, universe: &Universe<'_, '_>, name: &Name) -> Option<Rule>
     ensures { MatchOption result (Allowed universe.now db.now (Remove name.now))
         (λ rule. IsFirstFailing universe.now db.now (Remove name.now) rule) }
 {
@@ -55,7 +51,7 @@ fn remove_stop(
 #[tactic(auto, unfolding(rules::specs::Legal::Allowed, rules::specs::Legal::IsFirstFailing))]
 pub fn legal(
     alloc: Global,
-    db: &[PackageRecord<'_, '_>],
+    db: &Records<'_, '_>,
     universe: &Universe<'_, '_>,
     listed: Option<&Listed<'_>>,
     step: &Step,
@@ -75,13 +71,14 @@ pub fn legal(
 
 // Unpacks the package, if it is there.
 fn unpack_listed<'p, 'a>(
-    db: &mut Vec<PackageRecord<'p, 'a>>,
+    db: &mut Records<'p, 'a>,
     listed: Option<&'p Listed<'a>>,
 ) -> Result<(), AllocError>
-    ensures { IfOk result (λ _. db.new.items ≡ option_map_or (λ found. after_unpack found db.old.items) (option_copied listed.entry) db.old.items) }
+    requires { HasDistinctNames db.old }
+    ensures { IfOk result (λ _. db.new ≡ option_map_or (λ found. after_unpack found db.old) (option_copied listed.entry) db.old) }
 {
     if let Some(listed) = listed {
-        unpack(db, listed)?;
+        db.unpack(listed)?;
     }
     Ok(())
 }
@@ -89,38 +86,39 @@ fn unpack_listed<'p, 'a>(
 // What the step leaves, if what it configures, deconfigures or removes is present.
 #[tactic(auto, unfolding(rules::specs::LegalLaws::ActsOnPresent))]
 fn leave<'p, 'a>(
-    db: &mut Vec<PackageRecord<'p, 'a>>,
+    db: &mut Records<'p, 'a>,
     universe: &Universe<'_, 'a>,
     listed: Option<&'p Listed<'a>>,
     step: &Step,
 ) -> Result<(), AllocError>
     requires listed { option_copied listed ≡ listed_for universe.now step.now }
-    requires present { ActsOnPresent step.now db.old.items }
-    ensures { IfOk result (λ _. db.new.items ≡ after universe.now db.old.items step.now) }
+    requires distinct { HasDistinctNames db.old }
+    requires present { ActsOnPresent step.now db.old }
+    ensures { IfOk result (λ _. db.new ≡ after universe.now db.old step.now) }
 {
     match step {
         Step::Unpack(_, _) => unpack_listed(db, listed)?,
-        Step::Deconfigure(name) => deconfigure(db.as_mut_slice(), name.as_bytes()),
-        Step::Configure(names) => configure(db.as_mut_slice(), names.as_slice()),
-        Step::Remove(name) => remove(db.as_mut_slice(), name.as_bytes()),
-        Step::Purge(name) => purge(db, name.as_bytes()),
+        Step::Deconfigure(name) => db.deconfigure(name.as_bytes()),
+        Step::Configure(names) => db.configure(names.as_slice()),
+        Step::Remove(name) => db.remove(name.as_bytes()),
+        Step::Purge(name) => db.purge(name.as_bytes()),
     }
     Ok(())
 }
 
-/// Takes an allowed step. Of a step that unpacks, `listed` is the stanza, whose package the record then lends. Linear in
-/// the records. Memory alone can fail.
+/// Takes an allowed step. Of a step that unpacks, `listed` is the stanza, whose package the record then lends. It costs
+/// what the action of `Records` does. Memory alone can fail.
 pub fn apply<'p, 'a>(
-    db: &mut Vec<PackageRecord<'p, 'a>>,
+    db: &mut Records<'p, 'a>,
     universe: &Universe<'_, 'a>,
     listed: Option<&'p Listed<'a>>,
     step: &Step,
 ) -> Result<(), AllocError>
     requires listed { option_copied listed ≡ listed_for universe.now step.now }
-    requires distinct { HasDistinctNames db.old.items }
-    requires allowed { Allowed universe.now db.old.items step.now }
-    ensures after { IfOk result (λ _. db.new.items ≡ after universe.now db.old.items step.now) }
-    ensures distinct { IfOk result (λ _. HasDistinctNames db.new.items) }
+    requires distinct { HasDistinctNames db.old }
+    requires allowed { Allowed universe.now db.old step.now }
+    ensures after { IfOk result (λ _. db.new ≡ after universe.now db.old step.now) }
+    ensures distinct { IfOk result (λ _. HasDistinctNames db.new) }
 {
     allowed_acts_on_present();
     distinct_names_kept();

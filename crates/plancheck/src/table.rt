@@ -16,12 +16,12 @@ use plancheck_group::{
     is_indivisible,
 };
 use rules::{Name, Rule};
-use status::PackageRecord;
+use status::Records;
 use std::alloc::{AllocError, Global};
 
 // Whether the unpacking keeps the rule.
 fn unpack_keeps(
-    db: &[PackageRecord<'_, '_>],
+    db: &Records<'_, '_>,
     listed: Option<&Listed<'_>>,
     name: &[u8],
     version: &Version<'_>,
@@ -41,7 +41,7 @@ fn unpack_keeps(
 }
 
 // Whether the removal keeps the rule.
-fn remove_keeps(db: &[PackageRecord<'_, '_>], name: &[u8], rule: Rule) -> bool
+fn remove_keeps(db: &Records<'_, '_>, name: &[u8], rule: Rule) -> bool
     ensures { IsTrue result ↔ RemoveAsks db.now name.now rule }
 {
     match rule {
@@ -55,7 +55,7 @@ fn remove_keeps(db: &[PackageRecord<'_, '_>], name: &[u8], rule: Rule) -> bool
 
 /// The first rule that a removal of the name fails, if there is one. Linear in the installed packages' clauses,
 /// for each that the package matches in the records.
-pub fn remove_failing(db: &[PackageRecord<'_, '_>], name: &[u8]) -> Option<Rule>
+pub fn remove_failing(db: &Records<'_, '_>, name: &[u8]) -> Option<Rule>
     ensures { MatchOption result (All (RemoveAsks db.now name.now) remove_rules)
         (λ rule. IsFirstUnkept (RemoveAsks db.now name.now) remove_rules rule) }
 {
@@ -76,7 +76,7 @@ pub fn remove_failing(db: &[PackageRecord<'_, '_>], name: &[u8]) -> Option<Rule>
 /// of the version in the indices, if it is admitted and there. Linear in the records, for each in the packages'
 /// relations.
 pub fn unpack_failing(
-    db: &[PackageRecord<'_, '_>],
+    db: &Records<'_, '_>,
     listed: Option<&Listed<'_>>,
     name: &[u8],
     version: &Version<'_>,
@@ -100,7 +100,7 @@ pub fn unpack_failing(
 }
 
 // Whether the purge keeps the rule.
-fn purge_keeps(db: &[PackageRecord<'_, '_>], name: &[u8], rule: Rule) -> bool
+fn purge_keeps(db: &Records<'_, '_>, name: &[u8], rule: Rule) -> bool
     ensures { IsTrue result ↔ PurgeAsks db.now name.now rule }
 {
     match rule {
@@ -111,7 +111,7 @@ fn purge_keeps(db: &[PackageRecord<'_, '_>], name: &[u8], rule: Rule) -> bool
 }
 
 /// The first rule that a purge of the name fails, if there is one. Linear in the records.
-pub fn purge_failing(db: &[PackageRecord<'_, '_>], name: &[u8]) -> Option<Rule>
+pub fn purge_failing(db: &Records<'_, '_>, name: &[u8]) -> Option<Rule>
     ensures { MatchOption result (All (PurgeAsks db.now name.now) purge_rules)
         (λ rule. IsFirstUnkept (PurgeAsks db.now name.now) purge_rules rule) }
 {
@@ -124,7 +124,7 @@ pub fn purge_failing(db: &[PackageRecord<'_, '_>], name: &[u8]) -> Option<Rule>
 }
 
 // Whether the deconfiguring keeps the rule.
-fn deconfigure_keeps(db: &[PackageRecord<'_, '_>], name: &[u8], rule: Rule) -> bool
+fn deconfigure_keeps(db: &Records<'_, '_>, name: &[u8], rule: Rule) -> bool
     ensures { IsTrue result ↔ DeconfigureAsks db.now name.now rule }
 {
     match rule {
@@ -134,7 +134,7 @@ fn deconfigure_keeps(db: &[PackageRecord<'_, '_>], name: &[u8], rule: Rule) -> b
 }
 
 /// The rule that a deconfiguring of the name fails, if it fails. Linear in the records.
-pub fn deconfigure_failing(db: &[PackageRecord<'_, '_>], name: &[u8]) -> Option<Rule>
+pub fn deconfigure_failing(db: &Records<'_, '_>, name: &[u8]) -> Option<Rule>
     ensures { MatchOption result (All (DeconfigureAsks db.now name.now) deconfigure_rules)
         (λ rule. IsFirstUnkept (DeconfigureAsks db.now name.now) deconfigure_rules rule) }
 {
@@ -149,7 +149,7 @@ pub fn deconfigure_failing(db: &[PackageRecord<'_, '_>], name: &[u8]) -> Option<
 // Whether the configuring of the group keeps the rule.
 fn configure_keeps(
     alloc: Global,
-    db: &[PackageRecord<'_, '_>],
+    db: &Records<'_, '_>,
     names: &[Name],
     rule: Rule,
 ) -> Result<bool, AllocError>
@@ -170,7 +170,7 @@ fn configure_keeps(
 /// `plancheck_group::is_indivisible` says. Memory alone can fail.
 pub fn configure_failing(
     alloc: Global,
-    db: &[PackageRecord<'_, '_>],
+    db: &Records<'_, '_>,
     names: &[Name],
 ) -> Result<Option<Rule>, AllocError>
     ensures { IfOk result (λ failing. MatchOption failing (All (ConfigureAsks db.now names.now) configure_rules)

@@ -9,7 +9,7 @@ ghost use Rattle.rules.specs.Unpack.{BreaksNone, FitsFromBefore, FitsThenAndNow,
 use debversion::Version;
 use plancheck_end::{breaks_other, conflicts_with, is_same};
 use relation::{Atom, Clause, Pkg};
-use status::PackageRecord;
+use status::{Holders, PackageRecord, Records};
 
 // Whether the record fits the atom as it is now and as it was when this version of it was configured.
 #[tactic(auto, unfolding(rules::specs::Unpack::FitsThenAndNow))]
@@ -63,15 +63,20 @@ fn is_other_and_satisfies(found: &PackageRecord<'_, '_>, name: &[u8], atom: &Ato
     !is_same(found.name(), name) && satisfies_atom(found, atom)
 }
 
-fn is_atom_satisfied(db: &[PackageRecord<'_, '_>], name: &[u8], atom: &Atom<'_>) -> bool
+fn some_other_satisfies(mut others: Holders<'_, '_, '_>, name: &[u8], atom: &Atom<'_>) -> bool
+    ensures { IsTrue result ↔ SomeOther (λ other. SatisfiesAtom other atom.now) name.now others.entry }
+{
+    others.any(|other| is_other_and_satisfies(other, name, atom))
+}
+
+fn is_atom_satisfied(db: &Records<'_, '_>, name: &[u8], atom: &Atom<'_>) -> bool
     ensures { IsTrue result ↔ SomeOther (λ other. SatisfiesAtom other atom.now) name.now db.now }
 {
-    db.iter()
-        .any(|other| is_other_and_satisfies(other, name, atom))
+    some_other_satisfies(db.holders(atom.name()), name, atom)
 }
 
 #[tactic(auto, unfolding(rules::specs::Unpack::IsSatisfied))]
-fn is_satisfied(db: &[PackageRecord<'_, '_>], name: &[u8], clause: &Clause<'_>) -> bool
+fn is_satisfied(db: &Records<'_, '_>, name: &[u8], clause: &Clause<'_>) -> bool
     ensures { IsTrue result ↔ IsSatisfied db.now name.now clause.now }
 {
     clause
@@ -80,10 +85,10 @@ fn is_satisfied(db: &[PackageRecord<'_, '_>], name: &[u8], clause: &Clause<'_>) 
         .any(|atom| is_atom_satisfied(db, name, atom))
 }
 
-/// Whether each Pre-Depends clause of the package is satisfied by packages of other names. Linear in the
-/// records, for each in the atoms of the Pre-Depends and in what it provides.
+/// Whether each Pre-Depends clause of the package is satisfied by packages of other names. For each atom linear in
+/// the records that have or provide its name, and in what they provide.
 #[tactic(auto, unfolding(rules::specs::Unpack::HasPreDepends))]
-pub fn has_pre_depends(db: &[PackageRecord<'_, '_>], pkg: &Pkg<'_>) -> bool
+pub fn has_pre_depends(db: &Records<'_, '_>, pkg: &Pkg<'_>) -> bool
     ensures { IsTrue result ↔ HasPreDepends db.now pkg.now }
 {
     pkg.pre_depends()
@@ -112,10 +117,12 @@ fn is_own_or_compatible(pkg: &Pkg<'_>, other: &PackageRecord<'_, '_>) -> bool
 /// Whether no present package of another name conflicts with the package, either way. Linear in the records,
 /// for each in both packages' Conflicts and Provides.
 #[tactic(auto, unfolding(rules::specs::Unpack::HasNoConflict))]
-pub fn has_no_conflict(db: &[PackageRecord<'_, '_>], pkg: &Pkg<'_>) -> bool
+pub fn has_no_conflict(db: &Records<'_, '_>, pkg: &Pkg<'_>) -> bool
     ensures { IsTrue result ↔ HasNoConflict db.now pkg.now }
 {
-    db.iter().all(|other| is_own_or_compatible(pkg, other))
+    db.as_slice()
+        .iter()
+        .all(|other| is_own_or_compatible(pkg, other))
 }
 
 // Whether the record is of the package's own name, isn't installed, or isn't broken by it.
@@ -134,8 +141,10 @@ fn is_own_or_spared(pkg: &Pkg<'_>, other: &PackageRecord<'_, '_>) -> bool
 /// Whether the package breaks no installed package of another name. Linear in the records, for each in the
 /// package's Breaks and the other's Provides.
 #[tactic(auto, unfolding(rules::specs::Unpack::BreaksNone))]
-pub fn breaks_none(db: &[PackageRecord<'_, '_>], pkg: &Pkg<'_>) -> bool
+pub fn breaks_none(db: &Records<'_, '_>, pkg: &Pkg<'_>) -> bool
     ensures { IsTrue result ↔ BreaksNone db.now pkg.now }
 {
-    db.iter().all(|other| is_own_or_spared(pkg, other))
+    db.as_slice()
+        .iter()
+        .all(|other| is_own_or_spared(pkg, other))
 }

@@ -3,49 +3,63 @@
 ghost use Rattle.std.specs.Prelude.{◌≡◌, ◌≢◌, ◌↔◌, IsTrue};
 ghost use Rattle.std.specs.List.{All};
 ghost use Rattle.rules.specs.Database.{IsInstalled, installed_of, pkg_of};
-ghost use Rattle.rules.specs.Package.{MatchesSome};
+ghost use Rattle.rules.specs.Package.{Matches};
 ghost use Rattle.rules.specs.Sound.{IsContent, MatchedByNoOther, MeetsClauses};
 
 use crate::installed::are_met;
-use crate::matching::{is_same, matches_some};
+use crate::matching::is_same;
 use relation::{Atom, Pkg};
-use status::PackageRecord;
+use status::{Holders, PackageRecord, Records};
 
-// Whether the record isn't installed, is of the name, or matches none of the atoms.
-fn is_apart(other: &PackageRecord<'_, '_>, name: &[u8], atoms: &[Atom<'_>]) -> bool
+// Whether the record isn't installed, is of the name, or doesn't match the atom.
+fn is_apart(other: &PackageRecord<'_, '_>, name: &[u8], atom: &Atom<'_>) -> bool
     ensures { IsTrue result
-        ↔ (IsInstalled other.now → other.now.name ≢ name.now → ¬ MatchesSome (pkg_of other.now) atoms.now) }
+        ↔ (IsInstalled other.now → other.now.name ≢ name.now → ¬ Matches (pkg_of other.now) atom.now) }
 {
     match other.present_pkg() {
         Some(there) if other.state().is_installed() => {
-            is_same(other.name(), name) || !matches_some(there, atoms)
+            is_same(other.name(), name) || !atom.matched_by(there)
         }
         _ => true,
     }
 }
 
-fn are_apart(db: &[PackageRecord<'_, '_>], name: &[u8], atoms: &[Atom<'_>]) -> bool
+fn are_apart(mut others: Holders<'_, '_, '_>, name: &[u8], atom: &Atom<'_>) -> bool
     ensures { IsTrue result ↔ All (λ other. IsInstalled other → other.name ≢ name.now
-        → ¬ MatchesSome (pkg_of other) atoms.now) db.now }
+        → ¬ Matches (pkg_of other) atom.now) others.entry }
 {
-    db.iter().all(|other| is_apart(other, name, atoms))
+    others.all(|other| is_apart(other, name, atom))
+}
+
+fn is_atom_apart(db: &Records<'_, '_>, name: &[u8], atom: &Atom<'_>) -> bool
+    ensures { IsTrue result ↔ All (λ other. IsInstalled other → other.name ≢ name.now
+        → ¬ Matches (pkg_of other) atom.now) db.now }
+{
+    are_apart(db.holders(atom.name()), name, atom)
+}
+
+fn are_all_apart(db: &Records<'_, '_>, name: &[u8], atoms: &[Atom<'_>]) -> bool
+    ensures { IsTrue result ↔ All (λ atom. All (λ other. IsInstalled other → other.name ≢ name.now
+        → ¬ Matches (pkg_of other) atom) db.now) atoms.now }
+{
+    atoms.iter().all(|atom| is_atom_apart(db, name, atom))
 }
 
 // Whether no installed package of another name matches an atom.
-fn is_matched_by_no_other(db: &[PackageRecord<'_, '_>], name: &[u8], atoms: &[Atom<'_>]) -> bool
+fn is_matched_by_no_other(db: &Records<'_, '_>, name: &[u8], atoms: &[Atom<'_>]) -> bool
     ensures { IsTrue result ↔ MatchedByNoOther (installed_of db.now) name.now atoms.now }
 {
-    are_apart(db, name, atoms)
+    are_all_apart(db, name, atoms)
 }
 
-fn has_needs(db: &[PackageRecord<'_, '_>], pkg: &Pkg<'_>) -> bool
+fn has_needs(db: &Records<'_, '_>, pkg: &Pkg<'_>) -> bool
     ensures { IsTrue result ↔ (MeetsClauses (installed_of db.now) pkg.now.relations.pre_depends
         × MeetsClauses (installed_of db.now) pkg.now.relations.depends) }
 {
     are_met(db, pkg.pre_depends()) && are_met(db, pkg.depends())
 }
 
-fn is_at_peace(db: &[PackageRecord<'_, '_>], pkg: &Pkg<'_>) -> bool
+fn is_at_peace(db: &Records<'_, '_>, pkg: &Pkg<'_>) -> bool
     ensures { IsTrue result ↔ (MatchedByNoOther (installed_of db.now) pkg.now.name pkg.now.relations.conflicts
         × MatchedByNoOther (installed_of db.now) pkg.now.name pkg.now.relations.breaks) }
 {
@@ -54,8 +68,9 @@ fn is_at_peace(db: &[PackageRecord<'_, '_>], pkg: &Pkg<'_>) -> bool
 }
 
 /// Whether each clause of the package is met by installed packages, and it conflicts with and breaks none of
-/// another name. Linear in the records for each of its atoms.
-pub fn is_content(db: &[PackageRecord<'_, '_>], pkg: &Pkg<'_>) -> bool
+/// another name. For each of its atoms linear in the records that have or provide its name, and in what they
+/// provide.
+pub fn is_content(db: &Records<'_, '_>, pkg: &Pkg<'_>) -> bool
     ensures { IsTrue result ↔ IsContent (installed_of db.now) pkg.now }
 {
     has_needs(db, pkg) && is_at_peace(db, pkg)

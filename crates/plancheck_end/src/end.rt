@@ -6,17 +6,17 @@ ghost use Rattle.rules.specs.Run.{HasNothingAgainst, IsFirstAgainst};
 use crate::goal::first_unfulfilled;
 use crate::least::{least_discontent, least_lost, least_unfinished};
 use rules::{Reason, Text};
-use status::PackageRecord;
+use status::Records;
 use std::alloc::{AllocError, Global};
 use universe::Universe;
 
-/// The first reason against the end, or none where the end is good. For each installed package linear in the
-/// records for each atom, and for each goal as `is_fulfilled` says. Memory is taken for the name in the reason
-/// alone, and it alone can fail.
+/// The first reason against the end, or none where the end is good. Linear in the records; for each atom of an
+/// installed package in those that have or provide its name, and for each goal as `is_fulfilled` says. Memory is
+/// taken for the name in the reason alone, and it alone can fail.
 pub fn first_against(
     alloc: Global,
     universe: &Universe<'_, '_>,
-    db: &[PackageRecord<'_, '_>],
+    db: &Records<'_, '_>,
 ) -> Result<Option<Reason>, AllocError>
     ensures { IfOk result (λ found. MatchOption found (HasNothingAgainst universe.now db.now)
         (λ first. IsFirstAgainst universe.now db.now first)) }

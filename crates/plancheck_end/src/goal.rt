@@ -15,7 +15,7 @@ use crate::installed::{has_member, has_version};
 use crate::matching::is_same;
 use debversion::Version;
 use rules::{Goal, Restriction, VersionText};
-use status::PackageRecord;
+use status::{Holders, PackageRecord, Records};
 use universe::{Start, Universe};
 
 // The owned text as a version, which it is.
@@ -53,27 +53,22 @@ fn is_asked_for(
 }
 
 fn some_is_asked_for(
-    db: &[PackageRecord<'_, '_>],
+    mut found: Holders<'_, '_, '_>,
     name: &[u8],
     restriction: &Option<Restriction>,
 ) -> bool
     ensures { IsTrue result ↔ Any (λ found. IsInstalled found
-        × ((found.name ≡ name.now) × Meets found.version restriction.now)) db.now }
+        × ((found.name ≡ name.now) × Meets found.version restriction.now)) found.entry }
 {
-    db.iter()
-        .any(|found| is_asked_for(found, name, restriction))
+    found.any(|found| is_asked_for(found, name, restriction))
 }
 
 // Whether the name is installed in a version that meets the restriction.
-fn has_installed(
-    db: &[PackageRecord<'_, '_>],
-    name: &[u8],
-    restriction: &Option<Restriction>,
-) -> bool
+fn has_installed(db: &Records<'_, '_>, name: &[u8], restriction: &Option<Restriction>) -> bool
     ensures { IsTrue result
         ↔ Any (λ member. (member.name ≡ name.now) × Meets member.version restriction.now) (installed_of db.now) }
 {
-    some_is_asked_for(db, name, restriction)
+    some_is_asked_for(db.holders(name), name, restriction)
 }
 
 fn is_other_or_gone(found: &PackageRecord<'_, '_>, name: &[u8]) -> bool
@@ -82,14 +77,21 @@ fn is_other_or_gone(found: &PackageRecord<'_, '_>, name: &[u8]) -> bool
     !is_same(found.name(), name) || found.state().is_not_installed()
 }
 
-// Whether nothing of the name is left, configuration files included.
-fn is_gone(db: &[PackageRecord<'_, '_>], name: &[u8]) -> bool
-    ensures { IsTrue result ↔ All (λ found. found.name ≡ name.now → IsTrue (is_not_installed_state found.state)) db.now }
+fn are_others_or_gone(mut found: Holders<'_, '_, '_>, name: &[u8]) -> bool
+    ensures { IsTrue result
+        ↔ All (λ found. found.name ≡ name.now → IsTrue (is_not_installed_state found.state)) found.entry }
 {
-    db.iter().all(|found| is_other_or_gone(found, name))
+    found.all(|found| is_other_or_gone(found, name))
 }
 
-fn is_purged(db: &[PackageRecord<'_, '_>], name: &[u8]) -> bool
+// Whether nothing of the name is left, configuration files included.
+fn is_gone(db: &Records<'_, '_>, name: &[u8]) -> bool
+    ensures { IsTrue result ↔ All (λ found. found.name ≡ name.now → IsTrue (is_not_installed_state found.state)) db.now }
+{
+    are_others_or_gone(db.holders(name), name)
+}
+
+fn is_purged(db: &Records<'_, '_>, name: &[u8]) -> bool
     ensures { IsTrue result ↔ ((¬ HasMember name.now (installed_of db.now))
         × All (λ found. found.name ≡ name.now → IsTrue (is_not_installed_state found.state)) db.now) }
 {
@@ -97,7 +99,7 @@ fn is_purged(db: &[PackageRecord<'_, '_>], name: &[u8]) -> bool
 }
 
 // Whether the candidate of the name is installed.
-fn has_candidate(universe: &Universe<'_, '_>, db: &[PackageRecord<'_, '_>], name: &[u8]) -> bool
+fn has_candidate(universe: &Universe<'_, '_>, db: &Records<'_, '_>, name: &[u8]) -> bool
     ensures { IsTrue result ↔ MatchOption (candidate_of universe.now name.now) ⊥
         (λ candidate. HasVersion name.now candidate (installed_of db.now)) }
 {
@@ -115,7 +117,7 @@ fn is_behind(version: &Version<'_>, candidate: &Version<'_>) -> bool
 
 // Whether the name is upgraded, if it is unheld, stands and has a higher candidate.
 #[tactic(auto, unfolding(rules::specs::Sound::IsUpgraded))]
-fn is_upgraded(universe: &Universe<'_, '_>, db: &[PackageRecord<'_, '_>], start: &Start<'_>) -> bool
+fn is_upgraded(universe: &Universe<'_, '_>, db: &Records<'_, '_>, start: &Start<'_>) -> bool
     ensures { IsTrue result ↔ IsUpgraded universe.now (installed_of db.now) start.now }
 {
     match (start.standing(), universe.candidate(start.name())) {
@@ -128,7 +130,7 @@ fn is_upgraded(universe: &Universe<'_, '_>, db: &[PackageRecord<'_, '_>], start:
     }
 }
 
-fn are_upgraded(universe: &Universe<'_, '_>, db: &[PackageRecord<'_, '_>]) -> bool
+fn are_upgraded(universe: &Universe<'_, '_>, db: &Records<'_, '_>) -> bool
     ensures { IsTrue result ↔ All (IsUpgraded universe.now (installed_of db.now)) universe.now.starts }
 {
     universe
@@ -139,7 +141,7 @@ fn are_upgraded(universe: &Universe<'_, '_>, db: &[PackageRecord<'_, '_>]) -> bo
 
 // Whether the name, if it stands at the start, is installed.
 #[tactic(auto, unfolding(rules::specs::Sound::IsKept))]
-fn is_kept(db: &[PackageRecord<'_, '_>], start: &Start<'_>) -> bool
+fn is_kept(db: &Records<'_, '_>, start: &Start<'_>) -> bool
     ensures { IsTrue result ↔ IsKept (installed_of db.now) start.now }
 {
     match start.standing() {
@@ -148,15 +150,16 @@ fn is_kept(db: &[PackageRecord<'_, '_>], start: &Start<'_>) -> bool
     }
 }
 
-fn are_kept(db: &[PackageRecord<'_, '_>], starts: &[Start<'_>]) -> bool
+fn are_kept(db: &Records<'_, '_>, starts: &[Start<'_>]) -> bool
     ensures { IsTrue result ↔ All (IsKept (installed_of db.now)) starts.now }
 {
     starts.iter().all(|start| is_kept(db, start))
 }
 
 /// Whether the installed packages fulfil the goal, and nothing is left of a name that is to be purged. Linear in
-/// the records; for all upgrades and for no removals linear in them and the candidates for each name of the start.
-pub fn is_fulfilled(universe: &Universe<'_, '_>, db: &[PackageRecord<'_, '_>], goal: &Goal) -> bool
+/// the records that have or provide the name; for all upgrades and for no removals so for each name of the start,
+/// and in its candidates.
+pub fn is_fulfilled(universe: &Universe<'_, '_>, db: &Records<'_, '_>, goal: &Goal) -> bool
     ensures { IsTrue result ↔ IsFulfilled universe.now db.now goal.now }
 {
     match goal {
@@ -170,7 +173,7 @@ pub fn is_fulfilled(universe: &Universe<'_, '_>, db: &[PackageRecord<'_, '_>], g
 }
 
 /// The number, counted from 1, of the first goal that isn't fulfilled, if there is one.
-pub fn first_unfulfilled(universe: &Universe<'_, '_>, db: &[PackageRecord<'_, '_>]) -> Option<usize>
+pub fn first_unfulfilled(universe: &Universe<'_, '_>, db: &Records<'_, '_>) -> Option<usize>
     ensures { MatchOption result (All (IsFulfilled universe.now db.now) universe.now.goals)
         (λ number. IsFirstUnfulfilled universe.now db.now number) }
 {

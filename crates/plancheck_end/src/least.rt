@@ -8,7 +8,7 @@ ghost use Rattle.plancheck_end.specs.Least.{IsLeastWithout, least_with, lesser};
 
 use crate::content::is_content;
 use crate::installed::has_member;
-use status::PackageRecord;
+use status::{PackageRecord, Records};
 use std::cmp::Ordering;
 use universe::Start;
 
@@ -40,18 +40,19 @@ fn is_finished(found: &PackageRecord<'_, '_>) -> bool
 
 /// The least name that is half-installed, unpacked, half-configured or to be installed again, if there is one.
 /// Linear in the records.
-pub fn least_unfinished<'a>(db: &[PackageRecord<'_, 'a>]) -> Option<&'a [u8]>
+pub fn least_unfinished<'a>(db: &Records<'_, 'a>) -> Option<&'a [u8]>
     ensures { IsLeastWithout (λ found. ¬ IsUnfinished found) (λ found. found.name) db.now (option_copied result) }
 {
+    let records = db.as_slice();
     let mut least = None;
-    for found in db {
+    for found in records {
         least = least_with(least, is_finished(found), found.name());
     }
     least
 }
 
 // Whether the record isn't installed or its package is content.
-fn is_settled(db: &[PackageRecord<'_, '_>], found: &PackageRecord<'_, '_>) -> bool
+fn is_settled(db: &Records<'_, '_>, found: &PackageRecord<'_, '_>) -> bool
     ensures { IsTrue result ↔ (IsInstalled found.now → IsContent (installed_of db.now) (pkg_of found.now)) }
 {
     match found.present_pkg() {
@@ -61,13 +62,14 @@ fn is_settled(db: &[PackageRecord<'_, '_>], found: &PackageRecord<'_, '_>) -> bo
 }
 
 /// The least name of an installed package that has an unmet clause, or that conflicts with or breaks another, if
-/// there is one. For each installed package linear in the records for each atom.
-pub fn least_discontent<'a>(db: &[PackageRecord<'_, 'a>]) -> Option<&'a [u8]>
+/// there is one. For each atom of an installed package linear in the records that have or provide its name.
+pub fn least_discontent<'a>(db: &Records<'_, 'a>) -> Option<&'a [u8]>
     ensures { IsLeastWithout (λ found. IsInstalled found → IsContent (installed_of db.now) (pkg_of found))
         (λ found. found.name) db.now (option_copied result) }
 {
+    let records = db.as_slice();
     let mut least = None;
-    for found in db {
+    for found in records {
         least = least_with(least, is_settled(db, found), found.name());
     }
     least
@@ -75,15 +77,15 @@ pub fn least_discontent<'a>(db: &[PackageRecord<'_, 'a>]) -> Option<&'a [u8]>
 
 // Whether the name is installed, if it is essential and was present at the start.
 #[tactic(auto, unfolding(rules::specs::Sound::KeepsEssential))]
-fn keeps_essential(db: &[PackageRecord<'_, '_>], start: &Start<'_>) -> bool
+fn keeps_essential(db: &Records<'_, '_>, start: &Start<'_>) -> bool
     ensures { IsTrue result ↔ KeepsEssential (installed_of db.now) start.now }
 {
     !start.is_essential() || !start.is_present() || has_member(db, start.name())
 }
 
 /// The least essential name that was present at the start and isn't installed, if there is one. For each name of
-/// the start linear in the records.
-pub fn least_lost<'a>(db: &[PackageRecord<'_, '_>], starts: &[Start<'a>]) -> Option<&'a [u8]>
+/// the start linear in the records that have or provide it.
+pub fn least_lost<'a>(db: &Records<'_, '_>, starts: &[Start<'a>]) -> Option<&'a [u8]>
     ensures { IsLeastWithout (KeepsEssential (installed_of db.now)) (λ start. start.name) starts.now (option_copied result) }
 {
     let mut least = None;

@@ -14,16 +14,16 @@ use Rattle.plancheck_group.specs.Part.{AreSupplied, HasNoPartWithout, HasWhatPas
 use mathlib.Core.Logic.{inl, inr}
 
 -- the name of a list of one is in it
-alone : (name : List ℕ) → Contains (name ∷ []) name
+pub alone : (name : List ℕ) → Contains (name ∷ []) name
 alone name = Contains-head name []
 
 -- a name of a list of one is that one
-only : (name other : List ℕ) → Contains (name ∷ []) other → name ≡ other
+pub only : (name other : List ℕ) → Contains (name ∷ []) other → name ≡ other
 only name other within = elim (Contains-cons name [] other within)
     [ inl same ↦ same | inr none ↦ absurd (Contains-nil other none) ]
 
 -- what holds of each record of a name holds of those of a list of it alone
-of_alone : (P : Record → Type 0) (name : List ℕ) (db : List Record) → All (λ member. member.name ≡ name → P member) db
+pub of_alone : (P : Record → Type 0) (name : List ℕ) (db : List Record) → All (λ member. member.name ≡ name → P member) db
     → ForMembers P (name ∷ []) db
 of_alone P name db holds = All-weaker (λ member. member.name ≡ name → P member) (λ member. Contains (name ∷ []) member.name → P member)
     (λ member here within. here (sym (only name member.name within))) db holds
@@ -178,7 +178,7 @@ has_without db names front back name has lacks = record {
     ]
 
 -- a list is what stands before a place, the element there, and what stands behind it
-parted : (names : List (List ℕ)) (place : ℕ) → place < length names
+pub parted : (names : List (List ℕ)) (place : ℕ) → place < length names
     → names ≡ take place names ++ get_or names place [] ∷ drop (place + 1) names
 parted names place within = sym (take-append-drop place names)
     ∙ ap (λ rest. take place names ++ rest) (drop_more names place [] within)

@@ -8,12 +8,12 @@ use Rattle.rules.specs.ElementLaws.{Any-elim, Contains-cons, Contains-head, Cont
 use mathlib.Core.Logic.{inl, inr}
 
 -- a name of a list of one is that one
-only_name : (name other : List ℕ) → Contains (name ∷ []) other → name ≡ other
+pub only_name : (name other : List ℕ) → Contains (name ∷ []) other → name ≡ other
 only_name name other within = elim (Contains-cons name [] other within)
     [ inl same ↦ same | inr none ↦ absurd (Contains-nil other none) ]
 
 -- a list of one name has no proper part
-no_proper_part : (name : List ℕ) (part : List (List ℕ)) → ¬ IsProperPart part (name ∷ [])
+pub no_proper_part : (name : List ℕ) (part : List (List ℕ)) → ¬ IsProperPart part (name ∷ [])
 no_proper_part name [] proper = absurd (let e = proper.some in omega arith)
 no_proper_part name (first ∷ rest) proper = Any-elim (λ other. ¬ Contains (first ∷ rest) other) (name ∷ []) ⊥
     (λ other within lacks. lacks (subst (Contains (first ∷ rest))

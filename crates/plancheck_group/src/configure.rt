@@ -4,15 +4,15 @@ ghost use Rattle.std.specs.Prelude.{◌≡◌, ◌≢◌, ◌↔◌, ◌++◌, I
 ghost use Rattle.std.specs.List.{All, Any, Contains};
 ghost use Rattle.rules.specs.Configure.{AreConfigurable, HasConfigurable, AreDependsInstalled, ArePreDependsInstalled, AreUnbroken, IsConfigurable, IsUnbroken, is_present_among, members_of};
 ghost use Rattle.rules.specs.Database.{ForMembers, ForOthers, HasRecord, IsInstalled, IsPresent, installed_of, pkg_of};
-ghost use Rattle.rules.specs.Package.{BreaksOther, MatchesSome, MeetsClause};
+ghost use Rattle.rules.specs.Package.{BreaksOther, Matches, MatchesSome, MeetsClause};
 ghost use Rattle.rules.specs.Sound.{MeetsClauses};
 ghost use Rattle.rules.specs.Step.{is_among};
 ghost use Rattle.plancheck_group.specs.Part.{AreSupplied};
 
-use plancheck_end::{are_met, breaks_other, is_met, is_same, matches_some};
-use relation::{Clause, Pkg};
+use plancheck_end::{are_met, breaks_other, is_met, is_same};
+use relation::{Atom, Clause, Pkg};
 use rules::Name;
-use status::PackageRecord;
+use status::{Holders, PackageRecord, Records};
 
 fn is_configurable(found: &PackageRecord<'_, '_>, name: &[u8]) -> bool
     ensures { IsTrue result ↔ ((found.now.name ≡ name.now) × IsConfigurable found.now) }
@@ -20,16 +20,22 @@ fn is_configurable(found: &PackageRecord<'_, '_>, name: &[u8]) -> bool
     is_same(found.name(), name) && found.state().is_unconfigured() && found.flag().is_sound()
 }
 
-#[tactic(auto, unfolding(rules::specs::Configure::HasConfigurable))]
-fn has_configurable(db: &[PackageRecord<'_, '_>], name: &[u8]) -> bool
-    ensures { IsTrue result ↔ HasConfigurable db.now name.now }
+fn some_is_configurable(mut found: Holders<'_, '_, '_>, name: &[u8]) -> bool
+    ensures { IsTrue result ↔ HasRecord IsConfigurable name.now found.entry }
 {
-    db.iter().any(|found| is_configurable(found, name))
+    found.any(|found| is_configurable(found, name))
 }
 
-/// Whether each name of the group has a record that may be configured. Linear in the records for each name.
+fn has_configurable(db: &Records<'_, '_>, name: &[u8]) -> bool
+    ensures { IsTrue result ↔ HasConfigurable db.now name.now }
+{
+    some_is_configurable(db.holders(name), name)
+}
+
+/// Whether each name of the group has a record that may be configured. For each name linear in the records that have or
+/// provide it.
 #[tactic(auto, unfolding(rules::specs::Configure::AreConfigurable))]
-pub fn are_configurable(db: &[PackageRecord<'_, '_>], names: &[Name]) -> bool
+pub fn are_configurable(db: &Records<'_, '_>, names: &[Name]) -> bool
     ensures { IsTrue result ↔ AreConfigurable db.now names.now }
 {
     names
@@ -51,26 +57,46 @@ fn is_member(names: &[Name], found: &PackageRecord<'_, '_>) -> bool
     is_among(names, found)
 }
 
-// Whether the record isn't of these names, or its Pre-Depends are met by installed packages.
-fn is_other_or_prepared(
-    db: &[PackageRecord<'_, '_>],
-    names: &[Name],
-    member: &PackageRecord<'_, '_>,
-) -> bool
-    ensures { IsTrue result ↔ (Contains names.now member.now.name
+// Whether the record is of another name, or its Pre-Depends are met by installed packages.
+fn is_other_or_prepared(db: &Records<'_, '_>, name: &[u8], member: &PackageRecord<'_, '_>) -> bool
+    ensures { IsTrue result ↔ (member.now.name ≡ name.now
         → MeetsClauses (installed_of db.now) member.now.relations.pre_depends) }
 {
-    !is_member(names, member) || are_met(db, member.pre_depends())
+    !is_same(member.name(), name) || are_met(db, member.pre_depends())
 }
 
-/// Whether each Pre-Depends clause of the group's members is met by installed packages. For each member linear
-/// in the records for each clause.
-#[tactic(auto, unfolding(rules::specs::Configure::ArePreDependsInstalled))]
-pub fn are_pre_depends_installed(db: &[PackageRecord<'_, '_>], names: &[Name]) -> bool
+fn are_others_or_prepared(
+    db: &Records<'_, '_>,
+    mut members: Holders<'_, '_, '_>,
+    name: &[u8],
+) -> bool
+    ensures { IsTrue result ↔ All (λ member. member.name ≡ name.now
+        → MeetsClauses (installed_of db.now) member.relations.pre_depends) members.entry }
+{
+    members.all(|member| is_other_or_prepared(db, name, member))
+}
+
+// Whether the Pre-Depends of the name's package are met by installed packages.
+fn is_prepared(db: &Records<'_, '_>, name: &[u8]) -> bool
+    ensures { IsTrue result ↔ All (λ member. member.name ≡ name.now
+        → MeetsClauses (installed_of db.now) member.relations.pre_depends) db.now }
+{
+    are_others_or_prepared(db, db.holders(name), name)
+}
+
+fn are_prepared(db: &Records<'_, '_>, names: &[Name]) -> bool
+    ensures { IsTrue result ↔ All (λ name. All (λ member. member.name ≡ name
+        → MeetsClauses (installed_of db.now) member.relations.pre_depends) db.now) names.now }
+{
+    names.iter().all(|name| is_prepared(db, name.as_bytes()))
+}
+
+/// Whether each Pre-Depends clause of the group's members is met by installed packages, each tested as
+/// `plancheck_end::is_met` says.
+pub fn are_pre_depends_installed(db: &Records<'_, '_>, names: &[Name]) -> bool
     ensures { IsTrue result ↔ ArePreDependsInstalled db.now names.now }
 {
-    db.iter()
-        .all(|member| is_other_or_prepared(db, names, member))
+    are_prepared(db, names)
 }
 
 // Whether a present package of another name breaks the package of the record.
@@ -89,17 +115,19 @@ fn is_spared_by(
     }
 }
 
-fn is_spared(db: &[PackageRecord<'_, '_>], member: &PackageRecord<'_, '_>, here: &Pkg<'_>) -> bool
+fn is_spared(db: &Records<'_, '_>, member: &PackageRecord<'_, '_>, here: &Pkg<'_>) -> bool
     requires { here.now ≡ pkg_of member.now }
     ensures { IsTrue result ↔ ForOthers (λ other. IsPresent other → ¬ BreaksOther (pkg_of other) (pkg_of member.now))
         member.now.name db.now }
 {
-    db.iter().all(|other| is_spared_by(other, member, here))
+    db.as_slice()
+        .iter()
+        .all(|other| is_spared_by(other, member, here))
 }
 
 // Whether no present package of another name breaks the package of the record, if it is present.
 #[tactic(auto, unfolding(rules::specs::Configure::IsUnbroken))]
-fn is_unbroken(db: &[PackageRecord<'_, '_>], member: &PackageRecord<'_, '_>) -> bool
+fn is_unbroken(db: &Records<'_, '_>, member: &PackageRecord<'_, '_>) -> bool
     ensures { IsTrue result ↔ IsUnbroken db.now member.now }
 {
     match member.present_pkg() {
@@ -109,7 +137,7 @@ fn is_unbroken(db: &[PackageRecord<'_, '_>], member: &PackageRecord<'_, '_>) -> 
 }
 
 fn is_other_or_unbroken(
-    db: &[PackageRecord<'_, '_>],
+    db: &Records<'_, '_>,
     names: &[Name],
     member: &PackageRecord<'_, '_>,
 ) -> bool
@@ -121,72 +149,122 @@ fn is_other_or_unbroken(
 /// Whether no present package of another name breaks a member of the group. For each member linear in the
 /// records.
 #[tactic(auto, unfolding(rules::specs::Configure::AreUnbroken))]
-pub fn are_unbroken(db: &[PackageRecord<'_, '_>], names: &[Name]) -> bool
+pub fn are_unbroken(db: &Records<'_, '_>, names: &[Name]) -> bool
     ensures { IsTrue result ↔ AreUnbroken db.now names.now }
 {
-    db.iter()
+    db.as_slice()
+        .iter()
         .all(|member| is_other_or_unbroken(db, names, member))
 }
 
-// Whether the record is present, of one of the names, and matches the clause.
-fn matches_among(names: &[Name], found: &PackageRecord<'_, '_>, clause: &Clause<'_>) -> bool
+// Whether the record is present, of one of the names, and matches the atom.
+fn matches_among(names: &[Name], found: &PackageRecord<'_, '_>, atom: &Atom<'_>) -> bool
     ensures { IsTrue result
-        ↔ ((is_present_among names.now found.now ≡ true) × MatchesSome (pkg_of found.now) clause.now) }
+        ↔ ((is_present_among names.now found.now ≡ true) × Matches (pkg_of found.now) atom.now) }
 {
     match found.present_pkg() {
-        Some(there) => is_among(names, found) && matches_some(there, clause.as_slice()),
+        Some(there) => is_among(names, found) && atom.matched_by(there),
         None => false,
     }
 }
 
-fn some_matches_among(db: &[PackageRecord<'_, '_>], names: &[Name], clause: &Clause<'_>) -> bool
+fn some_holder_matches(mut found: Holders<'_, '_, '_>, names: &[Name], atom: &Atom<'_>) -> bool
+    ensures { IsTrue result ↔ Any (λ found. (is_present_among names.now found ≡ true)
+        × Matches (pkg_of found) atom.now) found.entry }
+{
+    found.any(|found| matches_among(names, found, atom))
+}
+
+fn is_atom_met_among(db: &Records<'_, '_>, names: &[Name], atom: &Atom<'_>) -> bool
+    ensures { IsTrue result ↔ Any (λ found. (is_present_among names.now found ≡ true)
+        × Matches (pkg_of found) atom.now) db.now }
+{
+    some_holder_matches(db.holders(atom.name()), names, atom)
+}
+
+fn some_atom_is_met_among(db: &Records<'_, '_>, names: &[Name], atoms: &[Atom<'_>]) -> bool
+    ensures { IsTrue result ↔ Any (λ atom. Any (λ found. (is_present_among names.now found ≡ true)
+        × Matches (pkg_of found) atom) db.now) atoms.now }
+{
+    atoms.iter().any(|atom| is_atom_met_among(db, names, atom))
+}
+
+// Whether a member matches the clause.
+fn some_matches_among(db: &Records<'_, '_>, names: &[Name], clause: &Clause<'_>) -> bool
     ensures { IsTrue result ↔ Any (λ found. (is_present_among names.now found ≡ true)
         × MatchesSome (pkg_of found) clause.now) db.now }
 {
-    db.iter().any(|found| matches_among(names, found, clause))
+    some_atom_is_met_among(db, names, clause.as_slice())
 }
 
 // Whether an installed package or a member matches the clause.
-fn is_met_with(db: &[PackageRecord<'_, '_>], names: &[Name], clause: &Clause<'_>) -> bool
+fn is_met_with(db: &Records<'_, '_>, names: &[Name], clause: &Clause<'_>) -> bool
     ensures { IsTrue result ↔ MeetsClause (installed_of db.now ++ members_of names.now db.now) clause.now }
 {
     is_met(db, clause) || some_matches_among(db, names, clause)
 }
 
 #[tactic(auto, unfolding(rules::specs::Sound::MeetsClauses))]
-fn are_met_with(db: &[PackageRecord<'_, '_>], names: &[Name], clauses: &[Clause<'_>]) -> bool
+fn are_met_with(db: &Records<'_, '_>, names: &[Name], clauses: &[Clause<'_>]) -> bool
     ensures { IsTrue result ↔ MeetsClauses (installed_of db.now ++ members_of names.now db.now) clauses.now }
 {
     clauses.iter().all(|clause| is_met_with(db, names, clause))
 }
 
-// Whether the record isn't of these names, or its Depends are met by installed packages and the part's.
+// Whether the record is of another name, or its Depends are met by installed packages and the part's.
 fn is_other_or_supplied(
-    db: &[PackageRecord<'_, '_>],
+    db: &Records<'_, '_>,
     part: &[Name],
-    names: &[Name],
+    name: &[u8],
     member: &PackageRecord<'_, '_>,
 ) -> bool
-    ensures { IsTrue result ↔ (Contains names.now member.now.name
+    ensures { IsTrue result ↔ (member.now.name ≡ name.now
         → MeetsClauses (installed_of db.now ++ members_of part.now db.now) member.now.relations.depends) }
 {
-    !is_member(names, member) || are_met_with(db, part, member.depends())
+    !is_same(member.name(), name) || are_met_with(db, part, member.depends())
+}
+
+fn are_others_or_supplied(
+    db: &Records<'_, '_>,
+    part: &[Name],
+    mut members: Holders<'_, '_, '_>,
+    name: &[u8],
+) -> bool
+    ensures { IsTrue result ↔ All (λ member. member.name ≡ name.now
+        → MeetsClauses (installed_of db.now ++ members_of part.now db.now) member.relations.depends) members.entry }
+{
+    members.all(|member| is_other_or_supplied(db, part, name, member))
+}
+
+// Whether the Depends of the name's package are met by installed packages and the part's.
+fn is_supplied(db: &Records<'_, '_>, part: &[Name], name: &[u8]) -> bool
+    ensures { IsTrue result ↔ All (λ member. member.name ≡ name.now
+        → MeetsClauses (installed_of db.now ++ members_of part.now db.now) member.relations.depends) db.now }
+{
+    are_others_or_supplied(db, part, db.holders(name), name)
+}
+
+fn are_each_supplied(db: &Records<'_, '_>, part: &[Name], names: &[Name]) -> bool
+    ensures { IsTrue result ↔ All (λ name. All (λ member. member.name ≡ name
+        → MeetsClauses (installed_of db.now ++ members_of part.now db.now) member.relations.depends) db.now) names.now }
+{
+    names
+        .iter()
+        .all(|name| is_supplied(db, part, name.as_bytes()))
 }
 
 /// Whether each Depends clause of the packages of these names is met by installed packages and those of the
-/// part. For each of them linear in the records for each clause.
-#[tactic(auto, unfolding(crate::specs::Part::AreSupplied))]
-pub fn are_supplied(db: &[PackageRecord<'_, '_>], part: &[Name], names: &[Name]) -> bool
+/// part. For each atom linear in the records that have or provide its name, for each in the part.
+pub fn are_supplied(db: &Records<'_, '_>, part: &[Name], names: &[Name]) -> bool
     ensures { IsTrue result ↔ AreSupplied db.now part.now names.now }
 {
-    db.iter()
-        .all(|member| is_other_or_supplied(db, part, names, member))
+    are_each_supplied(db, part, names)
 }
 
-/// Whether each Depends clause of the group's members is met by installed packages and members. For each member
-/// linear in the records for each clause.
+/// Whether each Depends clause of the group's members is met by installed packages and members. For each atom linear
+/// in the records that have or provide its name, for each in the members.
 #[tactic(auto, unfolding(crate::specs::Part::AreSupplied, rules::specs::Configure::AreDependsInstalled))]
-pub fn are_depends_installed(db: &[PackageRecord<'_, '_>], names: &[Name]) -> bool
+pub fn are_depends_installed(db: &Records<'_, '_>, names: &[Name]) -> bool
     ensures { IsTrue result ↔ AreDependsInstalled db.now names.now }
 {
     are_supplied(db, names, names)

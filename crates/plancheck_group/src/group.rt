@@ -8,12 +8,12 @@ ghost use Rattle.plancheck_group.specs.Part.{HasNoPartWithout, IsPartWith, IsRea
 
 use crate::part::{first_unsupplied, others_of, ready_of};
 use rules::{Name, indivisible_by_others};
-use status::PackageRecord;
+use status::Records;
 use std::alloc::{AllocError, Global};
 
 // Drops the names whose Depends the others don't meet, one by one: what such a name lacks is lacking in every part of
 // the group, so no part that passes has it.
-fn keep_supplied(db: &[PackageRecord<'_, '_>], part: &mut Vec<Name>)
+fn keep_supplied(db: &Records<'_, '_>, part: &mut Vec<Name>)
     requires { All (IsReady db.now) part.old.items }
     ensures { IsGreatestPart db.now part.old.items part.new.items }
 {
@@ -24,10 +24,10 @@ fn keep_supplied(db: &[PackageRecord<'_, '_>], part: &mut Vec<Name>)
 
 /// The names of the greatest part of the group that passes the tests of a configuring together, but for the one of its
 /// parts: it has each name of every part that does. A name is tested once for each name that is dropped, and once more;
-/// a test is linear in the records for each clause. Memory alone can fail.
+/// a test costs what `are_supplied` says. Memory alone can fail.
 pub fn greatest_part(
     alloc: Global,
-    db: &[PackageRecord<'_, '_>],
+    db: &Records<'_, '_>,
     names: &[Name],
 ) -> Result<Vec<Name>, AllocError>
     ensures { IfOk result (λ part. IsGreatestPart db.now names.now part.items) }
@@ -40,7 +40,7 @@ pub fn greatest_part(
 // The names of the greatest part that passes of these names but for one.
 fn part_without(
     alloc: Global,
-    db: &[PackageRecord<'_, '_>],
+    db: &Records<'_, '_>,
     ready: &[Name],
     name: &Name,
 ) -> Result<Vec<Name>, AllocError>
@@ -55,7 +55,7 @@ fn part_without(
 // Whether for each of these names the greatest part of the others that passes is empty.
 fn has_no_part(
     alloc: Global,
-    db: &[PackageRecord<'_, '_>],
+    db: &Records<'_, '_>,
     names: &[Name],
     ready: &[Name],
 ) -> Result<bool, AllocError>
@@ -75,7 +75,7 @@ fn has_no_part(
 /// greatest part of the others is looked for once for each name. Memory alone can fail.
 pub fn is_indivisible(
     alloc: Global,
-    db: &[PackageRecord<'_, '_>],
+    db: &Records<'_, '_>,
     names: &[Name],
 ) -> Result<bool, AllocError>
     ensures { IfOk result (λ answer. IsTrue answer ↔ IsIndivisible db.now names.now) }

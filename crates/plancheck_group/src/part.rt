@@ -7,24 +7,24 @@ ghost use Rattle.plancheck_group.specs.Part.{IsPartWith, IsReady, IsSupplied};
 use crate::configure::{are_configurable, are_pre_depends_installed, are_supplied, are_unbroken};
 use plancheck_end::is_same;
 use rules::Name;
-use status::PackageRecord;
+use status::Records;
 use std::alloc::{AllocError, Global};
 use std::slice::from_ref;
 
 // Whether the name passes the tests that ask nothing of other names.
 #[tactic(auto, unfolding(crate::specs::Part::IsReady))]
-fn is_ready(db: &[PackageRecord<'_, '_>], name: &Name) -> bool
+fn is_ready(db: &Records<'_, '_>, name: &Name) -> bool
     ensures { IsTrue result ↔ IsReady db.now name.now }
 {
     let alone = from_ref(name);
     are_configurable(db, alone) && are_pre_depends_installed(db, alone) && are_unbroken(db, alone)
 }
 
-/// The names that pass the tests which ask nothing of other names. Linear in the records for each clause of
-/// these names. Memory alone can fail.
+/// The names that pass the tests which ask nothing of other names. For each name linear in the records. Memory
+/// alone can fail.
 pub fn ready_of(
     alloc: Global,
-    db: &[PackageRecord<'_, '_>],
+    db: &Records<'_, '_>,
     names: &[Name],
 ) -> Result<Vec<Name>, AllocError>
     ensures { IfOk result (λ ready. IsPartWith (IsReady db.now) names.now ready.items) }
@@ -52,15 +52,16 @@ pub fn others_of(alloc: Global, names: &[Name], name: &Name) -> Result<Vec<Name>
 }
 
 // Whether the Depends of the name's package are met by installed packages and the part.
-fn is_supplied(db: &[PackageRecord<'_, '_>], part: &[Name], name: &Name) -> bool
+fn is_supplied(db: &Records<'_, '_>, part: &[Name], name: &Name) -> bool
     ensures { IsTrue result ↔ IsSupplied db.now part.now name.now }
 {
     are_supplied(db, part, from_ref(name))
 }
 
 /// The place of the first name whose package has a Depends clause that neither installed packages nor the
-/// part's meet, if there is one. For each name linear in the records for each clause.
-pub fn first_unsupplied(db: &[PackageRecord<'_, '_>], part: &[Name]) -> Option<usize>
+/// part's meet, if there is one. For each name the cost is that
+/// of `are_supplied`.
+pub fn first_unsupplied(db: &Records<'_, '_>, part: &[Name]) -> Option<usize>
     ensures { MatchOption result (All (IsSupplied db.now part.now) part.now)
         (λ place. (place < length part.now)
         × ((d : List ℕ) → ¬ IsSupplied db.now part.now (get_or part.now place d))) }

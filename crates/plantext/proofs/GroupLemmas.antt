@@ -1,9 +1,11 @@
--- Names of which each is before the next are ascending, since the order of names is transitive.
-use Rattle.std.proofs.Common.{◌≡◌, ℕ, Bool, true, false, ◌&&◌, List, [], ◌∷◌, refl, arith}
+-- Names of which each is before the next are ascending, since the order of names is transitive; and ascending names are
+-- so.
+use Rattle.std.proofs.Common.{◌≡◌, ℕ, Bool, true, false, ◌&&◌, List, [], ◌∷◌, ◌<◌, length, suc, refl, ap, arith}
 use Rattle.std.proofs.lemmas.Cmp.{nat_list_cmp_total}
 use Rattle.std.proofs.lemmas.List.Elements.{All-cons, All-nil}
 use Rattle.std.proofs.lemmas.List.Kept.{AllPairs-cons}
-use Rattle.std.specs.List.{All}
+use Rattle.std.proofs.lemmas.Bool.{and_parts, ne_eqb}
+use Rattle.std.specs.List.{All, list_all}
 use Rattle.std.specs.Ordering.{is_lt}
 use Rattle.std.specs.Prelude.{IsTrue, slice_index_or}
 use Rattle.std.proofs.lemmas.Grind.{common_steps}
@@ -60,3 +62,23 @@ ascending (word ∷ later) h =
 pub group_ascending : (words : List (List ℕ)) → IsTrue (is_group words) → IsAscending words
 group_ascending [] h = empty_ascending
 group_ascending (word ∷ later) h = ascending (word ∷ later) (grind (arith, common_steps))
+
+-- Names that ascend are a group, if there is one
+
+ascending_later : (word : List ℕ) (later : List (List ℕ)) → IsAscending (word ∷ later) → IsAscending later
+ascending_later word later h i j d before within = h (suc i) (suc j) d (omega arith) (omega arith)
+
+first_before : (word : List ℕ) (later : List (List ℕ)) → IsAscending (word ∷ later) → is_before_first word later ≡ true
+first_before word [] h = refl
+first_before word (next ∷ later) h = ap is_lt (h 0 1 word (omega arith) (omega arith))
+
+names_ascend : (words : List (List ℕ)) → IsAscending words → list_all is_name words ≡ true → are_ascending_names words ≡ true
+names_ascend [] ascends names = refl
+names_ascend (word ∷ later) ascends names =
+    let both = and_parts (is_name word) (list_all is_name later) names in
+    rw (both.0, first_before word later ascends) (names_ascend later (ascending_later word later ascends) both.1)
+
+pub ascending_group : (words : List (List ℕ)) → IsAscending words → 0 < length words → list_all is_name words ≡ true → is_group words ≡ true
+ascending_group [] ascends some names = absurd (omega arith)
+ascending_group (word ∷ later) ascends some names =
+    rw (ne_eqb (length (word ∷ later)) 0 (λ e. omega arith)) (names_ascend (word ∷ later) ascends names)

@@ -1,3 +1,5 @@
+pub mod AgainLemmas
+pub mod ByteLemmas
 pub mod GroupLemmas
 pub mod PartLemmas
 pub mod PlanLemmas

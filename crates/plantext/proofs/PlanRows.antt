@@ -3,9 +3,9 @@ use Rattle.std.proofs.Common.{◌≡◌, [], ◌∷◌, ◌++◌, Ok, Err, refl}
 use Rattle.std.specs.Prelude.{codes}
 use Rattle.rules.specs.declared.step.Step.{Step}
 use Rattle.rules.specs.declared.step.Step.TheVariants.{Unpack, Configure, Purge}
-use Rattle.plantext.specs.Plan.{counted_step, plan_text}
-use Rattle.plantext.specs.StepLine.{step_line}
-use Rattle.plantext.specs.declared.error.PlanFault.TheVariants.{TooLarge}
+use Rattle.plantext.specs.Plan.{counted_step, plan_text, read_step}
+use Rattle.plantext.specs.StepLine.{step_line, step_of}
+use Rattle.plantext.specs.declared.error.PlanFault.TheVariants.{BadPlan, TooLarge}
 
 -- the millionth step is read, and the next is one too many
 last_step : (step : Step) → counted_step 1000000 step ≡ Ok step
@@ -32,3 +32,16 @@ empty_text = refl
 purge_text : plan_text (Purge (codes "q") ∷ []) ≡ codes "plan 1" ++ 10 ∷ codes "purge q" ++ 10 ∷ []
 unfolding plan_text step_line
 purge_text = refl
+
+-- one step's line is read with its newline alone
+purge_read : read_step (codes "purge q" ++ 10 ∷ []) ≡ Ok (Purge (codes "q"))
+unfolding read_step step_of
+purge_read = refl
+
+unended_refused : read_step (codes "purge q") ≡ Err (BadPlan 1)
+unfolding read_step
+unended_refused = refl
+
+two_refused : read_step (codes "purge q" ++ 10 ∷ codes "purge q" ++ 10 ∷ []) ≡ Err (BadPlan 1)
+unfolding read_step
+two_refused = refl

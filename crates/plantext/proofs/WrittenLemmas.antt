@@ -3,7 +3,7 @@ use Rattle.std.proofs.Common.{◌≡◌, ℕ, ◌+◌, true, ltb, List, [], ◌�
 use Rattle.std.proofs.lemmas.Bool.{cases_Bool}
 use Rattle.std.proofs.lemmas.List.Splits.{join_with_byte-slice_split}
 use Rattle.std.specs.List.{flat_map, join_with_byte}
-use Rattle.std.specs.Option.{is_none, option_and_then, option_map}
+use Rattle.std.specs.Option.{is_none, ok_or, option_and_then, option_map}
 use Rattle.std.specs.Prelude.{codes}
 use Rattle.std.specs.Str.{bytes_eq}
 use Rattle.rules.specs.Name.{is_name}
@@ -14,9 +14,10 @@ use Rattle.rules.specs.declared.step.Step.{Step}
 use Rattle.rules.specs.declared.step.Step.TheVariants.{Unpack, Deconfigure, Configure, Remove, Purge}
 use Rattle.plantext.specs.Cut.{parts_at}
 use Rattle.plantext.specs.Group.{is_group}
-use Rattle.plantext.specs.Plan.{header, numbered_step, plan_text, put_step, read_end, read_lines, read_plan, read_step, read_steps}
+use Rattle.plantext.specs.Plan.{header, numbered_step, only_line, plan_text, put_step, read_end, read_lines, read_plan, read_step, read_steps, step_in_line}
 use Rattle.plantext.specs.StepLine.{configure_of, name_in, only_name, only_version, step_by, step_line, step_of, step_of_words, unpack_of, version_in, words_of}
 use Rattle.plantext.specs.declared.error.PlanFault.{PlanFault}
+use Rattle.plantext.specs.declared.error.PlanFault.TheVariants.{BadPlan}
 
 -- Words
 
@@ -126,7 +127,7 @@ steps_are : (number : ℕ) (parts : List (List ℕ)) (steps : List Step) → rea
 steps_are number [] steps h = cc
 steps_are number (last ∷ []) steps h = end_is number last steps h
 steps_are number (line ∷ next ∷ later) steps h =
-    let put = puts (read_step number line) (read_steps (number + 1) (next ∷ later)) steps h in
+    let put = puts (step_in_line number line) (read_steps (number + 1) (next ∷ later)) steps h in
     let behind = steps_are (number + 1) (next ∷ later) put.more put.behind in
     let here = line_is line put.step (numbered_is number (step_of line) put.step put.here) in
     sym (append_assoc line (10 ∷ []) (join_with_byte 10 (next ∷ later)))
@@ -150,4 +151,29 @@ unfolding read_plan
 read_is_written text steps h = elim (cases_Bool (ltb TEXT_BYTES (length text))) [
   | inl e ↦ cc (rw e at h)
   | inr e ↦ sym (join_with_byte-slice_split 10 text) ∙ lines_are (parts_at 10 text) steps (rw e at h)
+]
+
+-- the line that is all, and its newline, are the text
+only_line_is : (parts : List (List ℕ)) (line : List ℕ) → only_line parts ≡ Some line → join_with_byte 10 parts ≡ line ++ 10 ∷ []
+only_line_is [] line h = cc
+only_line_is (last ∷ []) line h = cc
+only_line_is (first ∷ [] ∷ []) line h = let same : first ≡ line = cc in rw same refl
+only_line_is (first ∷ (b ∷ bytes) ∷ []) line h = cc
+only_line_is (first ∷ next ∷ last ∷ later) line h = cc
+
+only_step_is : (text : List ℕ) (found : Option (List ℕ)) (step : Step) → only_line (parts_at 10 text) ≡ found
+    → ok_or (option_and_then step_of found) (BadPlan 1) ≡ Ok step → text ≡ step_line step
+only_step_is text None step e h = cc
+only_step_is text (Some line) step e h = go (step_of line) refl h where
+  go : (read : Option Step) → step_of line ≡ read → ok_or read (BadPlan 1) ≡ Ok step → text ≡ step_line step
+  go None r g = cc
+  go (Some other) r g =
+      let same : other ≡ step = cc in
+      sym (join_with_byte-slice_split 10 text) ∙ only_line_is (parts_at 10 text) line e ∙ line_is line step (rw same at r)
+
+pub step_read_is_written : (text : List ℕ) (step : Step) → read_step text ≡ Ok step → text ≡ step_line step
+unfolding read_step
+step_read_is_written text step h = elim (cases_Bool (ltb TEXT_BYTES (length text))) [
+  | inl e ↦ cc (rw e at h)
+  | inr e ↦ only_step_is text (only_line (parts_at 10 text)) step refl (rw e at h)
 ]

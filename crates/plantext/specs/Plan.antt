@@ -1,7 +1,8 @@
 -- The text of a plan (this project's own): the line `plan 1`, and then a line for each step. Each line ends with a
 -- newline, so that newlines part the text into the lines and, last, nothing.
-use Rattle.std.specs.Prelude.{ℕ, ◌+◌, List, [], ◌∷◌, ◌++◌, length, nat_lt, Option, Some, None, Result, Ok, Err, codes, if◌then◌else◌}
+use Rattle.std.specs.Prelude.{◌≡◌, ℕ, ◌+◌, ◌≤◌, List, [], ◌∷◌, ◌++◌, length, nat_lt, Option, Some, None, Result, Ok, Err, codes, if◌then◌else◌}
 use Rattle.std.specs.List.{flat_map}
+use Rattle.std.specs.Option.{ok_or, option_and_then}
 use Rattle.std.specs.Str.{bytes_eq}
 use Rattle.rules.specs.declared.limits.TheConstants.{STEPS, TEXT_BYTES}
 use Rattle.rules.specs.declared.step.Step.{Step}
@@ -27,8 +28,8 @@ numbered_step number None = Err (BadPlan (number + 1))
 numbered_step number (Some step) = counted_step number step
 
 -- the step of this number in its line, which has its newline
-abbrev pub read_step : ℕ → List ℕ → Result Step PlanFault
-read_step number line = numbered_step number (step_of line)
+abbrev pub step_in_line : ℕ → List ℕ → Result Step PlanFault
+step_in_line number line = numbered_step number (step_of line)
 
 -- the steps before those that are read behind them
 abbrev pub put_steps : List Step → Result (List Step) PlanFault → Result (List Step) PlanFault
@@ -49,7 +50,7 @@ read_end number (b ∷ bytes) = Err (BadPlan (number + 1))
 abbrev pub read_steps : ℕ → List (List ℕ) → Result (List Step) PlanFault
 read_steps number [] = Err (BadPlan number)
 read_steps number (last ∷ []) = read_end number last
-read_steps number (line ∷ next ∷ later) = put_step (read_step number line) (read_steps (number + 1) (next ∷ later))
+read_steps number (line ∷ next ∷ later) = put_step (step_in_line number line) (read_steps (number + 1) (next ∷ later))
 
 -- the steps of what newlines part, of which the first has to be the header
 abbrev pub read_lines : List (List ℕ) → Result (List Step) PlanFault
@@ -60,8 +61,29 @@ read_lines (first ∷ later) = if bytes_eq first header then read_steps 1 later 
 unfoldable pub read_plan : List ℕ → Result (List Step) PlanFault
 read_plan text = if nat_lt TEXT_BYTES (length text) then Err TooLarge else read_lines (parts_at NEWLINE text)
 
+-- the line of which newlines part nothing more: all but the newline at its end
+abbrev pub only_line : List (List ℕ) → Option (List ℕ)
+only_line [] = None
+only_line (last ∷ []) = None
+only_line (line ∷ [] ∷ []) = Some line
+only_line (line ∷ (b ∷ bytes) ∷ []) = None
+only_line (line ∷ next ∷ last ∷ later) = None
+
+-- the step of a text that is one step's line with its newline, or its refusal, which is of its first line
+unfoldable pub read_step : List ℕ → Result Step PlanFault
+read_step text = if nat_lt TEXT_BYTES (length text) then Err TooLarge
+    else ok_or (option_and_then step_of (only_line (parts_at NEWLINE text))) (BadPlan 1)
+
 -- Writing
 
 -- the text of a plan with these steps
 unfoldable pub plan_text : List Step → List ℕ
 plan_text steps = header ++ NEWLINE ∷ [] ++ flat_map step_line steps
+
+-- the text is read as these steps, unless it is too long or they are too many
+abbrev pub IsReadAsPlan : List Step → List ℕ → Type 0
+IsReadAsPlan steps text = length text ≤ TEXT_BYTES → length steps ≤ STEPS → read_plan text ≡ Ok steps
+
+-- the text is read as this step, unless it is too long
+abbrev pub IsReadAsStep : Step → List ℕ → Type 0
+IsReadAsStep step text = length text ≤ TEXT_BYTES → read_step text ≡ Ok step

@@ -1,6 +1,6 @@
 -- A step of a plan as a line of text (this project's own): the word of its action and the words that it is about,
 -- with one space between them.
-use Rattle.std.specs.Prelude.{ℕ, List, [], ◌∷◌, ◌++◌, Option, Some, None, codes, if◌then◌else◌}
+use Rattle.std.specs.Prelude.{ℕ, Bool, ◌&&◌, List, [], ◌∷◌, ◌++◌, Option, Some, None, codes, if◌then◌else◌}
 use Rattle.std.specs.List.{join_with_byte}
 use Rattle.std.specs.Option.{option_and_then, option_map, is_none}
 use Rattle.std.specs.Str.{bytes_eq}
@@ -74,6 +74,14 @@ words_of (Deconfigure name) = codes "deconfigure" ∷ name ∷ []
 words_of (Configure names) = codes "configure" ∷ names
 words_of (Remove name) = codes "remove" ∷ name ∷ []
 words_of (Purge name) = codes "purge" ∷ name ∷ []
+
+-- the names of the step are names and its version is one, and what is configured at once is a group
+abbrev pub is_spelled : Step → Bool
+is_spelled (Unpack name version) = is_name name && is_none (first_fault version)
+is_spelled (Deconfigure name) = is_name name
+is_spelled (Configure names) = is_group names
+is_spelled (Remove name) = is_name name
+is_spelled (Purge name) = is_name name
 
 -- the line of a step, with its newline
 unfoldable pub step_line : Step → List ℕ

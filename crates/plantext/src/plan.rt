@@ -1,11 +1,12 @@
 // The steps in the text of a plan.
 
 ghost use Rattle.std.specs.Prelude.{◌≡◌, ◌<◌, ◌+◌, ◌^◌, [], Err, ◌≤◌, IfErr, IfOk, MatchResult, Ok, OnOk};
+ghost use Rattle.std.specs.Option.{option_copied};
 ghost use Rattle.std.specs.Str.{bytes_eq};
 ghost use Rattle.plantext.specs.Error.{IsPlanFault};
 ghost use Rattle.plantext.specs.Cut.{parts_at};
 ghost use Rattle.plantext.specs.Plan as Spec;
-ghost use Rattle.plantext.specs.Plan.{header, read_plan, read_step, read_steps};
+ghost use Rattle.plantext.specs.Plan.{header, only_line, read_plan, read_step, read_steps, step_in_line};
 ghost use Rattle.rules.specs.declared.limits.TheConstants.{STEPS};
 ghost use Rattle.plantext.specs.declared.cut.TheConstants.{NEWLINE};
 
@@ -22,10 +23,10 @@ fn is_header(line: &[u8]) -> bool
 }
 
 // The step of this number in its line, which has its newline.
-fn read_step(alloc: Global, number: usize, line: &[u8]) -> Result<Step, PlanError>
+fn step_in_line(alloc: Global, number: usize, line: &[u8]) -> Result<Step, PlanError>
     requires { number + 1 < 2 ^ 64 }
-    ensures ok { IfOk result (λ step. read_step number line.now ≡ Ok step) }
-    ensures err { IfErr result (λ e. IsPlanFault e (read_step number line.now)) }
+    ensures ok { IfOk result (λ step. step_in_line number line.now ≡ Ok step) }
+    ensures err { IfErr result (λ e. IsPlanFault e (step_in_line number line.now)) }
     ensures within { OnOk result (number ≤ STEPS) }
 {
     let Some(step) = step_of(alloc, line)? else {
@@ -56,7 +57,7 @@ fn read_steps(alloc: Global, lines: &[u8]) -> Result<Vec<Step>, PlanError>
     let mut steps = Vec::new(alloc);
     let mut rest = lines;
     while let Some((line, after)) = split_part(NEWLINE, rest) {
-        steps.push(read_step(alloc, steps.len() + 1, line)?)?;
+        steps.push(step_in_line(alloc, steps.len() + 1, line)?)?;
         rest = after;
     }
     check_end(steps.len() + 1, rest)?;
@@ -80,5 +81,36 @@ pub fn read_plan(alloc: Global, text: &[u8]) -> Result<Vec<Step>, PlanError>
     match left {
         None => Err(PlanError::BadPlan(1)),
         Some(lines) => read_steps(alloc, lines),
+    }
+}
+
+// The line that is all of the text but for the newline at its end.
+#[tactic(auto, using(crate::proofs::PlanLemmas::only_line_more))]
+fn only_line(text: &[u8]) -> Option<&[u8]>
+    ensures { option_copied result ≡ only_line (parts_at NEWLINE text.now) }
+{
+    let (line, last) = split_part(NEWLINE, text)?;
+    match last {
+        [] => Some(line),
+        [_, ..] => None,
+    }
+}
+
+/// Reads the line of one step, with its newline, and nothing else. Every other text is refused as its first line, but for
+/// one that is too long. Linear in the text.
+#[tactic(auto, unfolding(crate::specs::Plan::read_step))]
+pub fn read_step(alloc: Global, text: &[u8]) -> Result<Step, PlanError>
+    ensures ok { IfOk result (λ step. read_step text.now ≡ Ok step) }
+    ensures err { IfErr result (λ e. IsPlanFault e (read_step text.now)) }
+{
+    if text.len() > TEXT_BYTES {
+        return Err(PlanError::TooLarge);
+    }
+    let Some(line) = only_line(text) else {
+        return Err(PlanError::BadPlan(1));
+    };
+    match step_of(alloc, line)? {
+        None => Err(PlanError::BadPlan(1)),
+        Some(step) => Ok(step),
     }
 }

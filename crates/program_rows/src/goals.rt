@@ -46,6 +46,9 @@ Package: foo$Status: install ok installed$Version: 2$Architecture: all$→File: 
 Package: foo$Status: install ok installed$Version: 2$Architecture: all$→File: index1$Suite: stable$→Package: foo$Version: 1$Architecture: all$→→Package: foo$Pin: release a=stable$Pin-Priority: 1000$→→upgrade-all$→plan 1$→0 yes$|
 →File: index1$Suite: stable$→Package: foo$Version: 1$Architecture: all$→→Package: foo$Pin: version 1$Pin-Priority: -1$→→upgrade foo$→plan 1$→1 no end F11 Goal 1$|
 →File: index1$→→→Package: a,b$Pin: version 1$Pin-Priority: 5$→→x$→plan 1$→3 |debplan: preferences: E11 BadPin 1$
+→File: index1$→Package: foo$Version: 1$Architecture: all$→→Package: a b$Pin: release stable$Pin-Priority: 5$→→→plan 1$→3 |debplan: preferences: E11 BadPin 2$
+→File: index1$→Package: foo$Version: 1$Architecture: all$→→Package: *$Pin: release a = x$Pin-Priority: 5$→→→plan 1$→3 |debplan: preferences: E11 BadPin 2$
+→File: index1$→Package: foo$Version: 1$Architecture: all$→→Package: *$Pin: origin \"\"$Pin-Priority: 32768$→→→plan 1$→3 |debplan: preferences: E11 BadPin 3$
 ";
 
 #[test]

@@ -4,10 +4,10 @@ use std::test::Fail;
 
 // The mail is provided by `x` without a version and by `y` as 2, and `z` is of another architecture.
 const PROVIDES: &str = "\
-File: index1$$File: index2$→Package: app$Version: 1$Architecture: all$Depends: mail (>= 2)$→Package: x$Version: 1$Architecture: all$Provides: mail$→install app$→plan 1$unpack app 1$unpack x 1$configure x$configure app$→1 no step 4 F4 Depends$|
-File: index1$$File: index2$→Package: app$Version: 1$Architecture: all$Depends: mail (>= 2)$→Package: y$Version: 1$Architecture: all$Provides: mail (= 2)$→install app$→plan 1$unpack app 1$unpack y 1$configure y$configure app$→0 yes$|
-File: index1$$File: index2$→Package: app$Version: 1$Architecture: all$→Package: z$Version: 1$Architecture: i386$→install app$→plan 1$unpack z 1$→1 no step 1 F10 NotAdmitted$|
-File: index1$$File: index2$→Package: app$Version: 1$Architecture: all$→Package: z$Version: 1$Architecture: i386$→install z$→plan 1$→3 |debplan: request: E17 UnknownName 1$
+File: index1$$File: index2$→Package: app$Version: 1$Architecture: all$Depends: mail (>= 2)$→Package: x$Version: 1$Architecture: all$Provides: mail$$Package: y$Version: 1$Architecture: all$Provides: mail (= 2)$$Package: z$Version: 1$Architecture: i386$→install app$→plan 1$unpack app 1$unpack x 1$configure x$configure app$→1 no step 4 F4 Depends$|
+File: index1$$File: index2$→Package: app$Version: 1$Architecture: all$Depends: mail (>= 2)$→Package: x$Version: 1$Architecture: all$Provides: mail$$Package: y$Version: 1$Architecture: all$Provides: mail (= 2)$$Package: z$Version: 1$Architecture: i386$→install app$→plan 1$unpack app 1$unpack y 1$configure y$configure app$→0 yes$|
+File: index1$$File: index2$→Package: app$Version: 1$Architecture: all$Depends: mail (>= 2)$→Package: x$Version: 1$Architecture: all$Provides: mail$$Package: y$Version: 1$Architecture: all$Provides: mail (= 2)$$Package: z$Version: 1$Architecture: i386$→install app$→plan 1$unpack z 1$→1 no step 1 F10 NotAdmitted$|
+File: index1$$File: index2$→Package: app$Version: 1$Architecture: all$Depends: mail (>= 2)$→Package: x$Version: 1$Architecture: all$Provides: mail$$Package: y$Version: 1$Architecture: all$Provides: mail (= 2)$$Package: z$Version: 1$Architecture: i386$→install z$→plan 1$→3 |debplan: request: E17 UnknownName 1$
 ";
 
 // Of one version the earlier index counts: `b` is a package without relations. Of two versions the candidate is that of
@@ -27,8 +27,6 @@ Package: a$Version: 1$Architecture: all$Conflicts: b$$Package: b$Version: 1$Arch
 Package: a$Version: 1$Architecture: all$Conflicts: b$$Package: b$Version: 1$Architecture: all$→install a$→plan 1$unpack b 1$unpack a 1$→1 no step 2 F2 Conflict$|
 Package: a$Version: 1$Architecture: all$Breaks: b$$Package: b$Version: 1$Architecture: all$→install a$→plan 1$unpack b 1$configure b$unpack a 1$→1 no step 3 F3 Breaks$|
 Package: a$Version: 1$Architecture: all$Depends: b$$Package: b$Version: 1$Architecture: all$Pre-Depends: a$→install a$→plan 1$unpack a 1$unpack b 1$→1 no step 2 F1 PreDepends$|
-Package: z$Version: 1$Architecture: all$Depends: bar (>= 1.0)$$Package: bar$Version: 0.9$Architecture: all$→install z$→plan 1$unpack bar 0.9$unpack z 1$configure bar$configure z$→1 no step 4 F4 Depends$|
-Package: z$Version: 1$Architecture: all$Depends: bar$$Package: x$Version: 5$Architecture: all$Provides: bar (= 1.0)$→install z$→plan 1$unpack x 5$unpack z 1$configure x$configure z$→0 yes$|
 ";
 
 #[test]

@@ -30,6 +30,17 @@ Package: a$Version: 1$Architecture: all$Conflicts: a | b$→→plan 1$→3 |debp
 Package: a$Version: 1$Architecture: all$Provides: a | b$→→plan 1$→3 |debplan: index 1: E7 BadRelation 4 2$
 ";
 
+// A request is refused at its first bad line, and then at the first name that is nowhere.
+const REQUESTS: &str = "\
+Package: a$Version: 1$Architecture: all$→all-versions$install a$→plan 1$→3 |debplan: request: E16 BadRequest 1$
+Package: a$Version: 1$Architecture: all$→install a$ # x$→plan 1$→3 |debplan: request: E16 BadRequest 2$
+Package: a$Version: 1$Architecture: all$→# x$$install a,$→plan 1$→3 |debplan: request: E16 BadRequest 3$
+Package: a$Version: 1$Architecture: all$→upgrade-all a$→plan 1$→3 |debplan: request: E16 BadRequest 1$
+Package: a$Version: 1$Architecture: all$→install a:i386$→plan 1$→3 |debplan: request: E16 BadRequest 1$
+Package: a$Version: 1$Architecture: all$→install b$install a (= 1$→plan 1$→3 |debplan: request: E16 BadRequest 2$
+Package: a$Version: 1$Architecture: all$→install a$$remove b$upgrade c$→plan 1$→3 |debplan: request: E17 UnknownName 3$
+";
+
 // A plan is refused at its first bad line, and its last newline is not to lack.
 const PLANS: &str = "\
 Package: a$Version: 1$Architecture: all$→install a$→→3 |debplan: plan: E18 BadPlan 1$
@@ -60,7 +71,7 @@ Package: x$Status: install ok installed$Version: 1$Architecture: all$Breaks: y |
 
 #[test]
 fn the_first_fault_of_a_text_is_named(rt: HostRuntime) -> Result<(), Fail> {
-    for table in [VERSIONS, INDICES, PLANS] {
+    for table in [VERSIONS, INDICES, REQUESTS, PLANS] {
         for row in table.lines() {
             assert!(rt; holds_over_one(rt.alloc(), row)?, "{row}");
         }

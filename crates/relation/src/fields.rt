@@ -1,7 +1,7 @@
 //! The fields of a package, found in one walk over its stanza.
-ghost use Rattle.std.specs.Prelude.{◌≡◌};
+ghost use Rattle.std.specs.Prelude.{◌≡◌, []};
 ghost use Rattle.stanza.specs.Field.{same_name};
-ghost use Rattle.relation.specs.PkgFields.{fields_of, first_named, with_field};
+ghost use Rattle.relation.specs.PkgFields.{fields_in, fields_of, first_named, with_field};
 
 use stanza::{Field, Stanza};
 
@@ -25,45 +25,22 @@ fn same_name(name: &[u8], other: &[u8]) -> bool
     name.eq_ignore_ascii_case(other)
 }
 
-// The first field of the name: the one found before, or this one.
-fn first_named<'a>(name: &[u8], found: Option<Field<'a>>, field: &Field<'a>) -> Option<Field<'a>>
-    ensures { result ≡ first_named name.now found.entry field.now }
+// Takes the field, where it has the name and none was found before.
+fn note<'a>(name: &[u8], place: &mut Option<Field<'a>>, field: &Field<'a>)
+    ensures { place.new ≡ first_named name.now place.old field.now }
 {
-    match found {
-        Some(found) => Some(found),
-        None => {
-            if same_name(field.name(), name) {
-                field.clone().ok()
-            } else {
-                None
-            }
-        }
-    }
-}
-
-// These, and one more field.
-fn with_field<'a>(found: PkgFields<'a>, field: &Field<'a>) -> PkgFields<'a>
-    ensures { result ≡ with_field found.entry field.now }
-{
-    PkgFields {
-        line: found.line,
-        name: first_named(b"Package", found.name, field),
-        version: first_named(b"Version", found.version, field),
-        pre_depends: first_named(b"Pre-Depends", found.pre_depends, field),
-        depends: first_named(b"Depends", found.depends, field),
-        conflicts: first_named(b"Conflicts", found.conflicts, field),
-        breaks: first_named(b"Breaks", found.breaks, field),
-        provides: first_named(b"Provides", found.provides, field),
+    if place.is_none() && same_name(field.name(), name) {
+        *place = field.clone().ok();
     }
 }
 
 impl<'a> PkgFields<'a> {
-    /// The fields of a package in its stanza. One walk over the stanza's lines.
-    pub fn in_stanza(stanza: &Stanza<'a>) -> PkgFields<'a>
-        ensures { result ≡ fields_of stanza.now }
+    /// No field yet, of a stanza that begins on this line.
+    pub fn new(line: usize) -> PkgFields<'a>
+        ensures { result ≡ fields_in line [] }
     {
-        let mut found = PkgFields {
-            line: stanza.line(),
+        PkgFields {
+            line,
             name: None,
             version: None,
             pre_depends: None,
@@ -71,9 +48,29 @@ impl<'a> PkgFields<'a> {
             conflicts: None,
             breaks: None,
             provides: None,
-        };
+        }
+    }
+
+    /// Takes one more field of the stanza, where a package is read from it and it is the first of its name.
+    pub fn add(&mut self, field: &Field<'a>)
+        ensures { self.new ≡ with_field self.old field.now }
+    {
+        note(b"Package", &mut self.name, field);
+        note(b"Version", &mut self.version, field);
+        note(b"Pre-Depends", &mut self.pre_depends, field);
+        note(b"Depends", &mut self.depends, field);
+        note(b"Conflicts", &mut self.conflicts, field);
+        note(b"Breaks", &mut self.breaks, field);
+        note(b"Provides", &mut self.provides, field);
+    }
+
+    /// The fields of a package in its stanza. One walk over the stanza's lines.
+    pub fn in_stanza(stanza: &Stanza<'a>) -> PkgFields<'a>
+        ensures { result ≡ fields_of stanza.now }
+    {
+        let mut found = PkgFields::new(stanza.line());
         for field in stanza.fields() {
-            found = with_field(found, &field);
+            found.add(&field);
         }
         found
     }

@@ -1,3 +1,4 @@
+pub mod Excess
 pub mod ShapeLemmas
 pub mod Parts
 pub mod FirstStop

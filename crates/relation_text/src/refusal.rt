@@ -121,8 +121,8 @@ fn atom_start(part: &[u8]) -> usize
     part.len() - after_white(part).len()
 }
 
-// The first atom too many.
-fn excess(separator: Separator, value: &[u8]) -> Option<Refusal>
+// The first atom too many among the parts.
+fn excess_among(separator: Separator, value: &[u8]) -> Option<Refusal>
     ensures { result ≡ excess_from most_atoms 0 (parts_of separator value.now) }
 {
     let mut more = MOST_ATOMS;
@@ -136,6 +136,17 @@ fn excess(separator: Separator, value: &[u8]) -> Option<Refusal>
         left = after;
     }
     None
+}
+
+// The first atom too many: a value of fewer bytes has none.
+fn excess(separator: Separator, value: &[u8]) -> Option<Refusal>
+    ensures { result ≡ excess_from most_atoms 0 (parts_of separator value.now) }
+{
+    if value.len() < MOST_ATOMS {
+        None
+    } else {
+        excess_among(separator, value)
+    }
 }
 
 fn sooner(refusal: Option<Refusal>, other: Option<Refusal>) -> Option<Refusal>
@@ -174,7 +185,7 @@ fn least_refusal(form: Form, value: &[u8]) -> Option<Refusal>
 }
 
 /// Tests the value of a relation field (Policy 7.1) and takes no memory: the answer is the refusal that the
-/// parser of this form gives. Three passes over the value.
+/// parser of this form gives. Two passes over the value, and a third where it is long enough to have an atom too many.
 #[tactic(auto, unfolding(crate::specs::Refusal::fault_of))]
 pub fn check(form: Form, value: &[u8]) -> Result<(), RelationFault>
     ensures { MatchResult result (λ _. fault_of form value.now ≡ None) (λ fault. fault_of form value.now ≡ Some fault) }

@@ -1,5 +1,5 @@
 -- A list of records that is changed place by place.
-use Rattle.std.proofs.Common.{◌≡◌, ℕ, ◌<◌, Bool, List, [], cond, length, get_or, None, false, sym, subst, ◌∙◌}
+use Rattle.std.proofs.Common.{◌≡◌, ℕ, ◌<◌, Bool, List, [], cond, length, get_or, map, None, false, sym, subst, ◌∙◌}
 use Rattle.std.proofs.Math.ListN.{length-map}
 use Rattle.std.proofs.lemmas.List.{ext_get_or, get_or-map}
 use Rattle.rules.specs.Database.{Record}
@@ -7,6 +7,13 @@ use Rattle.rules.specs.Step.{changed, no_relations}
 use Rattle.rules.specs.declared.status.Flag.TheVariants.{Sound}
 use Rattle.rules.specs.declared.status.State.TheVariants.{NotInstalled}
 use Rattle.rules.specs.declared.status.Want.TheVariants.{Unknown}
+
+-- a list that has at each place what the function makes of the old one is the mapped list
+pub mapped_by_place : {X : Type 0} (blank : X) (f : X → X) (old new : List X) → length new ≡ length old
+    → ((k : ℕ) → k < length old → get_or new k blank ≡ f (get_or old k blank)) → new ≡ map f old
+mapped_by_place blank f old new same each = ext_get_or blank new (map f old) (same ∙ sym (length-map old f))
+    (λ k within. let inside = subst (λ n. k < n) same within in
+    each k inside ∙ sym (get_or-map f old k blank blank inside))
 
 -- a record that says nothing
 abbrev blank : Record

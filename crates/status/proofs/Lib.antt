@@ -1,1 +1,4 @@
 pub mod Changed
+pub mod PlaceLemmas
+pub mod ListedLemmas
+pub mod NamedChanges

@@ -1,1 +1,3 @@
 pub mod PackageRecord
+pub mod Holders
+pub mod HolderLaws

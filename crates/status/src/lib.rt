@@ -4,12 +4,16 @@
 #![tactic(auto)]
 
 mod copies;
+mod holder;
+mod lookup;
 mod package_record;
+mod place_list;
+mod places;
 mod step;
 mod unpacking;
 
 pub use copies::try_copy;
+pub use holder::Holders;
+pub use lookup::Records;
 pub use package_record::PackageRecord;
 pub use rules::{Flag, State, Step, Want};
-pub use step::{configure, deconfigure, remove};
-pub use unpacking::{purge, unpack};

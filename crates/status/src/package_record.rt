@@ -6,7 +6,7 @@ ghost use Rattle.rules.specs.State.{is_present_state};
 ghost use Rattle.rules.specs.Step.{no_relations};
 
 use debversion::Version;
-use relation::{Clause, Pkg};
+use relation::{Clause, Pkg, Provided};
 use rules::{Flag, State, Want};
 use std::marker::Model;
 
@@ -206,6 +206,16 @@ impl<'p, 'a> PackageRecord<'p, 'a> {
     {
         match self.pkg {
             Some(there) => there.depends(),
+            None => &[],
+        }
+    }
+
+    /// The items of Provides of a present package; none of another.
+    pub fn provides(&self) -> &[Provided<'a>]
+        ensures { result.now ≡ self.now.relations.provides }
+    {
+        match self.pkg {
+            Some(there) => there.provides(),
             None => &[],
         }
     }

@@ -1,14 +1,13 @@
 // What an action leaves of the record of its package (dpkg(1)).
 
 ghost use Rattle.std.specs.Prelude.{◌≡◌, true};
-ghost use Rattle.std.specs.List.{All};
 ghost use Rattle.rules.specs.Database.{IsPresent};
 ghost use Rattle.rules.specs.State.{is_present_state};
-ghost use Rattle.rules.specs.Step.{changed, configured, deconfigured, is_among, is_named, kept_config_version, last_configured, removed};
+ghost use Rattle.rules.specs.Step.{configured, deconfigured, is_named, kept_config_version, last_configured, removed};
 
 use crate::package_record::PackageRecord;
 use debversion::Version;
-use rules::{Name, State, Want};
+use rules::{State, Want};
 
 impl<'p, 'a> PackageRecord<'p, 'a> {
     // The record in this state, with its version as the one configured last.
@@ -89,53 +88,9 @@ impl<'p, 'a> PackageRecord<'p, 'a> {
     }
 }
 
-// Whether the record is of one of the names.
-fn is_among(names: &[Name], found: &PackageRecord<'_, '_>) -> bool
-    ensures { result ≡ is_among names.now found.now }
-{
-    names.iter().any(|name| found.name() == name.as_bytes())
-}
-
-/// Configures the records of these names. For each record linear in the names.
-pub fn configure<'p, 'a>(records: &mut [PackageRecord<'p, 'a>], names: &[Name])
-    requires { All (λ found. is_among names.now found ≡ true → IsPresent found) records.old }
-    ensures { records.new ≡ changed (is_among names.now) configured records.old }
-{
-    for record in records.iter_mut() {
-        if is_among(names, record) {
-            *record = record.configured();
-        }
-    }
-}
-
 /// Whether the record is of the name.
 pub(crate) fn is_named(name: &[u8], found: &PackageRecord<'_, '_>) -> bool
     ensures { result ≡ is_named name.now found.now }
 {
     found.name() == name
-}
-
-/// Deconfigures the record of the name. Linear in the records.
-pub fn deconfigure<'p, 'a>(records: &mut [PackageRecord<'p, 'a>], name: &[u8])
-    requires { All (λ found. is_named name.now found ≡ true → IsPresent found) records.old }
-    ensures { records.new ≡ changed (is_named name.now) deconfigured records.old }
-{
-    for record in records.iter_mut() {
-        if is_named(name, record) {
-            *record = record.deconfigured();
-        }
-    }
-}
-
-/// Removes the package of the name: its record says that configuration files alone are left. Linear in the
-/// records.
-pub fn remove<'p, 'a>(records: &mut [PackageRecord<'p, 'a>], name: &[u8])
-    requires { All (λ found. is_named name.now found ≡ true → IsPresent found) records.old }
-    ensures { records.new ≡ changed (is_named name.now) removed records.old }
-{
-    for record in records.iter_mut() {
-        if is_named(name, record) {
-            *record = record.removed();
-        }
-    }
 }

@@ -5,6 +5,8 @@
 #[cfg(test)]
 mod files;
 #[cfg(test)]
+mod lookups;
+#[cfg(test)]
 mod records;
 #[cfg(test)]
 mod spelling;

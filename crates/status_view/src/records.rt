@@ -6,7 +6,7 @@ ghost use Rattle.status_view.specs.Packages.{packages_of, present_pkg};
 
 use debversion::Version;
 use relation::Pkg;
-use status::PackageRecord;
+use status::{PackageRecord, Records};
 use status_record::Record;
 use std::alloc::{AllocError, Global};
 
@@ -62,9 +62,8 @@ fn package_record<'p, 'a>(record: &Record<'a>, pkg: &'p Option<Pkg<'a>>) -> Pack
     without_package(record)
 }
 
-/// The records, each with its package of those that were parsed, as the checkers of plans read and change them. Linear in
-/// the records. Memory alone can fail.
-pub fn view<'p, 'a>(
+// The records, each with its package.
+fn package_records<'p, 'a>(
     alloc: Global,
     records: &[&Record<'a>],
     packages: &'p [Option<Pkg<'a>>],
@@ -79,4 +78,17 @@ pub fn view<'p, 'a>(
         place += 1;
     }
     Ok(view)
+}
+
+/// The records, each with its package of those that were parsed, as the checkers of plans read, find and change them.
+/// Linear in the records and in what they provide. Memory alone can fail.
+pub fn view<'p, 'a>(
+    alloc: Global,
+    records: &[&Record<'a>],
+    packages: &'p [Option<Pkg<'a>>],
+) -> Result<Records<'p, 'a>, AllocError>
+    requires { packages.now ≡ packages_of (map (λ found. found.now) records.now) }
+    ensures { IfOk result (λ view. view ≡ records_of (map (λ found. found.now) records.now)) }
+{
+    Records::new(alloc, package_records(alloc, records, packages)?)
 }

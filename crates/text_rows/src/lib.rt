@@ -1,5 +1,5 @@
-//! Versions, relation fields, packages, plans and requests: what their texts are read as, row by row. This crate has tests
-//! alone, so that none of their readers is proved once more with each of them.
+//! Versions, relation fields, packages, plans and requests: what their texts are read as, and plans as they are
+//! written, row by row. This crate has tests alone, so that none of their readers is proved once more with each of them.
 #![tactic(auto)]
 
 #[cfg(test)]
@@ -20,3 +20,5 @@ mod shown;
 mod texts;
 #[cfg(test)]
 mod versions;
+#[cfg(test)]
+mod written;

@@ -1,12 +1,13 @@
 //! Texts of plans, each with what it is to be read as. The format is this project's own; lines were counted by hand.
 use crate::texts::{is_printed, unescaped, write_named};
-use plantext::{PlanError, PlanFault, read_plan};
+use plantext::{PlanError, PlanFault, read_plan, read_step, write_plan, write_step};
 use rules::Step;
 use std::alloc::{AllocError, Global};
 use std::process::Abort;
 use std::test::Fail;
 
-fn write_step(shown: &mut String, step: &Step) -> Result<(), Fail> {
+/// Writes a step as a letter and its words.
+pub(crate) fn show_step(shown: &mut String, step: &Step) -> Result<(), Fail> {
     match step {
         Step::Unpack(name, version) => {
             write_named(shown, "U:", name.as_bytes())?;
@@ -31,7 +32,7 @@ fn shown(alloc: Global, text: &[u8]) -> Result<String, Fail> {
     match read_plan(alloc, text) {
         Ok(steps) => {
             for step in &steps {
-                write_step(&mut shown, step)?;
+                show_step(&mut shown, step)?;
                 shown.push_str(";")?;
             }
             Ok(shown)
@@ -61,6 +62,10 @@ fn the_readme_example(rt: HostRuntime) -> Result<(), Fail> {
     let steps = read_plan(alloc, b"plan 1\nunpack foo 1.0\nconfigure bar foo\n")?;
     assert_eq!(rt; steps.len(), 2);
     assert!(rt; read_plan(alloc, b"plan 1\nconfigure foo bar\n").is_err());
+    let text = write_plan(alloc, steps.as_slice())?;
+    assert!(rt; text.as_slice() == b"plan 1\nunpack foo 1.0\nconfigure bar foo\n".as_slice());
+    let step = read_step(alloc, b"purge foo\n")?;
+    assert!(rt; write_step(alloc, &step)?.as_slice() == b"purge foo\n".as_slice());
     Ok(())
 }
 

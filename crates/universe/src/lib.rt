@@ -3,14 +3,19 @@
 #![tactic(auto)]
 
 mod candidate;
+mod candidates;
+mod name_at;
 mod pair;
 mod pairs;
+mod providers;
 mod start;
 mod universe;
 
 pub use candidate::Candidate;
+pub use candidates::Candidates;
 pub use index::Entry;
 pub use pair::Pair;
 pub use pairs::Pairs;
+pub use providers::Providers;
 pub use start::Start;
 pub use universe::Universe;

@@ -6,7 +6,7 @@ ghost use Rattle.std.specs.Option.{option_copied};
 ghost use Rattle.rules.specs.Database.{HasDistinctNames};
 ghost use Rattle.rules.specs.Entry.{records_of};
 ghost use Rattle.rules.specs.Universe.{starts_of};
-ghost use Rattle.candidates.specs.Recorded.{record_cmp};
+ghost use Rattle.candidates.specs.Offer.{offer_name_cmp};
 ghost use Rattle.candidates.specs.Stanza.{listed_cmp};
 ghost use Rattle.universe_build.specs.Build.{first_unknown, goals_of, indices_of, is_unknown, named_by};
 ghost use Rattle.universe_build.specs.Choice.{candidate_at};
@@ -14,13 +14,13 @@ ghost use Rattle.universe_build.specs.Error.{IsBuilt, IsUniverseFault};
 
 use crate::chosen::pairs_of;
 use crate::error::UniverseError;
-use candidates::{Found, Offer, Offered, Recorded, has_name, is_recorded, records_in};
+use candidates::{Found, Known, Offer, Offered, Recorded, has_name, is_recorded, records_in};
 use index::Index;
 use pins::Prefs;
 use rules::{Goal, GoalLine, PAIRS};
 use status_record::Record;
 use std::alloc::{AllocError, Global};
-use universe::{Candidate, Pairs, Start, Universe};
+use universe::{Candidate, Candidates, Pairs, Start, Universe};
 
 fn named_by(goal: &Goal) -> Option<&[u8]>
     ensures { option_copied result ≡ named_by goal.now }
@@ -33,8 +33,7 @@ fn named_by(goal: &Goal) -> Option<&[u8]>
     }
 }
 
-fn is_unknown(known: &[Recorded<'_, '_>], ordered: &[Found<'_, '_>], goal: &Goal) -> bool
-    requires known { IsStrictlySortedBy record_cmp known.now }
+fn is_unknown(known: &Known<'_, '_>, ordered: &[Found<'_, '_>], goal: &Goal) -> bool
     requires ordered { IsStrictlySortedBy listed_cmp ordered.now }
     ensures { result ≡ is_unknown known.now ordered.now goal.now }
 {
@@ -45,11 +44,10 @@ fn is_unknown(known: &[Recorded<'_, '_>], ordered: &[Found<'_, '_>], goal: &Goal
 }
 
 fn first_unknown(
-    known: &[Recorded<'_, '_>],
+    known: &Known<'_, '_>,
     ordered: &[Found<'_, '_>],
     lines: &[GoalLine],
 ) -> Option<usize>
-    requires known { IsStrictlySortedBy record_cmp known.now }
     requires ordered { IsStrictlySortedBy listed_cmp ordered.now }
     ensures { result ≡ first_unknown known.now ordered.now lines.now }
 {
@@ -77,11 +75,22 @@ fn candidate_at<'a>(offer: &Offer<'a>) -> Candidate<'a>
     Candidate::new(offer.name(), offer.version().again())
 }
 
-// The best offers' versions as the candidates of their names.
-fn candidates_of<'a>(alloc: Global, best: &[Offer<'a>]) -> Result<Vec<Candidate<'a>>, AllocError>
+fn listed_candidates<'a>(
+    alloc: Global,
+    best: &[Offer<'a>],
+) -> Result<Vec<Candidate<'a>>, AllocError>
     ensures { IfOk result (λ candidates. candidates.items ≡ map candidate_at best.now) }
 {
     best.iter().map(|offer| candidate_at(offer)).collect(alloc)
+}
+
+// The best offers' versions as the candidates of their names.
+#[tactic(auto, using(crate::proofs::CandidatesInOrder::candidates_ascend))]
+fn candidates_of<'a>(alloc: Global, best: &[Offer<'a>]) -> Result<Candidates<'a>, AllocError>
+    requires { IsStrictlySortedBy offer_name_cmp best.now }
+    ensures { IfOk result (λ candidates. candidates ≡ map candidate_at best.now) }
+{
+    Ok(Candidates::new(listed_candidates(alloc, best)?))
 }
 
 /// The universe of the goals over the records of the start and the indices, where these preferences hold
@@ -109,16 +118,10 @@ pub fn build<'p, 'a>(
         ordered,
         candidates: best,
     } = Offered::find(alloc, recorded, indices, prefs)?;
-    if let Some(line) = first_unknown(known.as_slice(), ordered.as_slice(), goals.as_slice()) {
+    if let Some(line) = first_unknown(&known, ordered.as_slice(), goals.as_slice()) {
         return Err(UniverseError::UnknownName(line));
     }
-    let pairs = pairs_of(
-        alloc,
-        known.as_slice(),
-        ordered,
-        best.as_slice(),
-        goals.as_slice(),
-    )?;
+    let pairs = pairs_of(alloc, &known, ordered, best.as_slice(), goals.as_slice())?;
     if pairs.len() > PAIRS {
         return Err(UniverseError::TooLarge);
     }

@@ -4,22 +4,20 @@ ghost use Rattle.std.specs.Prelude.{◌≡◌, ◌||◌, IfOk, map};
 ghost use Rattle.std.specs.List.{filter};
 ghost use Rattle.std.specs.List.Sorted.{IsSorted, IsStrictlySortedBy};
 ghost use Rattle.std.specs.Option.{option_copied};
-ghost use Rattle.candidates.specs.Recorded.{record_cmp};
 ghost use Rattle.candidates.specs.Stanza.{listed_cmp};
 ghost use Rattle.universe_build.specs.Build.{goals_of};
 ghost use Rattle.universe_build.specs.Choice.{exact_cmp, exacts_of, is_sought, listed_pair};
 ghost use Rattle.universe_build.specs.Chosen.{ArePairs, admitted_among, chosen_pairs, is_free, standing_pair, standing_stanza, standing_pairs};
 
 use crate::exact::{Exact, best_exacts, exacts_of, is_sought};
-use candidates::{Found, Offer, Recorded, is_held, stands_as, stanza_of};
+use candidates::{Found, Known, Offer, Recorded, is_held, stands_as, stanza_of};
 use index::Entry;
 use rules::GoalLine;
 use std::alloc::{AllocError, Global};
 use universe::Pair;
 
 // Whether the stanza is of a version that doesn't stand, of a name that isn't held.
-fn is_free(known: &[Recorded<'_, '_>], found: &Found<'_, '_>) -> bool
-    requires { IsStrictlySortedBy record_cmp known.now }
+fn is_free(known: &Known<'_, '_>, found: &Found<'_, '_>) -> bool
     ensures { result ≡ is_free known.now found.now }
 {
     !stands_as(known, found.name(), found.version()) && !is_held(known, found.name())
@@ -35,8 +33,7 @@ fn is_wanted(chosen: &[Exact<'_>], asked: &[Exact<'_>], found: &Found<'_, '_>) -
 }
 
 // Of stanzas in their order those that are free.
-fn free_of<'p, 'a>(known: &[Recorded<'_, '_>], ordered: Vec<Found<'p, 'a>>) -> Vec<Found<'p, 'a>>
-    requires { IsStrictlySortedBy record_cmp known.now }
+fn free_of<'p, 'a>(known: &Known<'_, '_>, ordered: Vec<Found<'p, 'a>>) -> Vec<Found<'p, 'a>>
     ensures { result.items ≡ filter (is_free known.now) ordered.entry.items }
 {
     let mut free = ordered;
@@ -148,16 +145,15 @@ fn in_order<'p, 'a>(pairs: Vec<Pair<'p, 'a>>) -> Result<Vec<Pair<'p, 'a>>, Alloc
 /// The pairs of what stands, and of what is chosen or asked for and free, in order. About n log n comparisons of n stanzas.
 pub fn pairs_of<'p, 'a>(
     alloc: Global,
-    known: &[Recorded<'_, 'a>],
+    known: &Known<'_, 'a>,
     ordered: Vec<Found<'p, 'a>>,
     best: &[Offer<'a>],
     lines: &[GoalLine],
 ) -> Result<Vec<Pair<'p, 'a>>, AllocError>
-    requires known { IsStrictlySortedBy record_cmp known.now }
     requires ordered { IsStrictlySortedBy listed_cmp ordered.items }
     ensures { IfOk result (λ pairs. ArePairs (chosen_pairs known.now ordered.entry.items best.now (exacts_of (goals_of lines.now))) pairs.items) }
 {
-    let mut pairs = standing_pairs(alloc, known, ordered.as_slice())?;
+    let mut pairs = standing_pairs(alloc, known.as_slice(), ordered.as_slice())?;
     let kept = admitted(alloc, free_of(known, ordered), best, lines)?;
     let mut listed = listed_pairs(alloc, kept.as_slice())?;
     pairs.append(&mut listed)?;

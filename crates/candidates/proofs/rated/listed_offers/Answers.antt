@@ -6,8 +6,8 @@ use Rattle.candidates.specs.Place.{Place}
 use Rattle.candidates.proofs.Listing.{AreOffered, AreOffered-push, AreRated-offered, run_longer, run_not_empty}
 use Rattle.candidates.proofs.rated.listed_offers.Goals as goal
 
-pub offer_of-requires-clause-run : goal.offer_of-requires-clause-run
-offer_of-requires-clause-run c = run_not_empty (drop c.loop-first.start c.args.places.now) c.in-Some.first.now c.in-Some.run'.now c.in-Some.ensures.run
+pub offer_of-requires : goal.offer_of-requires
+offer_of-requires c = run_not_empty (drop c.loop-first.start c.args.places.now) c.in-Some.first.now c.in-Some.run'.now c.in-Some.ensures.run
 
 pub loop-first-smaller : goal.loop-first-smaller
 loop-first-smaller c =

@@ -6,4 +6,4 @@ use Rattle.plan_rows.proofs.ends.universe_of.Goals as goal
 
 pub new-pairs-requires : goal.new-pairs-requires
 unfolding IsStrictlySortedBy
-new-pairs-requires c = subst (IsStrictlySortedBy pair_cmp) (sym c.new-3.ensures.items) tt
+new-pairs-requires c = subst (IsStrictlySortedBy pair_cmp) (sym c.new.ensures.items) tt

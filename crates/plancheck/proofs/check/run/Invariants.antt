@@ -7,6 +7,6 @@ use Rattle.plancheck.proofs.check.run.Given as goal
 abbrev pub invariant-loop-step : goal.invariant-loop-step
 invariant-loop-step l = record {
   number : l.number ≡ l.step-index;
-  run : Run l.universe l.initial.db.items (take l.step-index l.steps) l.db.items;
-  distinct : HasDistinctNames l.db.items;
+  run : Run l.universe l.initial.db (take l.step-index l.steps) l.db;
+  distinct : HasDistinctNames l.db;
 }

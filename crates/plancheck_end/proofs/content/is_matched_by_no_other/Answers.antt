@@ -1,13 +1,9 @@
--- The installed packages are those of the installed records.
-use Rattle.std.proofs.Common.{◌≢◌}
-use Rattle.rules.specs.Package.{Pkg, MatchesSome}
-use Rattle.rules.specs.Sound.{MatchedByNoOther}
-use Rattle.plancheck_end.proofs.InstalledLemmas.{all_installed, installed_all}
+-- No other matches an atom where none matches any.
+use Rattle.plancheck_end.proofs.InstalledLemmas.{apart_by_atoms}
 use Rattle.plancheck_end.proofs.content.is_matched_by_no_other.Goals as goal
 
 pub returns : goal.returns
-unfolding MatchedByNoOther
-returns c = let P : Pkg → Type 0 = λ other. other.name ≢ c.args.name.now → ¬ MatchesSome other c.args.atoms.now in (
-  λ apart. all_installed P c.args.db.now (c.are_apart.ensures.0 apart),
-  λ none. c.are_apart.ensures.1 (installed_all P c.args.db.now none),
+returns c = let e = apart_by_atoms c.args.db.now c.args.name.now c.args.atoms.now in (
+  λ apart. e.0 (c.are_all_apart.ensures.0 apart),
+  λ none. c.are_all_apart.ensures.1 (e.1 none),
 )

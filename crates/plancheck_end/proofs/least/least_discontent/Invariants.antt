@@ -8,4 +8,4 @@ use Rattle.plancheck_end.proofs.least.least_discontent.Given as goal
 
 abbrev pub invariant-loop-found : goal.invariant-loop-found
 invariant-loop-found l = IsLeastWithout (λ (found : Record). IsInstalled found → IsContent (installed_of l.db) (pkg_of found))
-    (λ (found : Record). found.name) (take l.found-index l.db) (option_copied l.least)
+    (λ (found : Record). found.name) (take l.found-index l.records) (option_copied l.least)

@@ -7,4 +7,4 @@ use Rattle.plancheck_end.proofs.least.least_unfinished.Given as goal
 
 abbrev pub invariant-loop-found : goal.invariant-loop-found
 invariant-loop-found l = IsLeastWithout (λ (found : Record). ¬ IsUnfinished found) (λ (found : Record). found.name)
-    (take l.found-index l.db) (option_copied l.least)
+    (take l.found-index l.records) (option_copied l.least)

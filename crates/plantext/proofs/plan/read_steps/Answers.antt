@@ -4,18 +4,18 @@ use Rattle.std.proofs.lemmas.List.{length_push}
 use Rattle.std.proofs.lemmas.Grind.{common_steps}
 use Rattle.plantext.specs.Cut.{parts_at}
 use Rattle.plantext.specs.Error.{IsPlanFault}
-use Rattle.plantext.specs.Plan.{read_step, read_steps}
+use Rattle.plantext.specs.Plan.{step_in_line, read_steps}
 use Rattle.plantext.specs.declared.cut.TheConstants.{NEWLINE}
 use Rattle.plantext.proofs.PlanLemmas.{steps_read, steps_refused}
 use Rattle.plantext.proofs.plan.read_steps.Goals as goal
 
-pub returns-in_err-read_step-clause-err : goal.returns-in_err-read_step-clause-err
-returns-in_err-read_step-clause-err c =
-    let e = c.in_err-read_step.field-0.0 in
+pub returns-in_err-step_in_line-clause-err : goal.returns-in_err-step_in_line-clause-err
+returns-in_err-step_in_line-clause-err c =
+    let e = c.in_err-step_in_line.field-0.0 in
     let line = c.in-Some.line.now in
     let count : c.len.result ≡ length c.loop-line.steps.items = omega arith in
-    let here : IsPlanFault e (read_step (length c.loop-line.steps.items + 1) line) =
-    subst (λ (n : ℕ). IsPlanFault e (read_step (n + 1) line)) count c.in_err-read_step.ensures.err in
+    let here : IsPlanFault e (step_in_line (length c.loop-line.steps.items + 1) line) =
+    subst (λ (n : ℕ). IsPlanFault e (step_in_line (n + 1) line)) count c.in_err-step_in_line.ensures.err in
     let refused : IsPlanFault e (read_steps 1 (parts_at NEWLINE c.args.lines.now)) =
     subst (IsPlanFault e) c.loop-line.invariant.same
     (steps_refused e c.loop-line.steps.items (length c.loop-line.steps.items + 1) c.loop-line.rest.now
@@ -24,12 +24,12 @@ returns-in_err-read_step-clause-err c =
 
 pub loop-line-preserved : goal.loop-line-preserved
 loop-line-preserved c =
-    let step = c.in_ok-read_step.field-0 in
+    let step = c.in_ok-step_in_line.field-0 in
     let line = c.in-Some.line.now in
     let so_far = length c.loop-line.steps.items in
     let count : c.len.result ≡ so_far = omega arith in
-    let here : read_step (so_far + 1) line ≡ Ok step =
-    subst (λ (n : ℕ). read_step (n + 1) line ≡ Ok step) count c.in_ok-read_step.ensures.ok in
+    let here : step_in_line (so_far + 1) line ≡ Ok step =
+    subst (λ (n : ℕ). step_in_line (n + 1) line ≡ Ok step) count c.in_ok-step_in_line.ensures.ok in
     let longer : length c.push.new.self.items ≡ so_far + 1 =
     ap length c.in_ok-push.ensures.items ∙ length_push c.loop-line.steps.items step in
     record {
@@ -37,5 +37,5 @@ loop-line-preserved c =
           (steps_read c.loop-line.steps.items step (so_far + 1) c.loop-line.rest.now
           line c.in-Some.after.now c.in-Some.ensures here
           ∙ c.loop-line.invariant.same);
-      within = omega (arith, longer, c.in_ok-read_step.ensures.within);
+      within = omega (arith, longer, c.in_ok-step_in_line.ensures.within);
     }

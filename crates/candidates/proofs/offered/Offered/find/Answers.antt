@@ -1,6 +1,5 @@
 -- What is found among the records and the places in order is what the records and the indices offer.
 use Rattle.std.proofs.Common.{List, subst}
-use Rattle.rules.specs.Database.{Record}
 use Rattle.candidates.specs.Inputs.{indices_of}
 use Rattle.candidates.specs.Place.{Place, stanzas_of}
 use Rattle.candidates.specs.Rated.{AreChosen}
@@ -14,9 +13,7 @@ returns-clause-ordered c = IsOrdered-given (indices_of c.args.indices.now) c.in_
     (subst (λ (places : List Place). IsOrdered (stanzas_of places) c.in_ok-ordered.ordered.items) c.as_slice.ensures.value c.in_ok-ordered.ensures)
 
 pub returns-clause-candidates : goal.returns-clause-candidates
-returns-clause-candidates c = λ goals. AreCandidates-given c.args.start.items c.in_ok-known.known.items (indices_of c.args.indices.now)
+returns-clause-candidates c = λ goals. AreCandidates-given c.args.start.items c.in_ok-known.known (indices_of c.args.indices.now)
     c.args.prefs.now goals c.in_ok-places.places.items c.in_ok-candidates.candidates.items c.requires c.in_ok-known.ensures c.in_ok-places.ensures
-    (subst (λ (places : List Place). AreChosen c.args.prefs.now c.in_ok-known.known.items places c.in_ok-candidates.candidates.items)
-    c.as_slice-3.ensures.value
-    (subst (λ (known : List Record). AreChosen c.args.prefs.now known c.as_slice-3.result.now c.in_ok-candidates.candidates.items)
-    c.as_slice-2.ensures.value c.in_ok-candidates.ensures))
+    (subst (λ (places : List Place). AreChosen c.args.prefs.now c.in_ok-known.known places c.in_ok-candidates.candidates.items)
+    c.as_slice-2.ensures.value c.in_ok-candidates.ensures)

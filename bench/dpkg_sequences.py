@@ -1,0 +1,158 @@
+#!/usr/bin/env python3
+"""dpkg_sequences.py TABLE: has dpkg carry out the steps of each row of the table, and compares its answers with the
+row's. TABLE is a file with rows as crates/program_rows/src/dpkg_rows.rt has them: a line of nine columns with `→`
+between them, of which it reads the status file, the index, the plan, dpkg's answer, what dpkg leaves, and the decision
+in docs/DECISIONS.md that the row names; `$` is a newline. Other lines are passed over. It prints each difference and
+the counts, and exits with 1 where there is one. dpkg works in a temporary folder alone, on packages that dpkg-deb makes
+of the index there. It has to be run by root."""
+
+import os
+import subprocess
+import sys
+import tempfile
+
+COLUMNS = 9
+DECISIONS = os.path.join(os.path.dirname(os.path.abspath(__file__)), "../docs/DECISIONS.md")
+FOLDERS = ("info", "updates", "triggers")
+ENVIRONMENT = {"PATH": "/usr/sbin:/usr/bin:/sbin:/bin", "LC_ALL": "C"}
+# Without waiting for the disk.
+DPKG = ("dpkg", "--force-unsafe-io")
+# What dpkg-deb asks for and no rule reads.
+BESIDES = "Maintainer: nobody <nobody@example.org>\nDescription: made up\n"
+
+
+def rows_in(path):
+    """The rows of the table, each as its columns."""
+    with open(path, encoding="utf-8") as lines:
+        rows = [line.rstrip("\n").split("→") for line in lines]
+    return [row for row in rows if len(row) == COLUMNS]
+
+
+def stanzas_in(text):
+    """The stanzas of a text, each as its fields; what goes on in further lines keeps its newlines."""
+    stanzas = []
+    for stanza in text.split("\n\n"):
+        fields = {}
+        for line in filter(None, stanza.split("\n")):
+            if line[0] == " ":
+                fields[name] += "\n" + line
+            else:
+                name, _, value = line.partition(":")
+                fields[name] = value.strip(" ")
+        stanzas.append(fields)
+    return [fields for fields in stanzas if fields]
+
+
+def write(root, path, text):
+    place = os.path.join(root, path)
+    os.makedirs(os.path.dirname(place), exist_ok=True)
+    with open(place, "w", encoding="utf-8") as file:
+        file.write(text)
+
+
+def conffiles_of(fields):
+    """The paths of the configuration files that the field Conffiles lists."""
+    return [line.split()[0] for line in fields.get("Conffiles", "").split("\n") if line]
+
+
+def add_start(root, status):
+    """Writes the database of dpkg with this status file, and the configuration files of the packages in it."""
+    for folder in FOLDERS:
+        os.makedirs(os.path.join(root, "var/lib/dpkg", folder))
+    write(root, "var/lib/dpkg/status", status)
+    write(root, "var/lib/dpkg/available", "")
+    for fields in stanzas_in(status):
+        paths = conffiles_of(fields)
+        write(root, f"var/lib/dpkg/info/{fields['Package']}.list", "\n".join(["/.", *paths, ""]))
+        for path in paths:
+            write(root, path[1:], "")
+
+
+def add_package(folder, fields):
+    """Has dpkg-deb make the package of a stanza, with the configuration files that the stanza lists."""
+    name = f"{fields['Package']}_{fields['Version']}"
+    control = "".join(f"{field}: {value}\n" for field, value in fields.items() if field != "Conffiles")
+    write(folder, f"{name}/DEBIAN/control", control + BESIDES)
+    paths = conffiles_of(fields)
+    write(folder, f"{name}/DEBIAN/conffiles", "".join(path + "\n" for path in paths))
+    for path in paths:
+        write(folder, name + path, "")
+    command = ["dpkg-deb", "--build", "-Znone", name, f"{name}.deb"]
+    subprocess.run(command, cwd=folder, env=ENVIRONMENT, capture_output=True, check=True)
+
+
+def words_of(step, deconfigures):
+    """The words that have dpkg carry out a step. It deconfigures on the way to an unpacking alone, where it may."""
+    action, *names = step.split(" ")
+    if action == "unpack":
+        return ["--auto-deconfigure"] * deconfigures + ["--unpack", f"{names[0]}_{names[1]}.deb"]
+    return [f"--{action}", *names]
+
+
+def answer_to(root, folder, steps):
+    """Whether dpkg carried out all the steps, or the first that it refused. To deconfigure is no command of dpkg, so
+    it is left to the next step."""
+    deconfigures = False
+    for number, step in enumerate(steps, 1):
+        if step.startswith("deconfigure "):
+            deconfigures = True
+            continue
+        command = [*DPKG, f"--root={root}", f"--log={root}/log", *words_of(step, deconfigures)]
+        status = subprocess.run(command, cwd=folder, env=ENVIRONMENT, capture_output=True, check=False).returncode
+        if status == 1:
+            return f"no step {number}"
+        if status != 0:
+            sys.exit(f"dpkg_sequences.py: dpkg ended with status {status} at {step}")
+        deconfigures = False
+    return "yes"
+
+
+def left_in(root):
+    """The names that dpkg has in its status file, each with its state, its version and its config version."""
+    with open(os.path.join(root, "var/lib/dpkg/status"), encoding="utf-8") as status:
+        stanzas = stanzas_in(status.read())
+    left = []
+    for fields in stanzas:
+        words = [fields["Package"], fields["Status"].split()[2], fields.get("Version", "")]
+        if "Config-Version" in fields:
+            words += ["config", fields["Config-Version"]]
+        if words[1] != "not-installed":
+            left.append(" ".join(filter(None, words)))
+    return ", ".join(left) or "nothing"
+
+
+def decisions():
+    """The decisions that a row can name, and none."""
+    with open(DECISIONS, encoding="utf-8") as text:
+        return {""} | {line.removeprefix("### ").rstrip("\n") for line in text if line.startswith("### ")}
+
+
+def ask_dpkg(row):
+    """dpkg's answer to the steps of a row, and what it leaves."""
+    status, index, _, plan = [column.replace("$", "\n") for column in row[:4]]
+    with tempfile.TemporaryDirectory() as folder:
+        root = os.path.join(folder, "root")
+        add_start(root, status)
+        for fields in stanzas_in(index):
+            add_package(folder, fields)
+        answer = answer_to(root, folder, plan.splitlines()[1:])
+        return [answer, left_in(root)]
+
+
+def main():
+    if len(sys.argv) != 2:
+        sys.exit("usage: dpkg_sequences.py TABLE")
+    rows = rows_in(sys.argv[1])
+    known = decisions()
+    differences = 0
+    for row in rows:
+        answer = ask_dpkg(row)
+        if answer != row[4:6] or row[8] not in known:
+            differences += 1
+            print(f"{'→'.join(row)}\n    dpkg: {'→'.join(answer)}{'' if row[8] in known else ', and no such decision'}")
+    print(f"dpkg {len(rows)} rows, {differences} differences")
+    sys.exit(1 if differences or not rows else 0)
+
+
+if __name__ == "__main__":
+    main()
