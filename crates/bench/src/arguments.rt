@@ -14,6 +14,8 @@ pub enum Measure {
     Index,
     /// Reading a status file, and writing it.
     Status,
+    /// Building the universe of a request over a Packages file.
+    Universe,
 }
 
 /// A measure, and the file on which it is taken.
@@ -46,6 +48,7 @@ fn measure_of(word: &str) -> Option<Measure> {
         "relations" => Some(Measure::Relations),
         "index" => Some(Measure::Index),
         "status" => Some(Measure::Status),
+        "universe" => Some(Measure::Universe),
         _ => None,
     }
 }

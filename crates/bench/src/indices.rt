@@ -12,15 +12,15 @@ pub fn measure(rt: &HostRuntime, text: &[u8]) -> Result<()> {
     let start = Instant::now(rt)?;
     let index = Index::read(rt.alloc(), text, release, b"amd64", 0)?;
     let time = start.elapsed(rt)?;
-    let (packages, names) = (index.packages().len(), index.names().len());
+    let (packages, names) = (index.packages().len(), index.names(rt.alloc())?.len());
     let skipped = index.skipped();
     println!(rt; "packages {packages} names {names} skipped {skipped}")?;
     print_time(rt, "index read", time)?;
     Ok(())
 }
 
-// The release keys of an index of which nothing is known.
-fn no_keys(alloc: Global) -> Result<Release, AllocError> {
+/// The release keys of an index of which nothing is known.
+pub fn no_keys(alloc: Global) -> Result<Release, AllocError> {
     Ok(Release {
         archive: None,
         suite: None,

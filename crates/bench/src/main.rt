@@ -1,6 +1,6 @@
 //! What debplan's readers cost on real data. `bench MEASURE FILE ..` reads each FILE once, does the work of
 //! the MEASURE before it, and prints fixed counts; times go to standard error alone.
-//! It stands on `stanza`, `debversion`, `relation`, `index` and `status_store`, and nothing stands on it.
+//! It stands on the readers and on `universe_build`, and nothing stands on it.
 #![tactic(auto)]
 
 mod arguments;
@@ -9,6 +9,7 @@ mod relations;
 mod report;
 mod stanzas;
 mod statuses;
+mod universes;
 mod versions;
 
 use anyhow::Result;
@@ -16,7 +17,7 @@ use arguments::{Measure, Task, tasks_of};
 use std::process::ExitCode;
 use std::{env, fs, io};
 
-const USAGE: &str = "usage: bench (stanzas|versions|relations|index|status) FILE ..";
+const USAGE: &str = "usage: bench (stanzas|versions|relations|index|status|universe) FILE ..";
 
 fn main(rt: HostRuntime) -> io::Result<ExitCode> {
     let words: Vec<String> = env::args(&rt)?.skip(1).collect(rt.alloc())?;
@@ -42,5 +43,6 @@ fn run(rt: &HostRuntime, task: &Task<'_>) -> Result<()> {
         Measure::Relations => relations::measure(rt, text.as_slice()),
         Measure::Index => indices::measure(rt, text.as_slice()),
         Measure::Status => statuses::measure(rt, text.as_slice()),
+        Measure::Universe => universes::measure(rt, text.as_slice()),
     }
 }

@@ -15,3 +15,4 @@ pub mod RecordOrder
 pub mod Runs
 pub mod Searching
 pub mod StanzaOrder
+pub mod Prefixes

@@ -8,3 +8,4 @@ pub mod Recorded
 pub mod RecordedLaws
 pub mod Stanza
 pub mod StanzaLaws
+pub mod Prefix

@@ -38,9 +38,9 @@ choice_cmp =
 abbrev pub offer_name_cmp : Offer → Offer → Ordering
 offer_name_cmp = on (λ offer. offer.name) name_cmp
 
--- the order of offers: by name, and of one name the one to choose first
+-- the order of offers: by name, the last first, and of one name the one to choose first
 abbrev pub offer_cmp : Offer → Offer → Ordering
-offer_cmp = then_cmp offer_name_cmp choice_cmp
+offer_cmp = then_cmp (flip_args offer_name_cmp) choice_cmp
 
 -- the other offer is of the same name, and this one isn't to be chosen before it
 unfoldable pub IsBeaten : Offer → Offer → Type 0

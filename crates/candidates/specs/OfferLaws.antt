@@ -14,4 +14,4 @@ pub offer_name_cmp_total : IsTotalOrder offer_name_cmp
 offer_name_cmp_total = on_total (λ (offer : Offer). offer.name) nat_list_cmp_total
 
 pub offer_cmp_total : IsTotalOrder offer_cmp
-offer_cmp_total = then_total offer_name_cmp_total choice_cmp_total
+offer_cmp_total = then_total (back_total offer_name_cmp_total) choice_cmp_total

@@ -8,6 +8,7 @@ mod offer;
 mod offered;
 mod order;
 mod place;
+mod prefix;
 mod rated;
 mod recorded;
 

@@ -12,8 +12,8 @@ use std::alloc::AllocError;
 use std::cmp::Ordering;
 use std::marker::Model;
 
-/// A version of a name, and its priority. Offers are ordered by the bytes of the name; of one name the greater priority is
-/// first, and of one priority the higher version (deb-version(7)).
+/// A version of a name, and its priority. Offers are ordered by the bytes of the name, the last name first; of one name the
+/// greater priority is first, and of one priority the higher version (deb-version(7)).
 #[derive(Drop)]
 pub struct Offer<'a> {
     name: &'a [u8],
@@ -90,13 +90,17 @@ pub fn eligible<'a>(known: &Known<'_, '_>, offers: Vec<Offer<'a>>) -> Vec<Offer<
     kept
 }
 
-/// The offer of each name that is to be chosen first, in the order of names. About n log n comparisons of n offers.
+/// The offer of each name that is to be chosen first, in the order of names. About n log n comparisons of n offers, and about
+/// n where names and versions ascend and each name has one priority.
 pub fn best_of<'a>(offers: Vec<Offer<'a>>) -> Result<Vec<Offer<'a>>, AllocError>
     ensures { IfOk result (λ best. AreBest offers.entry.items best.items) }
 {
     let mut best = offers;
+    // The last name is first: so offers that come with ascending names and versions are one falling run, which the sort
+    // turns round at once.
     best.sort()?;
     best.dedup_by(|later, kept| later.name() == kept.name());
+    best.reverse();
     Ok(best)
 }
 
@@ -134,7 +138,7 @@ impl Ord for Offer<'_> {
     ghost matches_eq = { λ offer other. refl };
 
     fn cmp(&self, other: &Self) -> Ordering {
-        match self.name.cmp(other.name) {
+        match other.name.cmp(self.name) {
             Ordering::Equal => self.choice_cmp(other),
             decided => decided,
         }

@@ -4,11 +4,13 @@ ghost use Rattle.std.specs.Prelude.{◌≡◌, ◌+◌, ◌≤◌, [], IfOk, IfS
 ghost use Rattle.std.specs.Cmp.{eq_by_cmp_equiv, partial_equiv_from_equiv, po};
 ghost use Rattle.std.specs.List.{prefix_len};
 ghost use Rattle.std.specs.Ordering.{as_partial_cmp, eq_by_cmp};
+ghost use Rattle.rules.specs.Name.{name_cmp};
 ghost use Rattle.pins.specs.Origin.{release_origin};
 ghost use Rattle.candidates.specs.Inputs.{indices_of};
 ghost use Rattle.candidates.specs.Place.{AreSorted, IsNextRun, is_like, place_at, place_cmp, places_in, places_of};
 ghost use Rattle.candidates.specs.StanzaLaws.{place_cmp_total};
 
+use crate::prefix::{order_of, prefix_of};
 use debversion::Version;
 use index::{Entry, Index};
 use pins::Origin;
@@ -23,14 +25,19 @@ use std::marker::Model;
 pub struct Place<'p, 'a> {
     entry: &'p Entry<'a>,
     release: &'p Release,
+    prefix: [u8; 16],
 }
 
 impl<'p, 'a> Model for Place<'p, 'a> {
+    ghost use Rattle.std.specs.Prelude.{◌≡◌};
     ghost use Rattle.candidates.specs.Place.{Place as PlaceValue};
+    ghost use Rattle.candidates.specs.Prefix.{padded};
 
     ghost Value = { PlaceValue };
 
     ghost view = { λ p. record { listed = p.entry.now; release = p.release.now } };
+
+    ghost invariant = { λ p. p.prefix ≡ padded 16 p.entry.now.pkg.name };
 }
 
 impl<'p, 'a> Place<'p, 'a> {
@@ -62,6 +69,13 @@ impl<'p, 'a> Place<'p, 'a> {
         Origin::index(self.release)
     }
 
+    // The order of the names.
+    fn name_cmp(&self, other: &Place<'_, '_>) -> Ordering
+        ensures { result ≡ name_cmp self.now.listed.pkg.name other.now.listed.pkg.name }
+    {
+        order_of(&self.prefix, self.name(), &other.prefix, other.name())
+    }
+
     // Whether it has the name and the version of another.
     fn is_like(&self, other: &Place<'_, '_>) -> bool
         ensures { result ≡ is_like other.now self.now }
@@ -73,7 +87,11 @@ impl<'p, 'a> Place<'p, 'a> {
 fn place_at<'p, 'a>(release: &'p Release, entry: &'p Entry<'a>) -> Place<'p, 'a>
     ensures { result ≡ place_at release.now entry.now }
 {
-    Place { entry, release }
+    Place {
+        entry,
+        release,
+        prefix: prefix_of(entry.name()),
+    }
 }
 
 fn places_in<'p, 'a>(alloc: Global, index: &'p Index<'a>) -> Result<Vec<Place<'p, 'a>>, AllocError>
@@ -175,7 +193,7 @@ impl Ord for Place<'_, '_> {
     ghost matches_eq = { λ place other. refl };
 
     fn cmp(&self, other: &Self) -> Ordering {
-        match self.name().cmp(other.name()) {
+        match self.name_cmp(other) {
             Ordering::Equal => self.version().cmp(other.version()),
             decided => decided,
         }

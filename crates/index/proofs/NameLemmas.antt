@@ -2,11 +2,9 @@
 use Rattle.std.proofs.Common.{◌≡◌, ℕ, Bool, true, false, ◌||◌, List, [], ◌∷◌, ◌++◌, map, fold, refl, sym, ap, ◌∙◌, bytes_eq, Bor, ◌+◌, ◌<◌, drop, get_or, length}
 use Rattle.std.specs.List.{list_any}
 use Rattle.std.proofs.lemmas.List.{drop_more}
-use Rattle.std.proofs.lemmas.List.Folds.{list_any-append}
 use Rattle.indexmap.specs.IndexSet.{insert_key}
-use Rattle.rules.specs.NamedLaws.{bytes_eq-true}
 use Rattle.rules.specs.Step.{Listed}
-use Rattle.index.specs.Names.{has_name, names_of, with_name}
+use Rattle.index.specs.Names.{names_of, with_name}
 
 pub list_any-map : {X Y : Type 0} (p : X → Bool) (h : Y → X) (ys : List Y) → list_any p (map h ys) ≡ list_any (λ y. p (h y)) ys
 list_any-map p h [] = refl
@@ -29,42 +27,6 @@ inserted keys name = by (list_any (λ (key : Bor (List ℕ)). bytes_eq name.now 
     by false e = rw (list_any-map (bytes_eq name.now) (λ (key : Bor (List ℕ)). key.now) keys, e)
         (map-push (λ (key : Bor (List ℕ)). key.now) keys name)
 
-or_same : (b c : Bool) → (c ≡ true → b ≡ true) → b ≡ (b || c)
-or_same true c h = refl
-or_same false false h = refl
-or_same false true h = h refl
-
-or_later : (a b c : Bool) → ((a || b) || c) ≡ (a || (b || c))
-or_later true b c = refl
-or_later false b c = refl
-
-or_false : (b : Bool) → b ≡ (b || false)
-or_false true = refl
-or_false false = refl
-
--- a name is among these and one more where it is among these or is the other
-with_name-has : (asked : List ℕ) (names : List (List ℕ)) (name : List ℕ)
-    → list_any (bytes_eq asked) (with_name names name) ≡ (list_any (bytes_eq asked) names || bytes_eq asked name)
-with_name-has asked names name = by (list_any (bytes_eq name) names) refl
-  where
-    by : (b : Bool) → list_any (bytes_eq name) names ≡ b
-        → list_any (bytes_eq asked) (with_name names name) ≡ (list_any (bytes_eq asked) names || bytes_eq asked name)
-    by true e = rw e (or_same (list_any (bytes_eq asked) names) (bytes_eq asked name)
-        (λ same. ap (λ other. list_any (bytes_eq other) names) (bytes_eq-true asked name same) ∙ e))
-    by false e = rw e (list_any-append (bytes_eq asked) names (name ∷ []) ∙ ap (λ b. list_any (bytes_eq asked) names || b) (sym (or_false (bytes_eq asked name))))
-
-folded-has : (asked : List ℕ) (names more : List (List ℕ))
-    → list_any (bytes_eq asked) (fold with_name names more) ≡ (list_any (bytes_eq asked) names || list_any (bytes_eq asked) more)
-folded-has asked names [] = or_false (list_any (bytes_eq asked) names)
-folded-has asked names (name ∷ more) = folded-has asked (with_name names name) more
-    ∙ ap (λ b. b || list_any (bytes_eq asked) more) (with_name-has asked names name)
-    ∙ or_later (list_any (bytes_eq asked) names) (bytes_eq asked name) (list_any (bytes_eq asked) more)
-
--- a name is among the names of packages where a package has it
-pub names_of-has : (asked : List ℕ) (listed : List Listed) → list_any (bytes_eq asked) (names_of listed) ≡ has_name asked listed
-names_of-has asked listed = folded-has asked [] (map (λ (found : Listed). found.pkg.name) listed)
-    ∙ list_any-map (bytes_eq asked) (λ (found : Listed). found.pkg.name) listed
-
 -- the names that keys of a set are
 abbrev names_in : List (Bor (List ℕ)) → List (List ℕ)
 names_in keys = map (λ (key : Bor (List ℕ)). key.now) keys
@@ -81,9 +43,3 @@ names-next listed place found keys after name within is named put so_far = so_fa
     (ap (λ (here : Listed). with_name (names_in keys) here.pkg.name) (sym is)
     ∙ ap (with_name (names_in keys)) (sym named)
     ∙ sym (inserted keys name) ∙ ap names_in (sym put))
-
--- a set that has the names of packages has a name where a package has it
-pub has-name : (asked : List ℕ) (listed : List Listed) (keys : List (Bor (List ℕ))) → names_in keys ≡ names_of listed
-    → list_any (λ (key : Bor (List ℕ)). bytes_eq asked key.now) keys ≡ has_name asked listed
-has-name asked listed keys same = sym (list_any-map (bytes_eq asked) (λ (key : Bor (List ℕ)). key.now) keys)
-    ∙ ap (list_any (bytes_eq asked)) same ∙ names_of-has asked listed

@@ -1,5 +1,5 @@
 -- A text that is one stanza, as the package of an index (Debian Policy 5.1 and 5.3).
-use Rattle.std.specs.Prelude.{ℕ, false, List, [], ◌∷◌, Option, Some, None, Result, Ok, Err}
+use Rattle.std.specs.Prelude.{ℕ, false, List, [], ◌∷◌, Option, None, Result, Ok, Err}
 use Rattle.rules.specs.Step.{Listed}
 use Rattle.stanza.specs.Stanza.{StanzaText, items_of}
 use Rattle.stanza.specs.declared.error.StanzaError.{StanzaError}

@@ -11,7 +11,7 @@ use Rattle.rules.specs.Step.{Listed}
 use Rattle.rules.specs.declared.release.Release.{Release}
 use Rattle.rules.specs.declared.limits.TheConstants.{TEXT_BYTES, PACKAGES}
 use Rattle.stanza.specs.declared.error.StanzaError.{StanzaError}
-use Rattle.stanza.specs.Field.{FieldText, value_named}
+use Rattle.stanza.specs.Field.{value_named}
 use Rattle.stanza.specs.Stanza.{StanzaText, items_of}
 use Rattle.index.specs.declared.error.IndexFault.{IndexFault}
 use Rattle.index.specs.declared.error.IndexFault.TheVariants as fault

@@ -1,11 +1,7 @@
 -- The names of the packages of an index.
-use Rattle.std.specs.Prelude.{ℕ, Bool, List, [], ◌∷◌, ◌++◌, map, bytes_eq, fold, if◌then◌else◌}
+use Rattle.std.specs.Prelude.{ℕ, List, [], ◌∷◌, ◌++◌, map, bytes_eq, fold, if◌then◌else◌}
 use Rattle.std.specs.List.{list_any}
 use Rattle.rules.specs.Step.{Listed}
-
--- a package of these has the name, as a test
-abbrev pub has_name : List ℕ → List Listed → Bool
-has_name name listed = list_any (λ found. bytes_eq name found.pkg.name) listed
 
 -- the names, with one more behind them unless it is there
 abbrev pub with_name : List (List ℕ) → List ℕ → List (List ℕ)

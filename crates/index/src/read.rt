@@ -2,7 +2,7 @@
 ghost use Rattle.std.specs.Prelude.{◌≡◌, IfErr, IfOk, Ok, map};
 ghost use Rattle.index.specs.Error.{IsIndexFault};
 ghost use Rattle.index.specs.Index as Spec;
-ghost use Rattle.index.specs.Names.{has_name, names_of};
+ghost use Rattle.index.specs.Names.{names_of};
 
 use crate::entry::Entry;
 use crate::error::{IndexError, IndexFault};
@@ -10,7 +10,7 @@ use crate::names::distinct_names;
 use crate::stanzas::stanzas_in;
 use indexmap::IndexSet;
 use rules::{Release, TEXT_BYTES};
-use std::alloc::Global;
+use std::alloc::{AllocError, Global};
 use std::marker::Model;
 
 /// An index: its release keys, the stanzas that count, in the order of the text, and how many were skipped, since they
@@ -19,20 +19,15 @@ use std::marker::Model;
 pub struct Index<'a> {
     release: Release,
     entries: Vec<Entry<'a>>,
-    names: IndexSet<&'a [u8]>,
     skipped: usize,
 }
 
 impl<'a> Model for Index<'a> {
-    ghost use Rattle.std.specs.Prelude.{◌≡◌, map};
     ghost use Rattle.index.specs.Index.{ReadIndex};
-    ghost use Rattle.index.specs.Names.{names_of};
 
     ghost Value = { ReadIndex };
 
     ghost view = { λ i. record { index = record { release = i.release; listed = i.entries.items }; skipped = i.skipped } };
-
-    ghost invariant = { λ i. map (λ name. name.now) i.names.keys ≡ names_of i.entries.items };
 }
 
 impl<'a> Index<'a> {
@@ -56,11 +51,9 @@ impl<'a> Index<'a> {
             return Err(IndexFault::TooLarge.into());
         }
         let stanzas = stanzas_in(alloc, text, arch, before)?;
-        let names = distinct_names(alloc, stanzas.entries.as_slice())?;
         Ok(Index {
             release,
             entries: stanzas.entries,
-            names,
             skipped: stanzas.skipped,
         })
     }
@@ -79,18 +72,12 @@ impl<'a> Index<'a> {
         self.entries.as_slice()
     }
 
-    /// The names of the packages, each once, in the order in which each is first read.
-    pub fn names(&self) -> &[&'a [u8]]
-        ensures { map (λ name. name.now) result.now ≡ names_of self.now.index.listed }
+    /// The names of the packages, each once, in the order in which each is first read. Memory alone can fail. Linear in the
+    /// packages.
+    pub fn names(&self, alloc: Global) -> Result<IndexSet<&'a [u8]>, AllocError>
+        ensures { IfOk result (λ names. map (λ name. name.now) names.keys ≡ names_of self.now.index.listed) }
     {
-        self.names.as_slice()
-    }
-
-    /// Whether a package has this name. Linear in the name alone.
-    pub fn has_name(&self, name: &[u8]) -> bool
-        ensures { result ≡ has_name name.now self.now.index.listed }
-    {
-        self.names.contains(name)
+        distinct_names(alloc, self.packages())
     }
 
     /// How many stanzas are of another architecture.

@@ -142,8 +142,8 @@ fn an_index_has_its_names_once_and_its_release(rt: HostRuntime) -> Result<(), Fa
     let text =
         b"Package: b\nVersion: 1\nArchitecture: all\n\nPackage: a\nVersion: 1\nArchitecture: all\n\nPackage: c\nArchitecture: i386\n\nPackage: b\nVersion: 2\nArchitecture: amd64\nX: y\n";
     let index = read(rt.alloc(), text, ARCH, 0)?;
-    assert_eq!(rt; index.names(), [b"b".as_slice(), b"a"].as_slice());
-    assert!(rt; index.has_name(b"a") && !index.has_name(b"c"));
+    let names = index.names(rt.alloc())?;
+    assert_eq!(rt; names.as_slice(), [b"b".as_slice(), b"a"].as_slice());
     assert_eq!(rt; index.release().host.as_bytes(), b"h".as_slice());
     for entry in index.packages() {
         let listed = entry.listed(rt.alloc())?;

@@ -20,6 +20,11 @@ pub enum PrefsField {
 }
 
 impl fmt::Display for PrefsField {
+    ghost use Rattle.std.specs.Prelude.{Some};
+    ghost use Rattle.pins.specs.Error.{field_name};
+
+    ghost output = { λ field. Some (field_name field) };
+
     fn fmt<W: fmt::Write>(&self, f: &mut fmt::Formatter<W>) -> fmt::Result {
         match self {
             PrefsField::Package => f.write_str("Package"),

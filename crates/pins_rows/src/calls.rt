@@ -18,16 +18,19 @@ fn the_readme_example(rt: HostRuntime) -> Result<(), Fail> {
     Ok(())
 }
 
+// Whether the target is this one, and there are no records.
+fn is_target_alone(prefs: &Prefs, target: Option<&[u8]>) -> bool {
+    prefs.target() == target && prefs.records().is_empty()
+}
+
 #[test]
 fn the_target_is_kept(rt: HostRuntime) -> Result<(), Fail> {
-    let alloc = rt.alloc();
-    let read = Prefs::read(alloc, b"", Some(b"stable"))?;
-    assert_eq!(rt; read.target(), Some(b"stable".as_slice()));
-    assert_eq!(rt; read.records().len(), 0);
-    let without = Prefs::without_records(alloc, Some(b"12"))?;
-    assert_eq!(rt; without.target(), Some(b"12".as_slice()));
-    assert_eq!(rt; without.records().len(), 0);
-    assert_eq!(rt; Prefs::without_records(alloc, None)?.target(), None);
+    let read = Prefs::read(rt.alloc(), b"", Some(b"stable"))?;
+    assert!(rt; is_target_alone(&read, Some(b"stable")));
+    let without = Prefs::without_records(rt.alloc(), Some(b"12"))?;
+    assert!(rt; is_target_alone(&without, Some(b"12")));
+    let none = Prefs::without_records(rt.alloc(), None)?;
+    assert!(rt; is_target_alone(&none, None));
     Ok(())
 }
 

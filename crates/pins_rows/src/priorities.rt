@@ -9,6 +9,7 @@ use std::process::Abort;
 use std::test::Fail;
 
 fn no_keys(alloc: Global) -> Result<Release, Fail> {
+    let host = Text::copied_from(alloc, b"")?;
     Ok(Release {
         archive: None,
         suite: None,
@@ -17,7 +18,7 @@ fn no_keys(alloc: Global) -> Result<Release, Fail> {
         component: None,
         origin: None,
         label: None,
-        host: Text::copied_from(alloc, b"")?,
+        host,
         not_automatic: false,
         but_automatic_upgrades: false,
     })

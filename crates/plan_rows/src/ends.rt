@@ -122,32 +122,34 @@ installed config-files Goal 2
 not-installed config-files Goal 1
 ";
 
-// Whether the row holds of these packages.
-fn ends_so(
-    alloc: Global,
-    universe: &Universe<'_, '_>,
-    lib: &Pkg<'_>,
-    app: &Pkg<'_>,
-    row: &str,
-) -> Result<bool, Fail> {
-    let Some((lib_state, rest)) = row.split_once(' ') else {
+// What is against the end of these records with both goals.
+fn against_both(alloc: Global, db: &Records<'_, '_>) -> Result<String, Fail> {
+    let universe = install_both(alloc)?;
+    against(alloc, &universe, db)
+}
+
+// The same where the packages are in these states.
+fn against_states(alloc: Global, lib_state: State, app_state: State) -> Result<String, Fail> {
+    let lib = package(alloc, b"Package: lib\nVersion: 1\n")?;
+    let app = package(alloc, b"Package: app\nVersion: 1\nDepends: lib\n")?;
+    let db = both(alloc, &lib, lib_state, &app, app_state)?;
+    against_both(alloc, &db)
+}
+
+fn ends_so(alloc: Global, row: &str) -> Result<bool, Fail> {
+    let Some((lib, rest)) = row.split_once(' ') else {
         return Ok(false);
     };
-    let Some((app_state, wanted)) = rest.split_once(' ') else {
+    let Some((app, wanted)) = rest.split_once(' ') else {
         return Ok(false);
     };
-    let db = both(alloc, lib, state_of(lib_state), app, state_of(app_state))?;
-    Ok(against(alloc, universe, &db)?.as_str() == wanted)
+    Ok(against_states(alloc, state_of(lib), state_of(app))?.as_str() == wanted)
 }
 
 #[test]
 fn an_end_has_its_first_reason(rt: HostRuntime) -> Result<(), Fail> {
-    let alloc = rt.alloc();
-    let universe = install_both(alloc)?;
-    let lib = package(alloc, b"Package: lib\nVersion: 1\n")?;
-    let app = package(alloc, b"Package: app\nVersion: 1\nDepends: lib\n")?;
     for row in ENDS.lines() {
-        assert!(rt; ends_so(alloc, &universe, &lib, &app, row)?, "{row}");
+        assert!(rt; ends_so(rt.alloc(), row)?, "{row}");
     }
     Ok(())
 }
@@ -197,47 +199,53 @@ upgrade-all a yes no yes
 no-remove a yes yes no
 ";
 
-// Whether nothing is against an end where `a` has this version and is installed, and `h` is so far.
-fn is_done(
-    alloc: Global,
-    universe: &Universe<'_, '_>,
-    a: &Pkg<'_>,
-    h: &Pkg<'_>,
-    h_state: State,
-) -> Result<bool, Fail> {
-    let db = both(alloc, a, State::Installed, h, h_state)?;
-    match first_against(alloc, universe, &db) {
+// Whether nothing is against the end of these records where the command for the name was the goal.
+fn is_done(alloc: Global, command: &str, name: &str, db: &Records<'_, '_>) -> Result<bool, Fail> {
+    let goal = goal_of(alloc, command, name_of(alloc, name)?)?;
+    let universe = both_stood(alloc, goal)?;
+    match first_against(alloc, &universe, db) {
         Ok(found) => Ok(found.is_none()),
         Err(refused) => Err(refused.into()),
     }
 }
 
+// The same where `a` is installed as in its stanza, and `h` is so far.
+fn is_done_with(
+    alloc: Global,
+    command: &str,
+    name: &str,
+    a: &[u8],
+    h_state: State,
+) -> Result<bool, Fail> {
+    let a = package(alloc, a)?;
+    let h = package(alloc, b"Package: h\nVersion: 1\n")?;
+    let db = both(alloc, &a, State::Installed, &h, h_state)?;
+    is_done(alloc, command, name, &db)
+}
+
+const BEFORE: &[u8] = b"Package: a\nVersion: 1\n";
+
+const AFTER: &[u8] = b"Package: a\nVersion: 2\n";
+
 fn said(word: Option<&str>) -> bool {
     word == Some("yes")
 }
 
-fn row_holds(alloc: Global, packages: [&Pkg<'_>; 3], row: &str) -> Result<bool, Fail> {
+fn row_holds(alloc: Global, row: &str) -> Result<bool, Fail> {
     let mut words = row.split_whitespace();
     let (Some(command), Some(name)) = (words.next(), words.next()) else {
         return Ok(false);
     };
-    let goal = goal_of(alloc, command, name_of(alloc, name)?)?;
-    let universe = both_stood(alloc, goal)?;
-    let [before, after, h] = packages;
-    let upgraded = is_done(alloc, &universe, after, h, State::Installed)?;
-    let kept = is_done(alloc, &universe, before, h, State::Installed)?;
-    let lost = is_done(alloc, &universe, after, h, State::ConfigFiles)?;
+    let upgraded = is_done_with(alloc, command, name, AFTER, State::Installed)?;
+    let kept = is_done_with(alloc, command, name, BEFORE, State::Installed)?;
+    let lost = is_done_with(alloc, command, name, AFTER, State::ConfigFiles)?;
     Ok(upgraded == said(words.next()) && kept == said(words.next()) && lost == said(words.next()))
 }
 
 #[test]
 fn goals_are_fulfilled_as_apt_get_does_them(rt: HostRuntime) -> Result<(), Fail> {
-    let alloc = rt.alloc();
-    let before = package(alloc, b"Package: a\nVersion: 1\n")?;
-    let after = package(alloc, b"Package: a\nVersion: 2\n")?;
-    let h = package(alloc, b"Package: h\nVersion: 1\n")?;
     for row in GOALS.lines() {
-        assert!(rt; row_holds(alloc, [&before, &after, &h], row)?, "{row}");
+        assert!(rt; row_holds(rt.alloc(), row)?, "{row}");
     }
     Ok(())
 }

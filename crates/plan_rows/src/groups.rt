@@ -3,9 +3,10 @@
 //! and no smaller group of it could be configured by itself.
 use crate::ends::universe_of;
 use crate::packages::{name_of, package};
+use crate::universes::unescaped;
 use plancheck::{configure_failing, legal};
 use plancheck_group::{greatest_part, is_indivisible};
-use plantext::read_plan;
+use plantext::read_step;
 use relation::Pkg;
 use rules::{Flag, Name, Rule, State, Step, Want};
 use status::{PackageRecord, Records};
@@ -105,16 +106,30 @@ fn shown(alloc: Global, db: &Records<'_, '_>, names: &[Name]) -> Result<String, 
     Ok(shown)
 }
 
+// The packages, of which those with a mark are installed.
+fn records_of<'p, 'a>(
+    alloc: Global,
+    pkgs: &'p [Pkg<'a>],
+    marks: &[bool],
+) -> Result<Records<'p, 'a>, Fail> {
+    let mut db = Vec::new(alloc);
+    for (pkg, mark) in pkgs.iter().zip(marks) {
+        db.push(record_of(pkg, *mark))?;
+    }
+    Ok(Records::new(alloc, db)?)
+}
+
+fn answer_on(alloc: Global, db: &Records<'_, '_>, names: &str) -> Result<String, Fail> {
+    let names = names_of(alloc, names)?;
+    shown(alloc, db, names.as_slice())
+}
+
 fn answer(alloc: Global, packages: &str, names: &str) -> Result<String, Fail> {
     let stanzas = stanzas_of(alloc, packages)?;
     let marks = marks_of(alloc, packages)?;
     let pkgs = packages_of(alloc, stanzas.as_slice())?;
-    let mut db = Vec::new(alloc);
-    for (pkg, mark) in pkgs.iter().zip(marks.as_slice()) {
-        db.push(record_of(pkg, *mark))?;
-    }
-    let names = names_of(alloc, names)?;
-    shown(alloc, &Records::new(alloc, db)?, names.as_slice())
+    let db = records_of(alloc, pkgs.as_slice(), marks.as_slice())?;
+    answer_on(alloc, &db, names)
 }
 
 // The packages, unpacked but for those with `+`, which are installed; the group; and behind the second arrow the first rule
@@ -179,25 +194,41 @@ fn rule_of(
     }
 }
 
-// Of `a; Depends: b`, `b; Depends: a` and `c`, all unpacked.
+// The same of the step of a line.
+fn rule_of_line(alloc: Global, db: &Records<'_, '_>, line: &[u8]) -> Result<&'static str, Fail> {
+    let step = read_step(alloc, line)?;
+    let universe = universe_of(alloc, Vec::new(alloc), Vec::new(alloc))?;
+    rule_of(alloc, db, &universe, &step)
+}
+
+// The same of packages that are all unpacked.
+fn judged(alloc: Global, packages: &str, line: &[u8]) -> Result<&'static str, Fail> {
+    let stanzas = stanzas_of(alloc, packages)?;
+    let marks = marks_of(alloc, packages)?;
+    let pkgs = packages_of(alloc, stanzas.as_slice())?;
+    let db = records_of(alloc, pkgs.as_slice(), marks.as_slice())?;
+    rule_of_line(alloc, &db, line)
+}
+
+fn is_judged(alloc: Global, row: &str) -> Result<bool, Fail> {
+    let Some((line, wanted)) = row.split_once('→') else {
+        return Ok(false);
+    };
+    let line = unescaped(alloc, line)?;
+    Ok(judged(alloc, "a;Depends: b|b;Depends: a|c", line.as_slice())? == wanted)
+}
+
+// Of `a; Depends: b`, `b; Depends: a` and `c`, all unpacked. `$` stands for a newline.
+const STEPS: &str = "\
+configure a b$→allowed
+configure a b c$→F5
+configure a$→F4
+";
+
 #[test]
 fn a_step_is_judged_as_its_group(rt: HostRuntime) -> Result<(), Fail> {
-    let alloc = rt.alloc();
-    let stanzas = stanzas_of(alloc, "a;Depends: b|b;Depends: a|c")?;
-    let pkgs = packages_of(alloc, stanzas.as_slice())?;
-    let mut db = Vec::new(alloc);
-    for pkg in &pkgs {
-        db.push(record_of(pkg, false))?;
-    }
-    let db = Records::new(alloc, db)?;
-    let universe = universe_of(alloc, Vec::new(alloc), Vec::new(alloc))?;
-    let steps = read_plan(
-        alloc,
-        b"plan 1\nconfigure a b\nconfigure a b c\nconfigure a\n",
-    )?;
-    for (step, wanted) in steps.iter().zip(["allowed", "F5", "F4"]) {
-        let rule = rule_of(alloc, &db, &universe, step)?;
-        assert_eq!(rt; rule, wanted);
+    for row in STEPS.lines() {
+        assert!(rt; is_judged(rt.alloc(), row)?, "{row}");
     }
     Ok(())
 }

@@ -1,26 +1,29 @@
 //! What a universe is asked by name and by number. Who provides a name is counted by hand from Policy 7.5.
+ghost use Rattle.std.specs.Prelude.{map};
+ghost use Rattle.rules.specs.Database.{HasDistinctNames};
+ghost use Rattle.rules.specs.Entry.{records_of};
 
-use crate::universes::{release, unescaped};
+use crate::universes::release;
 use index::Index;
 use pins::Prefs;
-use status_store::Database;
+use status_store::{Database, Record};
 use std::alloc::Global;
 use std::str;
 use std::test::Fail;
 use universe::Universe;
 use universe_build::build;
 
-const STATUS: &str = "\
-Package: a$Status: install ok installed$Version: 1.5$Architecture: all$Provides: web$$\
-Package: s$Status: install ok unpacked$Version: 2$Architecture: all$";
+const STATUS: &[u8] = b"\
+Package: a\nStatus: install ok installed\nVersion: 1.5\nArchitecture: all\nProvides: web\n\n\
+Package: s\nStatus: install ok unpacked\nVersion: 2\nArchitecture: all\n";
 
 // The first `a` is a downgrade, so the pairs are a 1.5, a 2, b 3, c 1, mail 1 and s 2.
-const INDEX: &str = "\
-Package: mail$Version: 1$Architecture: all$Provides: mail$$\
-Package: b$Version: 3$Architecture: amd64$Provides: sh (= 1)$$\
-Package: a$Version: 1.0$Architecture: all$Provides: old$$\
-Package: a$Version: 2$Architecture: all$Provides: mail (= 7), sh, sh (= 2)$$\
-Package: c$Version: 1$Architecture: all$Provides: mail:i386$";
+const INDEX: &[u8] = b"\
+Package: mail\nVersion: 1\nArchitecture: all\nProvides: mail\n\n\
+Package: b\nVersion: 3\nArchitecture: amd64\nProvides: sh (= 1)\n\n\
+Package: a\nVersion: 1.0\nArchitecture: all\nProvides: old\n\n\
+Package: a\nVersion: 2\nArchitecture: all\nProvides: mail (= 7), sh, sh (= 2)\n\n\
+Package: c\nVersion: 1\nArchitecture: all\nProvides: mail:i386\n";
 
 // The places of those who provide the name, a space behind each.
 fn providers(alloc: Global, universe: &Universe<'_, '_>, name: &str) -> Result<String, Fail> {
@@ -61,18 +64,23 @@ fn shown(
     }
 }
 
+// What the universe of these records and the index answers.
+fn answer_on(alloc: Global, start: &[&Record<'_>], asked: &str, word: &str) -> Result<String, Fail>
+    requires { HasDistinctNames (records_of (map (λ r. r.now) start.now)) }
+{
+    let release = release(alloc, false, false)?;
+    let indices = [Index::read(alloc, INDEX, release, b"amd64", 0)?];
+    let prefs = Prefs::without_records(alloc, None)?;
+    let universe = build(alloc, start, &indices, &prefs, Vec::new(alloc))?;
+    shown(alloc, &universe, asked, word)
+}
+
 // What the universe of the status file and the index answers.
 fn answer(alloc: Global, asked: &str, word: &str) -> Result<String, Fail> {
-    let status = unescaped(alloc, STATUS)?;
-    let database = Database::read(alloc, status.as_slice(), b"amd64")?;
+    let database = Database::read(alloc, STATUS, b"amd64")?;
     let _names = database.names();
     let start = database.records(alloc)?;
-    let text = unescaped(alloc, INDEX)?;
-    let release = release(alloc, false, false)?;
-    let indices = [Index::read(alloc, text.as_slice(), release, b"amd64", 0)?];
-    let prefs = Prefs::without_records(alloc, None)?;
-    let universe = build(alloc, start.as_slice(), &indices, &prefs, Vec::new(alloc))?;
-    shown(alloc, &universe, asked, word)
+    answer_on(alloc, start.as_slice(), asked, word)
 }
 
 fn holds(alloc: Global, row: &str) -> Result<bool, Fail> {

@@ -34,128 +34,221 @@ fn installed<'p, 'a>(listed: &'p Listed<'a>) -> PackageRecord<'p, 'a> {
     )
 }
 
-// Both packages, the first in this state and the second installed.
-fn both<'p, 'a>(
-    alloc: Global,
-    first: &'p Listed<'a>,
-    state: State,
-    second: &'p Listed<'a>,
-) -> Result<Records<'p, 'a>, Fail> {
-    let first = match state {
-        State::Installed => installed(first),
-        _ => unpacked(first, None),
-    };
-    database(alloc, first, installed(second))
+// The stanza of the package that a row names.
+fn text_of(name: &str) -> &'static [u8] {
+    match name {
+        "a" => b"Package: a\nVersion: 1\nConflicts: b\n",
+        "b" => b"Package: b\nVersion: 1\n",
+        "lib" => b"Package: lib\nVersion: 2\n",
+        "app" => b"Package: app\nVersion: 1\nPre-Depends: lib (>= 1)\n",
+        "p" => b"Package: p\nVersion: 2\nBreaks: q (<< 2)\n",
+        "q" => b"Package: q\nVersion: 1\n",
+        "x" => b"Package: x\nVersion: 1\nDepends: y\n",
+        "y" => b"Package: y\nVersion: 1\nDepends: x\n",
+        _ => b"",
+    }
 }
 
-fn unpack_rule(db: &Records<'_, '_>, listed: &Listed<'_>) -> Option<Rule> {
+fn word_of(rule: Option<Rule>) -> &'static str {
+    match rule {
+        None => "allowed",
+        Some(Rule::PreDepends) => "F1",
+        Some(Rule::Conflict) => "F2",
+        Some(Rule::Breaks) => "F3",
+        Some(Rule::NeededBy) => "F6",
+        Some(Rule::Held) => "F8",
+        Some(Rule::WrongState) => "F9",
+        Some(Rule::NotAdmitted) => "F10",
+        Some(_) => "another rule",
+    }
+}
+
+// The package is installed, or unpacked, or unpacked where the version that the word is was configured last.
+fn record_of<'p, 'a>(listed: &'p Listed<'a>, state: &'a str) -> PackageRecord<'p, 'a> {
+    match state {
+        "installed" => installed(listed),
+        "unpacked" => unpacked(listed, None),
+        _ => unpacked(listed, Version::parse(state.as_bytes()).ok()),
+    }
+}
+
+fn unpack_rule(db: &Records<'_, '_>, listed: &Listed<'_>) -> &'static str {
     let pkg = listed.pkg();
-    unpack_failing(db, Some(listed), pkg.name(), pkg.version())
+    word_of(unpack_failing(db, Some(listed), pkg.name(), pkg.version()))
 }
 
-// `a 1; Conflicts: b` and `b 1`: neither is unpacked beside the other, and each is alone.
+// The rule that unpacking a package fails beside one in this state.
+fn rule_beside(alloc: Global, stands: &str, state: &str, name: &str) -> Result<&'static str, Fail> {
+    let stands = listed(alloc, text_of(stands))?;
+    let db = alone(alloc, record_of(&stands, state))?;
+    Ok(unpack_rule(&db, &listed(alloc, text_of(name))?))
+}
+
+fn unpacks_so(alloc: Global, row: &str) -> Result<bool, Fail> {
+    let mut words = row.split_whitespace();
+    let (Some(stands), Some(state), Some(name), Some(wanted)) = (
+        words.next(),
+        words.next(),
+        words.next(),
+        words.next(),
+    ) else {
+        return Ok(false);
+    };
+    Ok(rule_beside(alloc, stands, state, name)? == wanted)
+}
+
+// `a 1; Conflicts: b` and `b 1`: neither is unpacked beside the other. Each row has what stands, its state, what is
+// unpacked and the rule that this fails.
+const CONFLICTS: &str = "\
+a unpacked b F2
+b unpacked a F2
+";
+
 #[test]
 fn a_conflict_counts_either_way(rt: HostRuntime) -> Result<(), Fail> {
-    let alloc = rt.alloc();
-    let none = Records::new(alloc, Vec::new(alloc))?;
-    let a = listed(alloc, b"Package: a\nVersion: 1\nConflicts: b\n")?;
-    let b = listed(rt.alloc(), b"Package: b\nVersion: 1\n")?;
-    assert_eq!(rt;
-        unpack_rule(&alone(rt.alloc(), unpacked(&a, None))?, &b),
-        Some(Rule::Conflict)
-    );
-    assert_eq!(rt;
-        unpack_rule(&alone(rt.alloc(), unpacked(&b, None))?, &a),
-        Some(Rule::Conflict)
-    );
-    assert_eq!(rt; unpack_rule(&none, &a), None);
-    assert_eq!(rt;
-        unpack_failing(&none, None, b"a", a.pkg().version()),
-        Some(Rule::NotAdmitted)
-    );
+    for row in CONFLICTS.lines() {
+        assert!(rt; unpacks_so(rt.alloc(), row)?, "{row}");
+    }
+    Ok(())
+}
+
+// The rule that unpacking the package fails where nothing is present, listed or not.
+fn rule_alone(alloc: Global, name: &str, is_listed: bool) -> Result<&'static str, Fail> {
+    let db = Records::new(alloc, Vec::new(alloc))?;
+    let listed = listed(alloc, text_of(name))?;
+    if is_listed {
+        return Ok(unpack_rule(&db, &listed));
+    }
+    let pkg = listed.pkg();
+    Ok(word_of(unpack_failing(&db, None, pkg.name(), pkg.version())))
+}
+
+#[test]
+fn what_is_listed_is_unpacked_alone(rt: HostRuntime) -> Result<(), Fail> {
+    assert!(rt; rule_alone(rt.alloc(), "a", true)? == "allowed");
+    assert!(rt; rule_alone(rt.alloc(), "a", false)? == "F10");
     Ok(())
 }
 
 // `lib 2`, unpacked, and `app 1; Pre-Depends: lib (>= 1)`, by the version of lib that was configured last.
+const CONFIGURED_LAST: &str = "\
+lib 1.5 app allowed
+lib 0.9 app F1
+lib unpacked app F1
+lib installed app allowed
+";
+
 #[test]
 fn an_unpacked_package_satisfies_as_it_was_configured(rt: HostRuntime) -> Result<(), Fail> {
-    let lib = listed(rt.alloc(), b"Package: lib\nVersion: 2\n")?;
-    let app = listed(
-        rt.alloc(),
-        b"Package: app\nVersion: 1\nPre-Depends: lib (>= 1)\n",
-    )?;
-    let later = Version::parse(b"1.5")?;
-    let earlier = Version::parse(b"0.9")?;
-    assert_eq!(rt;
-        unpack_rule(&alone(rt.alloc(), unpacked(&lib, Some(later)))?, &app),
-        None
-    );
-    assert_eq!(rt;
-        unpack_rule(&alone(rt.alloc(), unpacked(&lib, Some(earlier)))?, &app),
-        Some(Rule::PreDepends)
-    );
-    assert_eq!(rt;
-        unpack_rule(&alone(rt.alloc(), unpacked(&lib, None))?, &app),
-        Some(Rule::PreDepends)
-    );
-    assert_eq!(rt;
-        unpack_rule(&alone(rt.alloc(), installed(&lib))?, &app),
-        None
-    );
+    for row in CONFIGURED_LAST.lines() {
+        assert!(rt; unpacks_so(rt.alloc(), row)?, "{row}");
+    }
     Ok(())
 }
 
-// `p 2; Breaks: q (<< 2)` beside `q 1`, installed and unpacked.
+// `p 2; Breaks: q (<< 2)` beside `q 1`, installed and unpacked, and beside itself.
+const BREAKS: &str = "\
+q installed p F3
+q unpacked p allowed
+p installed p F9
+";
+
 #[test]
 fn an_installed_package_is_not_broken(rt: HostRuntime) -> Result<(), Fail> {
-    let p = listed(rt.alloc(), b"Package: p\nVersion: 2\nBreaks: q (<< 2)\n")?;
-    let q = listed(rt.alloc(), b"Package: q\nVersion: 1\n")?;
-    assert_eq!(rt;
-        unpack_rule(&alone(rt.alloc(), installed(&q))?, &p),
-        Some(Rule::Breaks)
-    );
-    assert_eq!(rt;
-        unpack_rule(&alone(rt.alloc(), unpacked(&q, None))?, &p),
-        None
-    );
-    assert_eq!(rt;
-        unpack_rule(&alone(rt.alloc(), installed(&p))?, &p),
-        Some(Rule::WrongState)
-    );
+    for row in BREAKS.lines() {
+        assert!(rt; unpacks_so(rt.alloc(), row)?, "{row}");
+    }
     Ok(())
 }
 
-// `a 1; Depends: b` and `b 1; Depends: a`, both installed: `a` is deconfigured, then `b` removed, then `a`.
+fn rule_in(db: &Records<'_, '_>, action: &str, name: &str) -> &'static str {
+    match action {
+        "remove" => word_of(remove_failing(db, name.as_bytes())),
+        _ => word_of(deconfigure_failing(db, name.as_bytes())),
+    }
+}
+
+// The rule that the action fails where `x` is in this state and `y` is installed.
+fn rule_of_both(
+    alloc: Global,
+    state: &str,
+    action: &str,
+    name: &str,
+) -> Result<&'static str, Fail> {
+    let x = listed(alloc, text_of("x"))?;
+    let y = listed(alloc, text_of("y"))?;
+    let db = database(alloc, record_of(&x, state), installed(&y))?;
+    Ok(rule_in(&db, action, name))
+}
+
+// The same where nothing is present but `x`.
+fn rule_of_one(alloc: Global, state: &str, action: &str, name: &str) -> Result<&'static str, Fail> {
+    let x = listed(alloc, text_of("x"))?;
+    let db = alone(alloc, record_of(&x, state))?;
+    Ok(rule_in(&db, action, name))
+}
+
+fn leaves_so(alloc: Global, row: &str) -> Result<bool, Fail> {
+    let Some((present, rest)) = row.split_once(' ') else {
+        return Ok(false);
+    };
+    let mut words = rest.split_whitespace();
+    let (Some(state), Some(action), Some(name), Some(wanted)) = (
+        words.next(),
+        words.next(),
+        words.next(),
+        words.next(),
+    ) else {
+        return Ok(false);
+    };
+    match present {
+        "both" => Ok(rule_of_both(alloc, state, action, name)? == wanted),
+        _ => Ok(rule_of_one(alloc, state, action, name)? == wanted),
+    }
+}
+
+// `x 1; Depends: y` and `y 1; Depends: x`, both installed: `x` is deconfigured, then `y` removed, then `x`. Each row has
+// which of them are present, the state of `x`, an action and the rule that it fails.
+const REMOVALS: &str = "\
+both installed remove x F6
+both installed deconfigure x allowed
+both unpacked remove y allowed
+one unpacked remove x allowed
+one unpacked deconfigure x F9
+";
+
 #[test]
 fn a_needed_package_is_not_removed(rt: HostRuntime) -> Result<(), Fail> {
-    let a = listed(rt.alloc(), b"Package: a\nVersion: 1\nDepends: b\n")?;
-    let b = listed(rt.alloc(), b"Package: b\nVersion: 1\nDepends: a\n")?;
-    let installed_both = both(rt.alloc(), &a, State::Installed, &b)?;
-    let unpacked_first = both(rt.alloc(), &a, State::Unpacked, &b)?;
-    assert_eq!(rt; remove_failing(&installed_both, b"a"), Some(Rule::NeededBy));
-    assert_eq!(rt; deconfigure_failing(&installed_both, b"a"), None);
-    assert_eq!(rt; remove_failing(&unpacked_first, b"b"), None);
-    assert_eq!(rt;
-        remove_failing(&alone(rt.alloc(), unpacked(&a, None))?, b"a"),
-        None
-    );
-    assert_eq!(rt;
-        deconfigure_failing(&alone(rt.alloc(), unpacked(&a, None))?, b"a"),
-        Some(Rule::WrongState)
-    );
+    for row in REMOVALS.lines() {
+        assert!(rt; leaves_so(rt.alloc(), row)?, "{row}");
+    }
     Ok(())
+}
+
+// The rule that a purge fails where configuration files alone are left of `o`, and of `h`, which is held.
+fn purge_rule(alloc: Global, name: &str) -> Result<&'static str, Fail> {
+    let db = database(alloc, left(b"o", Want::Deinstall), left(b"h", Want::Hold))?;
+    Ok(word_of(purge_failing(&db, name.as_bytes())))
+}
+
+fn purges_so(alloc: Global, row: &str) -> Result<bool, Fail> {
+    match row.split_once(' ') {
+        Some((name, wanted)) => Ok(purge_rule(alloc, name)? == wanted),
+        None => Ok(false),
+    }
 }
 
 // Configuration files alone are purged.
+const PURGES: &str = "\
+o allowed
+h F8
+x F9
+";
+
 #[test]
 fn what_is_removed_is_purged(rt: HostRuntime) -> Result<(), Fail> {
-    let db = database(
-        rt.alloc(),
-        left(b"o", Want::Deinstall),
-        left(b"h", Want::Hold),
-    )?;
-    assert_eq!(rt; purge_failing(&db, b"o"), None);
-    assert_eq!(rt; purge_failing(&db, b"h"), Some(Rule::Held));
-    assert_eq!(rt; purge_failing(&db, b"x"), Some(Rule::WrongState));
+    for row in PURGES.lines() {
+        assert!(rt; purges_so(rt.alloc(), row)?, "{row}");
+    }
     Ok(())
 }

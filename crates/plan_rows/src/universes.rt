@@ -1,12 +1,15 @@
 //! Universes of small status files and indices, with the pairs, candidates and refusals that are wanted counted by hand
 //! (deb-version(7) for the order of versions, apt_preferences(5) for the priorities).
+ghost use Rattle.std.specs.Prelude.{map};
+ghost use Rattle.rules.specs.Database.{HasDistinctNames};
+ghost use Rattle.rules.specs.Entry.{records_of};
 
 use crate::packages::name_of;
 use debversion::Version;
 use index::Index;
 use pins::Prefs;
 use rules::{Goal, GoalLine, Op, Release, Restriction, Text, VersionText};
-use status_store::Database;
+use status_store::{Database, Record};
 use std::alloc::Global;
 use std::str;
 use std::test::Fail;
@@ -40,6 +43,7 @@ pub(crate) fn release(
     not_automatic: bool,
     but_automatic_upgrades: bool,
 ) -> Result<Release, Fail> {
+    let host = Text::copied_from(alloc, b"")?;
     Ok(Release {
         archive: None,
         suite: None,
@@ -48,7 +52,7 @@ pub(crate) fn release(
         component: None,
         origin: None,
         label: None,
-        host: Text::copied_from(alloc, b"")?,
+        host,
         not_automatic,
         but_automatic_upgrades,
     })
@@ -107,6 +111,38 @@ pub(crate) fn unescaped(alloc: Global, text: &str) -> Result<Vec<u8>, Fail> {
     Ok(bytes)
 }
 
+// The universe of these, or the refusal, as text.
+fn answer_of(
+    alloc: Global,
+    start: &[&Record<'_>],
+    indices: &[Index<'_>],
+    prefs: &Prefs,
+    goals: &str,
+) -> Result<String, Fail>
+    requires { HasDistinctNames (records_of (map (λ r. r.now) start.now)) }
+{
+    match build(alloc, start, indices, prefs, goals_of(alloc, goals)?) {
+        Ok(universe) => shown(alloc, &universe),
+        Err(error) => Ok(format!(in alloc; "{error}")?),
+    }
+}
+
+// The same over the two indices that the words name, by the preferences of a text.
+fn answer_over(
+    alloc: Global,
+    start: &[&Record<'_>],
+    prefs: &[u8],
+    first: &str,
+    second: &str,
+    goals: &str,
+) -> Result<String, Fail>
+    requires { HasDistinctNames (records_of (map (λ r. r.now) start.now)) }
+{
+    let indices = [index_of(alloc, first)?, index_of(alloc, second)?];
+    let prefs = Prefs::read(alloc, prefs, None)?;
+    answer_of(alloc, start, &indices, &prefs, goals)
+}
+
 // The universe over a status file and two indices by these preferences, or the refusal, as text.
 fn answer(
     alloc: Global,
@@ -119,13 +155,7 @@ fn answer(
     let database = Database::read(alloc, status, b"amd64")?;
     let _names = database.names();
     let start = database.records(alloc)?;
-    let indices = [index_of(alloc, first)?, index_of(alloc, second)?];
-    let prefs = Prefs::read(alloc, prefs, None)?;
-    let goals = goals_of(alloc, goals)?;
-    match build(alloc, start.as_slice(), &indices, &prefs, goals) {
-        Ok(universe) => shown(alloc, &universe),
-        Err(error) => Ok(format!(in alloc; "{error}")?),
-    }
+    answer_over(alloc, start.as_slice(), prefs, first, second, goals)
 }
 
 // The first and the second index, a goal and the universe. The candidate has the greatest priority, and of equal

@@ -19,6 +19,17 @@ debplan compare 1.0 lt 1.0~→1 no$|
 debplan compare 1.0 ne 1.0→1 no$|
 debplan compare 1.0 ge 1.0→0 yes$|
 debplan compare 1.1 le 1.0→1 no$|
+debplan compare 1.0 lt 1.0→1 no$|
+debplan compare 1.0 le 1.1→0 yes$|
+debplan compare 1.0 le 1.0→0 yes$|
+debplan compare 1.0 eq 1.1→1 no$|
+debplan compare 1.1 eq 1.0→1 no$|
+debplan compare 1.0 ne 1.1→0 yes$|
+debplan compare 1.1 ne 1.0→0 yes$|
+debplan compare 1.0 ge 1.1→1 no$|
+debplan compare 1.1 ge 1.0→0 yes$|
+debplan compare 1.0 gt 1.0→1 no$|
+debplan compare 1.0 gt 1.1→1 no$|
 debplan compare 1.0- eq 1→3 |debplan: version 1: E6 BadVersion EmptyRevision$
 debplan compare 1 eq :1→3 |debplan: version 2: E6 BadVersion BadEpoch$
 debplan compare 1 eq a:1→3 |debplan: version 2: E6 BadVersion BadEpoch$

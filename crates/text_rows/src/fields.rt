@@ -1,7 +1,7 @@
 //! Values of relation fields: what they spell, and that a parser refuses what the check refuses.
 use crate::shown::{shown_atoms, shown_clauses, shown_items};
 use crate::texts::unescaped;
-use relation::{Form, RelationError, check, parse_atoms, parse_clauses, parse_provides};
+use relation::{Form, check, parse_atoms, parse_clauses, parse_provides};
 use std::alloc::Global;
 use std::process::Abort;
 use std::test::Fail;
@@ -133,17 +133,31 @@ fn many_atoms(alloc: Global, count: usize) -> Result<Vec<u8>, Fail> {
     Ok(value)
 }
 
+/// How many atoms so many are read as, or the refusal as it is printed.
+fn counted(alloc: Global, count: usize) -> Result<String, Fail> {
+    let value = many_atoms(alloc, count)?;
+    match parse_atoms(alloc, value.as_slice(), ARCH) {
+        Ok(atoms) => Ok(format!(in alloc; "{}", atoms.len())?),
+        Err(error) => Ok(format!(in alloc; "{error}")?),
+    }
+}
+
+fn is_counted(alloc: Global, row: &str) -> Result<bool, Fail> {
+    let Some((count, wanted)) = row.split_once('→') else {
+        return Ok(false);
+    };
+    Ok(counted(alloc, count.parse::<usize>()?)?.as_str() == wanted)
+}
+
+const MANY: &str = "\
+65535→65535
+65536→E10 TooLarge
+";
+
 #[test]
 fn a_field_has_65535_atoms_at_most(rt: HostRuntime) -> Result<(), Fail> {
-    let value = many_atoms(rt.alloc(), 65535)?;
-    let atoms = parse_atoms(rt.alloc(), value.as_slice(), ARCH)?;
-    assert_eq!(rt; atoms.len(), 65535);
-    let value = many_atoms(rt.alloc(), 65536)?;
-    assert!(rt;
-        matches!(
-            parse_atoms(rt.alloc(), value.as_slice(), ARCH),
-            Err(RelationError::TooLarge)
-        )
-    );
+    for row in MANY.lines() {
+        assert!(rt; is_counted(rt.alloc(), row)?, "{row}");
+    }
     Ok(())
 }

@@ -28,21 +28,21 @@ fn shown(alloc: Global, text: &[u8]) -> Result<String, Fail> {
     Ok(shown)
 }
 
+fn write_part(shown: &mut String, mark: &str, part: String) -> Result<(), Fail> {
+    shown.push_str(mark)?;
+    shown.push_str(part.as_str())?;
+    Ok(())
+}
+
 fn write_pkg(alloc: Global, shown: &mut String, pkg: &Pkg<'_>) -> Result<(), Fail> {
     shown.push_str(str::from_utf8(pkg.name())?)?;
     shown.push_str(" ")?;
     shown.push_str(str::from_utf8(pkg.version().text())?)?;
-    shown.push_str(" ")?;
-    shown.push_str(shown_clauses(alloc, pkg.pre_depends())?.as_str())?;
-    shown.push_str("/")?;
-    shown.push_str(shown_clauses(alloc, pkg.depends())?.as_str())?;
-    shown.push_str("/")?;
-    shown.push_str(shown_atoms(alloc, pkg.conflicts())?.as_str())?;
-    shown.push_str("/")?;
-    shown.push_str(shown_atoms(alloc, pkg.breaks())?.as_str())?;
-    shown.push_str("/")?;
-    shown.push_str(shown_items(alloc, pkg.provides())?.as_str())?;
-    Ok(())
+    write_part(shown, " ", shown_clauses(alloc, pkg.pre_depends())?)?;
+    write_part(shown, "/", shown_clauses(alloc, pkg.depends())?)?;
+    write_part(shown, "/", shown_atoms(alloc, pkg.conflicts())?)?;
+    write_part(shown, "/", shown_atoms(alloc, pkg.breaks())?)?;
+    write_part(shown, "/", shown_items(alloc, pkg.provides())?)
 }
 
 // `$` stands for a newline.
@@ -152,30 +152,47 @@ fn want_of_memory_is_printed_by_its_code(rt: HostRuntime) -> Result<(), Fail> {
     Ok(())
 }
 
+fn are_clauses_or_no_memory(alloc: Global) -> bool {
+    match parse_clauses(alloc, b"a | b (<< 2), c, d:i386", ARCH) {
+        Ok(clauses) => clauses.len() == 3,
+        Err(error) => error == RelationError::OutOfMemory,
+    }
+}
+
+fn are_items_or_no_memory(alloc: Global) -> bool {
+    match parse_provides(alloc, b"a, b (= 2)", ARCH) {
+        Ok(items) => items.len() == 2,
+        Err(error) => error == RelationError::OutOfMemory,
+    }
+}
+
+// A refused value takes no memory.
+fn is_refused_alone(alloc: Global) -> bool {
+    match parse_atoms(alloc, b"a, b, c (= )", ARCH) {
+        Ok(_) => false,
+        Err(error) => error == RelationError::BadRelation(11),
+    }
+}
+
+fn is_pkg_or_no_memory(alloc: Global, text: &[u8]) -> bool {
+    for item in Stanzas::new(text) {
+        let Ok(stanza) = item else {
+            return false;
+        };
+        return match Pkg::from_stanza(alloc, &stanza, ARCH) {
+            Ok(pkg) => pkg.provides().len() == 2,
+            Err(error) => error == PkgError::OutOfMemory,
+        };
+    }
+    false
+}
+
 /// Run with each allocation refused in turn (`rt try --test --fail-alloc N`): the answer is the same or want of memory.
 #[test]
 fn a_refused_growth_is_answered_as_want_of_memory(rt: HostRuntime) {
-    match parse_clauses(rt.alloc(), b"a | b (<< 2), c, d:i386", ARCH) {
-        Ok(clauses) => assert_eq!(rt; clauses.len(), 3),
-        Err(error) => assert_eq!(rt; error, RelationError::OutOfMemory),
-    }
-    match parse_provides(rt.alloc(), b"a, b (= 2)", ARCH) {
-        Ok(items) => assert_eq!(rt; items.len(), 2),
-        Err(error) => assert_eq!(rt; error, RelationError::OutOfMemory),
-    }
-    // A refused value takes no memory.
-    match parse_atoms(rt.alloc(), b"a, b, c (= )", ARCH) {
-        Ok(_) => assert!(rt; false, "accepted"),
-        Err(error) => assert_eq!(rt; error, RelationError::BadRelation(11)),
-    }
+    assert!(rt; are_clauses_or_no_memory(rt.alloc()));
+    assert!(rt; are_items_or_no_memory(rt.alloc()));
+    assert!(rt; is_refused_alone(rt.alloc()));
     let text = b"Package: a\nVersion: 1\nDepends: b, c | d\nConflicts: e\nProvides: f, g (= 1)\n";
-    for item in Stanzas::new(text) {
-        let Ok(stanza) = item else {
-            continue;
-        };
-        match Pkg::from_stanza(rt.alloc(), &stanza, ARCH) {
-            Ok(pkg) => assert_eq!(rt; pkg.provides().len(), 2),
-            Err(error) => assert_eq!(rt; error, PkgError::OutOfMemory),
-        }
-    }
+    assert!(rt; is_pkg_or_no_memory(rt.alloc(), text));
 }

@@ -1,4 +1,5 @@
 //! Rows of refused values, from Policy 7.1 and by hand: what the clauses do not say. Offsets were counted in the row's text.
+use crate::texts::unescaped;
 use relation_text::{Form, RelationFault, check};
 use std::alloc::Global;
 use std::process::Abort;
@@ -35,22 +36,37 @@ fn the_readme_example(rt: HostRuntime) -> Result<(), Fail> {
     Ok(())
 }
 
-#[test]
-fn what_has_the_shape_is_accepted(rt: HostRuntime) {
-    let rows: [(Form, &[u8]); 9] = [
-        (Form::Clauses, b""),
-        (Form::Clauses, b" , ,\n,"),
-        (Form::Clauses, b"\n a\t(\n>=\t1 ) |\n b ,"),
-        (Form::Clauses, b"a (= 1:2.0~rc1+b-3~)"),
-        (Form::Clauses, b"a (<1), b(>> 1)|c:i386 (> 2)"),
-        (Form::Atoms, b""),
-        (Form::Atoms, b"a, b:i386 (<< 2) ,, c(> 1),"),
-        (Form::Provides, b""),
-        (Form::Provides, b"a, b (= 1.0) , c:any(=2), d:i386 (= 3)"),
-    ];
-    for (form, value) in rows {
-        assert_eq!(rt; check(form, value), Ok(()), "in {value:?}");
+// `$` stands for a newline.
+fn assert_accepted<R: Abort + AllocGlobal>(rt: &R, form: Form, rows: &str) -> Result<(), Fail> {
+    for row in rows.lines() {
+        assert!(rt;
+            check(form, unescaped(rt.alloc(), row)?.as_slice()).is_ok(),
+            "{row}"
+        );
     }
+    Ok(())
+}
+
+const CLAUSES: &str = "\n\
+ , ,$,
+$ a\t($>=\t1 ) |$ b ,
+a (= 1:2.0~rc1+b-3~)
+a (<1), b(>> 1)|c:i386 (> 2)
+";
+
+const ATOMS: &str = "\n\
+a, b:i386 (<< 2) ,, c(> 1),
+";
+
+const PROVIDES: &str = "\n\
+a, b (= 1.0) , c:any(=2), d:i386 (= 3)
+";
+
+#[test]
+fn what_has_the_shape_is_accepted(rt: HostRuntime) -> Result<(), Fail> {
+    assert_accepted(&rt, Form::Clauses, CLAUSES)?;
+    assert_accepted(&rt, Form::Atoms, ATOMS)?;
+    assert_accepted(&rt, Form::Provides, PROVIDES)
 }
 
 const REFUSED_CLAUSES: &str = "\
@@ -154,42 +170,67 @@ fn provides_takes_one_operator(rt: HostRuntime) -> Result<(), Fail> {
     assert_refused(&rt, Form::Provides, REFUSED_PROVIDES)
 }
 
-/// So many atoms of one byte, each with a comma behind it.
-fn many_atoms(alloc: Global, count: usize, separator: u8) -> Result<Vec<u8>, Fail> {
+/// So many atoms of one byte, each with the separator behind it, and then the end.
+fn many_atoms(alloc: Global, count: usize, separator: &[u8], end: &[u8]) -> Result<Vec<u8>, Fail> {
     let mut value = Vec::new(alloc);
     for _ in 0..count {
-        value.push(b'a')?;
-        value.push(separator)?;
+        value.extend_from_slice(b"a")?;
+        value.extend_from_slice(separator)?;
     }
+    value.extend_from_slice(end)?;
     Ok(value)
 }
 
+/// The refusal of the clauses, or that they are accepted.
+fn answer(alloc: Global, value: &[u8]) -> Result<String, Fail> {
+    match check(Form::Clauses, value) {
+        Ok(()) => Ok(format!(in alloc; "accepted")?),
+        Err(fault) => Ok(format!(in alloc; "{fault}")?),
+    }
+}
+
+/// The same of a row's atoms: how many there are, their separator, and the end.
+fn answer_of(alloc: Global, atoms: &str) -> Result<String, Fail> {
+    let Some((count, rest)) = atoms.split_once(' ') else {
+        return Err("no count".into());
+    };
+    let Some((separator, end)) = rest.split_once('→') else {
+        return Err("no separator".into());
+    };
+    let end = unescaped(alloc, end)?;
+    let value = many_atoms(
+        alloc,
+        count.parse::<usize>()?,
+        separator.as_bytes(),
+        end.as_slice(),
+    )?;
+    answer(alloc, value.as_slice())
+}
+
+fn is_counted(alloc: Global, row: &str) -> Result<bool, Fail> {
+    let Some((atoms, wanted)) = row.split_once('⇒') else {
+        return Ok(false);
+    };
+    Ok(answer_of(alloc, atoms)?.as_str() == wanted)
+}
+
+// The place of the atom too many is where it begins, before all that is wrong in it and behind it. `$` stands for a
+// newline.
+const MANY: &str = "\
+65534 |→a⇒accepted
+65535 ,→ ,$⇒accepted
+65535 ,→_⇒E8 BadName 131070
+65535 ,→a⇒E10 TooLarge
+65535 |→a⇒E10 TooLarge
+65535 ,→ a_⇒E10 TooLarge
+65536 ,→_⇒E10 TooLarge
+65534 ,→a (= 1-), a⇒E7 BadRelation 131073
+";
+
 #[test]
 fn a_field_has_65535_atoms_at_most(rt: HostRuntime) -> Result<(), Fail> {
-    let rows: [(usize, u8, &[u8], Result<(), RelationFault>); 8] = [
-        (65534, b'|', b"a", Ok(())),
-        (65535, b',', b" ,\n", Ok(())),
-        (65535, b',', b"_", Err(RelationFault::BadName(131070))),
-        (65535, b',', b"a", Err(RelationFault::TooLarge)),
-        (65535, b'|', b"a", Err(RelationFault::TooLarge)),
-        // The place of the atom too many is where it begins, before all that is wrong in it and behind it.
-        (65535, b',', b" a_", Err(RelationFault::TooLarge)),
-        (65536, b',', b"_", Err(RelationFault::TooLarge)),
-        (
-            65534,
-            b',',
-            b"a (= 1-), a",
-            Err(RelationFault::BadRelation(131073)),
-        ),
-    ];
-    for (count, separator, end, wanted) in rows {
-        let mut value = many_atoms(rt.alloc(), count, separator)?;
-        value.extend_from_slice(end)?;
-        assert_eq!(rt;
-            check(Form::Clauses, value.as_slice()),
-            wanted,
-            "{count} atoms"
-        );
+    for row in MANY.lines() {
+        assert!(rt; is_counted(rt.alloc(), row)?, "{row}");
     }
     Ok(())
 }

@@ -1,7 +1,7 @@
 // Rows from the standards, from dpkg and from counting by hand.
 
 use debversion::{BadVersion, Op, Version};
-use std::alloc::AllocError;
+use std::alloc::{AllocError, Global};
 use std::cmp::Ordering;
 
 // From deb-version(7) and Policy 5.6.12, but for the last: nothing doesn't sort before a tilde.
@@ -185,6 +185,7 @@ a:1 BadEpoch
 
 fn fault_of(name: &str) -> Option<BadVersion> {
     match name {
+        "Empty" => Some(BadVersion::Empty),
         "BadEpoch" => Some(BadVersion::BadEpoch),
         "EpochTooLarge" => Some(BadVersion::EpochTooLarge),
         "EmptyUpstream" => Some(BadVersion::EmptyUpstream),
@@ -233,17 +234,19 @@ fn accepted_texts_are_kept(rt: HostRuntime) {
     }
 }
 
+// Whether the fault that the name says is printed as it.
+fn is_printed(alloc: Global, name: &str) -> Result<bool, AllocError> {
+    match fault_of(name) {
+        Some(fault) => Ok(format!(in alloc; "{fault}")?.as_str() == name),
+        None => Ok(false),
+    }
+}
+
 #[test]
 fn a_fault_is_printed_as_its_name(rt: HostRuntime) -> Result<(), AllocError> {
-    for (fault, wanted) in [
-        (BadVersion::Empty, "Empty"),
-        (BadVersion::BadEpoch, "BadEpoch"),
-        (BadVersion::EpochTooLarge, "EpochTooLarge"),
-        (BadVersion::EmptyUpstream, "EmptyUpstream"),
-        (BadVersion::EmptyRevision, "EmptyRevision"),
-        (BadVersion::BadByte, "BadByte"),
-    ] {
-        assert_eq!(rt; format!(in rt.alloc(); "{fault}")?.as_str(), wanted);
+    let names = "Empty BadEpoch EpochTooLarge EmptyUpstream EmptyRevision BadByte";
+    for name in names.split_whitespace() {
+        assert!(rt; is_printed(rt.alloc(), name)?, "{name}");
     }
     Ok(())
 }

@@ -1,6 +1,6 @@
 // An admitted pair of a name and a version.
 
-ghost use Rattle.std.specs.Prelude.{◌≡◌, MatchOption, None, Some, refl};
+ghost use Rattle.std.specs.Prelude.{◌≡◌, IfOk, MatchOption, None, Some, refl};
 ghost use Rattle.std.specs.Cmp.{eq_by_cmp_equiv, partial_equiv_from_equiv, po};
 ghost use Rattle.std.specs.Option.{option_copied, option_map};
 ghost use Rattle.std.specs.Ordering.{as_partial_cmp, eq_by_cmp};
@@ -10,6 +10,7 @@ ghost use Rattle.universe.specs.PairLaws.{pair_cmp_total};
 use debversion::Version;
 use index::Entry;
 use relation::Pkg;
+use std::alloc::{AllocError, Global};
 use std::cmp::Ordering;
 use std::marker::Model;
 
@@ -18,32 +19,35 @@ use std::marker::Model;
 /// (deb-version(7)), and two of one name and version are equal.
 #[derive(Drop)]
 pub struct Pair<'p, 'a> {
-    standing: Option<Pkg<'a>>,
+    standing: Option<Box<Pkg<'a>>>,
     listed: Option<&'p Entry<'a>>,
 }
 
 impl<'p, 'a> Model for Pair<'p, 'a> {
     ghost use Rattle.std.specs.Prelude.{◌≡◌, ◌||◌, true, is_some};
-    ghost use Rattle.std.specs.Option.{option_copied};
+    ghost use Rattle.std.specs.Option.{option_copied, option_map};
     ghost use Rattle.rules.specs.Universe.{Pair as PairValue};
     ghost use Rattle.universe.specs.Pair.{counting_pkg};
 
     ghost Value = { PairValue };
 
-    ghost view = { λ p. record { pkg = counting_pkg p.standing (option_copied p.listed); listed = option_copied p.listed } };
+    ghost view = { λ p. record { pkg = counting_pkg (option_map (λ pkg. pkg.value) p.standing) (option_copied p.listed); listed = option_copied p.listed } };
 
     ghost invariant = { λ p. (is_some p.standing || is_some p.listed) ≡ true };
 }
 
 impl<'p, 'a> Pair<'p, 'a> {
-    /// The pair of a package that stands, with the stanza of its version in the indices, if there is one.
-    pub fn standing(pkg: Pkg<'a>, listed: Option<&'p Entry<'a>>) -> Pair<'p, 'a>
-        ensures { result ≡ record { pkg = pkg.entry; listed = option_copied listed.entry } }
+    /// The pair of a package that stands, with the stanza of its version in the indices, if there is one. Memory alone can
+    /// fail.
+    pub fn standing(
+        alloc: Global,
+        pkg: Pkg<'a>,
+        listed: Option<&'p Entry<'a>>,
+    ) -> Result<Pair<'p, 'a>, AllocError>
+        ensures { IfOk result (λ pair. pair ≡ record { pkg = pkg.entry; listed = option_copied listed.entry }) }
     {
-        Pair {
-            standing: Some(pkg),
-            listed,
-        }
+        let standing = Some(Box::new(alloc, pkg)?);
+        Ok(Pair { standing, listed })
     }
 
     /// The pair of a package that the indices alone have.
@@ -84,7 +88,10 @@ impl<'p, 'a> Pair<'p, 'a> {
             (option_map (λ listed. listed.pkg) self.now.listed ≡ Some self.now.pkg)
             (λ pkg. pkg.now ≡ self.now.pkg) }
     {
-        self.standing.as_ref()
+        match &self.standing {
+            Some(pkg) => Some(pkg),
+            None => None,
+        }
     }
 
     /// The stanza of the pair in the indices, if there is one.

@@ -1,4 +1,5 @@
 pub mod Asked
+pub mod BestOffer
 pub mod CandidatesInOrder
 pub mod Given
 pub mod Made

@@ -1,16 +1,14 @@
 -- A request has one list of admitted pairs.
-use Rattle.std.proofs.Common.{◌≡◌, ℕ, suc, ◌&&◌, List, [], ◌∷◌, Option, Some, ◌⊎◌, refl, sym, ap, subst, ◌∙◌, arith, bytes_eq}
-use Rattle.std.specs.Cmp.{IsTotalOrder, tied_itself}
-use Rattle.std.specs.List.{All, AllPairs, Contains}
+use Rattle.std.proofs.Common.{◌≡◌, ℕ, ◌&&◌, List, Option, Some, sym, ap, subst, ◌∙◌, bytes_eq}
+use Rattle.std.specs.List.{Contains}
 use Rattle.std.specs.Option.{option_map, option_or}
-use Rattle.std.specs.Ordering.{is_eq, ordering_reverse}
+use Rattle.std.specs.Ordering.{is_eq}
 use Rattle.std.specs.declared.cmp.Ordering.{Ordering}
-use Rattle.std.specs.declared.cmp.Ordering.TheVariants.{Less, Equal, Greater}
 use Rattle.std.proofs.lemmas.List.Elements.{All-contains}
 use Rattle.std.proofs.lemmas.Option.{same_Some}
 use Rattle.rules.specs.Available.{Index, Inputs, all_listed, counting_package, index_package, is_of, same_version, standing_record}
 use Rattle.rules.specs.Database.{Record, pkg_of, stands}
-use Rattle.rules.specs.ElementLaws.{Any-elim, Any-intro, Contains-cons, Contains-head, Contains-nil, Contains-rest}
+use Rattle.rules.specs.ElementLaws.{Any-elim, Any-intro}
 use Rattle.rules.specs.Package.{Pkg}
 use Rattle.rules.specs.Step.{Listed, is_named}
 use Rattle.rules.specs.Universe.{IsOf, IsUniverse, Pair, Universe, pair_cmp}
@@ -20,7 +18,6 @@ use Rattle.universe.specs.PairLaws.{pair_cmp_total}
 use Rattle.universe.proofs.PairOrder.{of_itself}
 use Rattle.universe.proofs.Rising.{IsWithin, same_rising}
 use Rattle.candidates.proofs.Searching.{find-agree}
-use mathlib.Core.Logic.{inl, inr}
 
 -- another text of the version finds the same stanza and the same package
 same_index_package : (indices : List Index) (name version other : List ℕ) → SameVersion version other

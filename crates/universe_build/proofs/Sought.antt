@@ -1,5 +1,5 @@
 -- What is sought in order keeps the same stanzas as what is sought.
-use Rattle.std.proofs.Common.{◌≡◌, Bool, ◌||◌, List, [], ◌∷◌, map, Option, refl, sym, ap, subst, ◌∙◌}
+use Rattle.std.proofs.Common.{◌≡◌, Bool, ◌||◌, List, [], ◌∷◌, map, Option, refl, sym, ap, subst}
 use Rattle.std.specs.List.{cons_option, filter, filter_map}
 use Rattle.std.specs.List.Sorted.{IsPermutation}
 use Rattle.std.proofs.lemmas.List.Elements.{filter_agree}
@@ -18,21 +18,19 @@ filter_map-map : {X Y Z : Type 0} (h : Y → Option Z) (f : X → Y) (xs : List 
 filter_map-map h f [] = refl
 filter_map-map h f (x ∷ xs) = ap (cons_option (h (f x))) (filter_map-map h f xs)
 
--- what is sought in order keeps the same stanzas
-pub admitted_alike : (lines : List GoalLine) (best : List Offer) (chosen asked : List Exact) (ordered kept : List Listed)
-    → AreExacts (best_exacts best) chosen → AreExacts (filter_map (λ line. exact_of line.goal) lines) asked
-    → kept ≡ filter (λ found. is_sought chosen found || is_sought asked found) ordered
-    → kept ≡ admitted_among best (exacts_of (goals_of lines)) ordered
-admitted_alike lines best chosen asked ordered kept of_best of_goals same =
+-- what is asked for in order admits the same stanzas
+pub admitted_alike : (lines : List GoalLine) (best : List Offer) (asked : List Exact) (free : List Listed)
+    → AreExacts (filter_map (λ line. exact_of line.goal) lines) asked
+    → filter (λ found. is_sought (best_exacts best) found || is_sought asked found) free
+    ≡ admitted_among best (exacts_of (goals_of lines)) free
+admitted_alike lines best asked free of_goals =
     let own : List Exact = exacts_of (goals_of lines) in
     let goals_same : filter_map (λ (line : GoalLine). exact_of line.goal) lines ≡ own =
     sym (filter_map-map exact_of (λ (line : GoalLine). line.goal) lines) in
     let moved : IsPermutation own asked = subst (λ (e : List Exact). IsPermutation e asked) goals_same of_goals.same in
-    same ∙ filter_agree
-    (λ (found : Listed). is_sought chosen found || is_sought asked found) (λ (found : Listed). is_sought (best_exacts best) found || is_sought own found)
+    filter_agree
+    (λ (found : Listed). is_sought (best_exacts best) found || is_sought asked found) (λ (found : Listed). is_sought (best_exacts best) found || is_sought own found)
     (λ found.
     let test : Exact → Bool = λ (exact : Exact). is_of exact.name exact.version found.pkg in
-    let first : is_sought (best_exacts best) found ≡ is_sought chosen found = list_any-IsPermutation test (best_exacts best) chosen of_best.same in
     let second : is_sought own found ≡ is_sought asked found = list_any-IsPermutation test own asked moved in
-    ap (λ (b : Bool). b || is_sought asked found) (sym first)
-    ∙ ap (λ (b : Bool). is_sought (best_exacts best) found || b) (sym second)) ordered
+    ap (λ (b : Bool). is_sought (best_exacts best) found || b) (sym second)) free

@@ -4,12 +4,14 @@ ghost use Rattle.std.specs.Prelude.{◌≡◌, ◌||◌, IfOk, map};
 ghost use Rattle.std.specs.List.{filter};
 ghost use Rattle.std.specs.List.Sorted.{IsSorted, IsStrictlySortedBy};
 ghost use Rattle.std.specs.Option.{option_copied};
+ghost use Rattle.candidates.specs.Offer.{offer_name_cmp};
 ghost use Rattle.candidates.specs.Stanza.{listed_cmp};
 ghost use Rattle.universe_build.specs.Build.{goals_of};
-ghost use Rattle.universe_build.specs.Choice.{exact_cmp, exacts_of, is_sought, listed_pair};
+ghost use Rattle.universe_build.specs.Choice.{best_exacts, exact_cmp, exacts_of, is_sought, listed_pair};
 ghost use Rattle.universe_build.specs.Chosen.{ArePairs, admitted_among, chosen_pairs, is_free, standing_pair, standing_stanza, standing_pairs};
 
-use crate::exact::{Exact, best_exacts, exacts_of, is_sought};
+use crate::best::{is_best, place_from};
+use crate::exact::{Exact, exacts_of, is_sought};
 use candidates::{Found, Known, Offer, Recorded, is_held, stands_as, stanza_of};
 use index::Entry;
 use rules::GoalLine;
@@ -23,13 +25,14 @@ fn is_free(known: &Known<'_, '_>, found: &Found<'_, '_>) -> bool
     !stands_as(known, found.name(), found.version()) && !is_held(known, found.name())
 }
 
-// Whether the stanza is of a version that is chosen or asked for.
-fn is_wanted(chosen: &[Exact<'_>], asked: &[Exact<'_>], found: &Found<'_, '_>) -> bool
-    requires chosen { IsSorted exact_cmp chosen.now }
+// Whether the stanza is of a version that is chosen or asked for. The best offer of its name is looked for at this place
+// first.
+fn is_wanted(best: &[Offer<'_>], place: usize, asked: &[Exact<'_>], found: &Found<'_, '_>) -> bool
+    requires best { IsStrictlySortedBy offer_name_cmp best.now }
     requires asked { IsSorted exact_cmp asked.now }
-    ensures { result ≡ (is_sought chosen.now found.now || is_sought asked.now found.now) }
+    ensures { result ≡ (is_sought (best_exacts best.now) found.now || is_sought asked.now found.now) }
 {
-    is_sought(chosen, found) || is_sought(asked, found)
+    is_best(best, place, found) || is_sought(asked, found)
 }
 
 // Of stanzas in their order those that are free.
@@ -41,46 +44,42 @@ fn free_of<'p, 'a>(known: &Known<'_, '_>, ordered: Vec<Found<'p, 'a>>) -> Vec<Fo
     free
 }
 
-// Of stanzas in their order those that are wanted.
-fn wanted_of<'p, 'a>(
-    chosen: &[Exact<'_>],
-    asked: &[Exact<'_>],
-    ordered: Vec<Found<'p, 'a>>,
-) -> Vec<Found<'p, 'a>>
-    requires chosen { IsSorted exact_cmp chosen.now }
-    requires asked { IsSorted exact_cmp asked.now }
-    ensures { result.items ≡ filter (λ found. is_sought chosen.now found || is_sought asked.now found) ordered.entry.items }
-{
-    let mut kept = ordered;
-    kept.retain(|found| is_wanted(chosen, asked, found));
-    kept
-}
-
-// The stanzas of the best offers' versions, and those that the goals ask for with `=`.
-fn admitted<'p, 'a>(
+// The pairs of the stanzas that are wanted. The stanzas and the best offers are in the order of names, so the best offer of
+// the next stanza is near that of the last.
+fn wanted_pairs<'p, 'a>(
     alloc: Global,
-    ordered: Vec<Found<'p, 'a>>,
     best: &[Offer<'a>],
-    lines: &[GoalLine],
-) -> Result<Vec<Found<'p, 'a>>, AllocError>
-    ensures { IfOk result (λ kept. kept.items ≡ admitted_among best.now (exacts_of (goals_of lines.now)) ordered.entry.items) }
-{
-    let chosen = best_exacts(alloc, best)?;
-    let asked = exacts_of(alloc, lines)?;
-    Ok(wanted_of(chosen.as_slice(), asked.as_slice(), ordered))
-}
-
-// The pairs of the stanzas.
-fn listed_pairs<'p, 'a>(
-    alloc: Global,
-    kept: &[Found<'p, 'a>],
+    asked: &[Exact<'_>],
+    free: &[Found<'p, 'a>],
 ) -> Result<Vec<Pair<'p, 'a>>, AllocError>
-    ensures { IfOk result (λ pairs. pairs.items ≡ map listed_pair kept.now) }
+    requires best { IsStrictlySortedBy offer_name_cmp best.now }
+    requires asked { IsSorted exact_cmp asked.now }
+    ensures { IfOk result (λ pairs. pairs.items ≡ map listed_pair
+        (filter (λ found. is_sought (best_exacts best.now) found || is_sought asked.now found) free.now)) }
 {
     let mut pairs = Vec::new(alloc);
-    for found in kept {
-        pairs.push(Pair::listed_alone(found.entry()))?;
+    let mut place = 0;
+    for found in free {
+        place = place_from(best, place, found.name());
+        if is_wanted(best, place, asked, found) {
+            pairs.push(Pair::listed_alone(found.entry()))?;
+        }
     }
+    Ok(pairs)
+}
+
+// The pairs of the stanzas of the best offers' versions, and of those that the goals ask for with `=`.
+fn listed_pairs<'p, 'a>(
+    alloc: Global,
+    free: &[Found<'p, 'a>],
+    best: &[Offer<'a>],
+    lines: &[GoalLine],
+) -> Result<Vec<Pair<'p, 'a>>, AllocError>
+    requires { IsStrictlySortedBy offer_name_cmp best.now }
+    ensures { IfOk result (λ pairs. pairs.items ≡ map listed_pair (admitted_among best.now (exacts_of (goals_of lines.now)) free.now)) }
+{
+    let asked = exacts_of(alloc, lines)?;
+    let pairs = wanted_pairs(alloc, best, asked.as_slice(), free)?;
     Ok(pairs)
 }
 
@@ -110,7 +109,7 @@ fn standing_pair<'p, 'a>(
     let listed = stanza_by(ordered, found);
     match found.standing_pkg(alloc)? {
         None => Ok(None),
-        Some(pkg) => Ok(Some(Pair::standing(pkg, listed))),
+        Some(pkg) => Ok(Some(Pair::standing(alloc, pkg, listed)?)),
     }
 }
 
@@ -151,11 +150,12 @@ pub fn pairs_of<'p, 'a>(
     lines: &[GoalLine],
 ) -> Result<Vec<Pair<'p, 'a>>, AllocError>
     requires ordered { IsStrictlySortedBy listed_cmp ordered.items }
+    requires best { IsStrictlySortedBy offer_name_cmp best.now }
     ensures { IfOk result (λ pairs. ArePairs (chosen_pairs known.now ordered.entry.items best.now (exacts_of (goals_of lines.now))) pairs.items) }
 {
     let mut pairs = standing_pairs(alloc, known.as_slice(), ordered.as_slice())?;
-    let kept = admitted(alloc, free_of(known, ordered), best, lines)?;
-    let mut listed = listed_pairs(alloc, kept.as_slice())?;
+    let free = free_of(known, ordered);
+    let mut listed = listed_pairs(alloc, free.as_slice(), best, lines)?;
     pairs.append(&mut listed)?;
     in_order(pairs)
 }

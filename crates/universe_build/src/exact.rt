@@ -1,14 +1,14 @@
-// The versions of names that are admitted: those of the best offers, and those that install goals ask for with `=`.
+// The versions of names that install goals ask for with `=`.
 
 ghost use Rattle.std.specs.Prelude.{◌≡◌, IfOk, refl};
 ghost use Rattle.std.specs.Cmp.{eq_by_cmp_equiv, partial_equiv_from_equiv, po};
 ghost use Rattle.std.specs.List.{filter_map};
 ghost use Rattle.std.specs.List.Sorted.{IsSorted};
 ghost use Rattle.std.specs.Ordering.{as_partial_cmp, eq_by_cmp};
-ghost use Rattle.universe_build.specs.Choice.{AreExacts, best_exacts, exact_at, exact_by, exact_cmp, exact_of, is_exactly, is_sought, offered_exact};
+ghost use Rattle.universe_build.specs.Choice.{AreExacts, exact_at, exact_by, exact_cmp, exact_of, is_exactly, is_sought};
 ghost use Rattle.universe_build.specs.ChoiceLaws.{exact_cmp_total};
 
-use candidates::{Found, Offer};
+use candidates::Found;
 use debversion::Version;
 use rules::{Goal, GoalLine, Name, Op, Restriction};
 use std::alloc::{AllocError, Global};
@@ -90,30 +90,6 @@ pub fn exacts_of<'g>(alloc: Global, lines: &'g [GoalLine]) -> Result<Vec<Exact<'
     ensures { IfOk result (λ exacts. AreExacts (filter_map (λ asked. exact_of asked.goal) lines.now) exacts.items) }
 {
     let mut exacts = asked_by(alloc, lines)?;
-    exacts.sort()?;
-    Ok(exacts)
-}
-
-fn offered_exact<'a>(offer: &Offer<'a>) -> Exact<'a>
-    ensures { result ≡ offered_exact offer.now }
-{
-    Exact {
-        name: offer.name(),
-        version: offer.version().again(),
-    }
-}
-
-fn versions_of<'a>(alloc: Global, best: &[Offer<'a>]) -> Result<Vec<Exact<'a>>, AllocError>
-    ensures { IfOk result (λ exacts. exacts.items ≡ best_exacts best.now) }
-{
-    best.iter().map(|offer| offered_exact(offer)).collect(alloc)
-}
-
-/// The versions of the best offers, in order. About n log n comparisons of n offers.
-pub fn best_exacts<'a>(alloc: Global, best: &[Offer<'a>]) -> Result<Vec<Exact<'a>>, AllocError>
-    ensures { IfOk result (λ exacts. AreExacts (best_exacts best.now) exacts.items) }
-{
-    let mut exacts = versions_of(alloc, best)?;
     exacts.sort()?;
     Ok(exacts)
 }

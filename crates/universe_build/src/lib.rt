@@ -2,6 +2,7 @@
 // `rules`, which says which pairs are admitted, and on `candidates`. The main function is `build`.
 #![tactic(auto)]
 
+mod best;
 mod built;
 mod chosen;
 mod error;

@@ -9,6 +9,9 @@ use Rattle.universe_build.specs.Error.{IsBuilt}
 use Rattle.universe_build.proofs.Given.{first_unknown-given, universe_given}
 use Rattle.universe_build.proofs.built.build.Goals as goal
 
+pub pairs_of-requires-clause-best : goal.pairs_of-requires-clause-best
+pairs_of-requires-clause-best c = subst (IsStrictlySortedBy offer_name_cmp) (sym c.as_slice-4.ensures.value) (c.in_ok-known.ensures.candidates []).ascending
+
 pub candidates_of-requires : goal.candidates_of-requires
 candidates_of-requires c = subst (IsStrictlySortedBy offer_name_cmp) (sym c.as_slice-6.ensures.value) (c.in_ok-known.ensures.candidates []).ascending
 

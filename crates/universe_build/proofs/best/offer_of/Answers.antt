@@ -1,0 +1,24 @@
+-- A binary search among the best offers.
+use Rattle.std.proofs.Common.{rules, arith, ◌<◌, ◌∙◌, Result, ℕ, length, subst}
+use Rattle.std.specs.List.Sorted.{IsBinarySearchResult, IsSearchInRange}
+use Rattle.std.proofs.lemmas.Fn.{always_returns_same}
+use Rattle.rules.specs.Name.{name_cmp}
+use Rattle.candidates.specs.Offer.{Offer}
+use Rattle.universe.proofs.Searching.{got}
+use Rattle.universe_build.proofs.BestOffer.{searched_no_offer, searched_offer}
+use Rattle.universe_build.proofs.best.offer_of.Goals as goal
+
+pub returns-in-Ok : goal.returns-in-Ok
+returns-in-Ok c =
+    let within : c.in-Ok.place < length c.args.best.now = subst (λ (r : Result ℕ ℕ). IsSearchInRange r (length c.args.best.now)) c.in-Ok.is c.binary_search_by.ensures.bound in
+    got _ c.get.result c.args.best.now c.in-Ok.place within (c.get.ensures.lookup.2 within) (c.get.ensures.lookup.4 (omega arith))
+    ∙ searched_offer c.args.best.now c.args.name.now c.in-Ok.place c.requires
+    within
+    (subst (λ (r : Result ℕ ℕ). IsBinarySearchResult (λ (offer : Offer). name_cmp offer.name c.args.name.now) c.args.best.now r) c.in-Ok.is
+    (c.binary_search_by.ensures.position (λ (offer : Offer). name_cmp offer.name c.args.name.now) (always_returns_same _ _ _ (λ a r f k. search rules))))
+
+pub returns-in-Err : goal.returns-in-Err
+returns-in-Err c = searched_no_offer c.args.best.now c.args.name.now c.in-Err.field-0 c.requires
+    (subst (λ (r : Result ℕ ℕ). IsSearchInRange r (length c.args.best.now)) c.in-Err.is c.binary_search_by.ensures.bound)
+    (subst (λ (r : Result ℕ ℕ). IsBinarySearchResult (λ (offer : Offer). name_cmp offer.name c.args.name.now) c.args.best.now r) c.in-Err.is
+    (c.binary_search_by.ensures.position (λ (offer : Offer). name_cmp offer.name c.args.name.now) (always_returns_same _ _ _ (λ a r f k. search rules))))
