@@ -1,24 +1,12 @@
-//! Versions, relation fields, packages, plans and requests: what their texts are read as, and plans as they are
-//! written, row by row. This crate has tests alone, so that none of their readers is proved once more with each of them.
+//! Plans and requests: what their texts are read as, and plans as they are written, row by row. This crate has tests alone,
+//! so that none of their readers is proved once more with each of them.
 #![tactic(auto)]
 
-#[cfg(test)]
-mod fields;
-#[cfg(test)]
-mod operators;
-#[cfg(test)]
-mod packages;
 #[cfg(test)]
 mod plans;
 #[cfg(test)]
 mod requests;
 #[cfg(test)]
-mod shapes;
-#[cfg(test)]
-mod shown;
-#[cfg(test)]
 mod texts;
-#[cfg(test)]
-mod versions;
 #[cfg(test)]
 mod written;
