@@ -1,8 +1,11 @@
 //! Indices: the stanzas of a Packages file that count for an architecture (Debian Policy 5.3).
-ghost use Rattle.std.specs.Prelude.{◌≡◌, IfErr, IfOk, Ok, map};
+ghost use Rattle.std.specs.Prelude.{◌≡◌, ◌<◌, Err, IfErr, IfOk, Ok, length, map};
+ghost use Rattle.rules.specs.declared.limits.TheConstants.{TEXT_BYTES};
 ghost use Rattle.index.specs.Error.{IsIndexFault};
 ghost use Rattle.index.specs.Index as Spec;
 ghost use Rattle.index.specs.Names.{names_of};
+ghost use Rattle.index.specs.declared.error.IndexError.TheVariants as error;
+ghost use Rattle.index.specs.declared.error.IndexFault.TheVariants as fault;
 
 use crate::entry::Entry;
 use crate::error::{IndexError, IndexFault};
@@ -46,6 +49,7 @@ impl<'a> Index<'a> {
     ) -> Result<Index<'a>, IndexError>
         ensures ok { IfOk result (λ index. Spec.read_index arch.now release before text.now ≡ Ok index) }
         ensures err { IfErr result (λ e. IsIndexFault e (Spec.read_index arch.now release before text.now)) }
+        ensures too_long { TEXT_BYTES < length text.now → result ≡ Err (error.Refused fault.TooLarge) }
     {
         if text.len() > TEXT_BYTES {
             return Err(IndexFault::TooLarge.into());

@@ -1,10 +1,13 @@
 //! Sources texts: which indices there are, and the release keys of each (this project's own format).
-ghost use Rattle.std.specs.Prelude.{◌≡◌, IfErr, IfOk, Ok, codes, true};
+ghost use Rattle.std.specs.Prelude.{◌≡◌, ◌<◌, Err, IfErr, IfOk, Ok, codes, length, true};
 ghost use Rattle.std.specs.Option.{option_copied};
+ghost use Rattle.rules.specs.declared.limits.TheConstants.{TEXT_BYTES};
 ghost use Rattle.stanza.specs.Field.{value_named};
 ghost use Rattle.stanza.specs.Stanza.{items_of};
 ghost use Rattle.index.specs.Error.{IsSourcesFault};
 ghost use Rattle.index.specs.Sources as Spec;
+ghost use Rattle.index.specs.declared.error.SourcesError.TheVariants as error;
+ghost use Rattle.index.specs.declared.error.SourcesFault.TheVariants as fault;
 
 use crate::error::{SourcesError, SourcesFault};
 use rules::{INDICES, Release, TEXT_BYTES, Text};
@@ -147,6 +150,7 @@ fn sources_in<'a>(alloc: Global, text: &'a [u8]) -> Result<Vec<Source<'a>>, Sour
 pub fn read_sources<'a>(alloc: Global, text: &'a [u8]) -> Result<Vec<Source<'a>>, SourcesError>
     ensures ok { IfOk result (λ sources. Spec.read_sources text.now ≡ Ok sources.items) }
     ensures err { IfErr result (λ e. IsSourcesFault e (Spec.read_sources text.now)) }
+    ensures too_long { TEXT_BYTES < length text.now → result ≡ Err (error.Refused fault.TooLarge) }
 {
     if text.len() > TEXT_BYTES {
         return Err(SourcesFault::TooLarge.into());

@@ -129,7 +129,7 @@ fn is_shown(alloc: Global, row: &str) -> Result<bool, Fail> {
 fn stanzas_of_the_architecture_are_read_up_to_the_first_refusal(
     rt: HostRuntime,
 ) -> Result<(), Fail> {
-    for table in [READ, ESSENTIAL, REFUSED] {
+    for table in &[READ, ESSENTIAL, REFUSED] {
         for row in table.lines() {
             assert!(rt; is_shown(rt.alloc(), row)?, "{row}");
         }

@@ -103,7 +103,7 @@ fn is_shown(alloc: Global, row: &str) -> Result<bool, Fail> {
 
 #[test]
 fn each_stanza_is_an_index_up_to_the_first_refusal(rt: HostRuntime) -> Result<(), Fail> {
-    for table in [READ, REFUSED] {
+    for table in &[READ, REFUSED] {
         for row in table.lines() {
             assert!(rt; is_shown(rt.alloc(), row)?, "{row}");
         }

@@ -16,5 +16,5 @@ mod release_pin;
 mod words;
 
 pub use error::{PrefsError, PrefsFault, PrefsField};
-pub use origin::{Origin, default_priority};
+pub use origin::Origin;
 pub use prefs::Prefs;

@@ -70,8 +70,8 @@ fn is_target(target: Option<&[u8]>, release: &Release) -> bool
     }
 }
 
-/// The priority that an index gives the versions that no record speaks of, unless it is of the target release.
-pub fn default_priority(release: &Release) -> i32
+// The priority that an index gives the versions that no record speaks of, unless it is of the target release.
+fn default_priority(release: &Release) -> i32
     ensures { result ≡ Priority.default_priority release.now }
 {
     if !release.not_automatic {

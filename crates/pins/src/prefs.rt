@@ -1,10 +1,13 @@
 // What the administrator prefers.
 
-ghost use Rattle.std.specs.Prelude.{◌≡◌, [], IfErr, IfOk, Ok, true};
+ghost use Rattle.std.specs.Prelude.{◌≡◌, ◌<◌, [], Err, IfErr, IfOk, Ok, length, true};
 ghost use Rattle.std.specs.Option.{option_copied};
+ghost use Rattle.rules.specs.declared.limits.TheConstants.{TEXT_BYTES};
 ghost use Rattle.stanza.specs.Stanza.{items_of};
 ghost use Rattle.pins.specs.Error.{IsPrefsFault};
 ghost use Rattle.pins.specs.Prefs.{read_preferences, records_in};
+ghost use Rattle.pins.specs.declared.error.PrefsError.TheVariants as error;
+ghost use Rattle.pins.specs.declared.error.PrefsFault.TheVariants as fault;
 
 use crate::error::{PrefsError, PrefsFault};
 use crate::record::read_item;
@@ -58,6 +61,7 @@ impl Prefs {
         ensures ok { IfOk result (λ prefs. (read_preferences text.now ≡ Ok prefs.preferences)
             × (prefs.target ≡ option_copied target.entry)) }
         ensures err { IfErr result (λ e. IsPrefsFault e (read_preferences text.now)) }
+        ensures too_long { TEXT_BYTES < length text.now → result ≡ Err (error.Refused fault.TooLarge) }
     {
         if text.len() > TEXT_BYTES {
             return Err(PrefsFault::TooLarge.into());

@@ -54,9 +54,9 @@ fn refusals_are_printed_with_their_codes(rt: HostRuntime) -> Result<(), Fail> {
         (PrefsFault::BadPin(7), "E11 BadPin 7"),
         (PrefsFault::TooLarge, "E10 TooLarge"),
     ];
-    for (fault, wanted) in rows {
-        let printed = format!(in alloc; "{}", PrefsError::from(fault))?;
-        assert_eq!(rt; printed.as_str(), wanted);
+    for (fault, wanted) in &rows {
+        let printed = format!(in alloc; "{}", PrefsError::from(*fault))?;
+        assert_eq!(rt; printed.as_str(), *wanted);
     }
     let memory = format!(in alloc; "{}", PrefsError::OutOfMemory)?;
     assert_eq!(rt; memory.as_str(), "E1 OutOfMemory");

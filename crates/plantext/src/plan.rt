@@ -1,14 +1,15 @@
 // The steps in the text of a plan.
 
-ghost use Rattle.std.specs.Prelude.{◌≡◌, ◌<◌, ◌+◌, ◌^◌, [], Err, ◌≤◌, IfErr, IfOk, MatchResult, Ok, OnOk};
+ghost use Rattle.std.specs.Prelude.{◌≡◌, ◌<◌, ◌+◌, ◌^◌, [], Err, ◌≤◌, IfErr, IfOk, MatchResult, Ok, OnOk, length};
 ghost use Rattle.std.specs.Option.{option_copied};
 ghost use Rattle.std.specs.Str.{bytes_eq};
 ghost use Rattle.plantext.specs.Error.{IsPlanFault};
 ghost use Rattle.plantext.specs.Cut.{parts_at};
 ghost use Rattle.plantext.specs.Plan as Spec;
 ghost use Rattle.plantext.specs.Plan.{header, only_line, read_plan, read_step, read_steps, step_in_line};
-ghost use Rattle.rules.specs.declared.limits.TheConstants.{STEPS};
+ghost use Rattle.rules.specs.declared.limits.TheConstants.{STEPS, TEXT_BYTES};
 ghost use Rattle.plantext.specs.declared.cut.TheConstants.{NEWLINE};
+ghost use Rattle.plantext.specs.declared.error.PlanError.TheVariants.{TooLarge};
 
 use crate::cut::{NEWLINE, cut_part, split_part};
 use crate::error::{PlanError, PlanFault};
@@ -70,6 +71,7 @@ fn read_steps(alloc: Global, lines: &[u8]) -> Result<Vec<Step>, PlanError>
 pub fn read_plan(alloc: Global, text: &[u8]) -> Result<Vec<Step>, PlanError>
     ensures ok { IfOk result (λ steps. read_plan text.now ≡ Ok steps.items) }
     ensures err { IfErr result (λ e. IsPlanFault e (read_plan text.now)) }
+    ensures too_long { TEXT_BYTES < length text.now → result ≡ Err TooLarge }
 {
     if text.len() > TEXT_BYTES {
         return Err(PlanError::TooLarge);
@@ -102,6 +104,7 @@ fn only_line(text: &[u8]) -> Option<&[u8]>
 pub fn read_step(alloc: Global, text: &[u8]) -> Result<Step, PlanError>
     ensures ok { IfOk result (λ step. read_step text.now ≡ Ok step) }
     ensures err { IfErr result (λ e. IsPlanFault e (read_step text.now)) }
+    ensures too_long { TEXT_BYTES < length text.now → result ≡ Err TooLarge }
 {
     if text.len() > TEXT_BYTES {
         return Err(PlanError::TooLarge);

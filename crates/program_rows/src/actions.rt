@@ -48,7 +48,7 @@ Package: o$Status: hold ok config-files$→→→plan 1$purge o$→1 no step 1 F
 
 #[test]
 fn every_action_is_judged_when_its_turn_comes(rt: HostRuntime) -> Result<(), Fail> {
-    for table in [GROUPS, DECONFIGURED, REMOVED, PURGED] {
+    for table in &[GROUPS, DECONFIGURED, REMOVED, PURGED] {
         for row in table.lines() {
             assert!(rt; holds_over_start(rt.alloc(), row)?, "{row}");
         }

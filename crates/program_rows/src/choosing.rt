@@ -60,7 +60,7 @@ fn holds(alloc: Global, row: &str) -> Result<bool, Fail> {
 
 #[test]
 fn a_candidate_is_named_with_its_priority(rt: HostRuntime) -> Result<(), Fail> {
-    for table in [PRIORITIES, OWN_RULES, NAMES, REFUSALS] {
+    for table in &[PRIORITIES, OWN_RULES, NAMES, REFUSALS] {
         for row in table.lines() {
             assert!(rt; holds(rt.alloc(), row)?, "{row}");
         }

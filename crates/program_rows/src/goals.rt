@@ -53,7 +53,7 @@ Package: foo$Status: install ok installed$Version: 2$Architecture: all$→File: 
 
 #[test]
 fn a_goal_of_each_kind_is_met_or_named(rt: HostRuntime) -> Result<(), Fail> {
-    for table in [UPGRADES, REMOVALS, SEVERAL] {
+    for table in &[UPGRADES, REMOVALS, SEVERAL] {
         for row in table.lines() {
             assert!(rt; holds_over_start(rt.alloc(), row)?, "{row}");
         }

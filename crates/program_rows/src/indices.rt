@@ -31,7 +31,7 @@ Package: a$Version: 1$Architecture: all$Depends: b$$Package: b$Version: 1$Archit
 
 #[test]
 fn packages_of_all_indices_count_with_every_relation_field(rt: HostRuntime) -> Result<(), Fail> {
-    for table in [PROVIDES, PRIORITIES] {
+    for table in &[PROVIDES, PRIORITIES] {
         for row in table.lines() {
             assert!(rt; holds_over_two(rt.alloc(), row)?, "{row}");
         }

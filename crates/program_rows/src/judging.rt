@@ -49,7 +49,7 @@ const PATHS: Arguments<'static> = Arguments {
 fn a_verdict_is_printed_as_an_answer(rt: HostRuntime) -> Result<(), Fail> {
     let alloc = rt.alloc();
     let mut host = Memory::new(alloc);
-    for path in ["status", "sources", "request"] {
+    for path in &["status", "sources", "request"] {
         host.add(alloc, path, "")?;
     }
     host.add(alloc, "plan", "plan 1$")?;

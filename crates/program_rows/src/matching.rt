@@ -41,7 +41,7 @@ Package: t$Version: 1$Architecture: all$Depends: v (= 2)$$Package: u$Version: 1$
 
 #[test]
 fn an_atom_is_satisfied_by_name_or_by_what_is_provided(rt: HostRuntime) -> Result<(), Fail> {
-    for table in [PROVIDED, RESTRICTIONS] {
+    for table in &[PROVIDED, RESTRICTIONS] {
         for row in table.lines() {
             assert!(rt; holds_over_one(rt.alloc(), row)?, "{row}");
         }

@@ -30,7 +30,7 @@ File: index1$#c$explanation: x$Explanation: y$→Package: a$Version: 1$Architect
 
 #[test]
 fn a_plan_is_judged_step_by_step_and_at_its_end(rt: HostRuntime) -> Result<(), Fail> {
-    for table in [STEPS, GOALS, TEXTS] {
+    for table in &[STEPS, GOALS, TEXTS] {
         for row in table.lines() {
             assert!(rt; holds_over_one(rt.alloc(), row)?, "{row}");
         }

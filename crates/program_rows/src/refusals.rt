@@ -71,7 +71,7 @@ Package: x$Status: install ok installed$Version: 1$Architecture: all$Breaks: y |
 
 #[test]
 fn the_first_fault_of_a_text_is_named(rt: HostRuntime) -> Result<(), Fail> {
-    for table in [VERSIONS, INDICES, REQUESTS, PLANS] {
+    for table in &[VERSIONS, INDICES, REQUESTS, PLANS] {
         for row in table.lines() {
             assert!(rt; holds_over_one(rt.alloc(), row)?, "{row}");
         }

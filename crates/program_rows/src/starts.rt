@@ -43,7 +43,7 @@ Package: a$Status: install ok installed$Version: 2$Architecture: all$→Package:
 
 #[test]
 fn a_plan_is_judged_from_the_status_file_on(rt: HostRuntime) -> Result<(), Fail> {
-    for table in [PRE_DEPENDS, HOLDS, CONFLICTS, ENDS] {
+    for table in &[PRE_DEPENDS, HOLDS, CONFLICTS, ENDS] {
         for row in table.lines() {
             assert!(rt; holds_over_start(rt.alloc(), row)?, "{row}");
         }

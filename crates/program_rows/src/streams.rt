@@ -70,9 +70,9 @@ fn an_answer_that_cannot_be_written_is_a_failure_of_the_device(
 ) -> Result<(), Fail> {
     let alloc = rt.alloc();
     let refusal = b"debplan: output: E26 Write\n".as_slice();
-    for room in [0, 3] {
+    for room in &[0, 3] {
         let mut err = Vec::new(alloc);
-        let status = status_of(alloc, "plan 1$", &mut Narrow { room }, &mut err)?;
+        let status = status_of(alloc, "plan 1$", &mut Narrow { room: *room }, &mut err)?;
         assert!(rt; status == 5 && err.as_slice() == refusal, "{room}");
     }
     let mut err = Vec::new(alloc);

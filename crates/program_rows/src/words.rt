@@ -75,7 +75,7 @@ fn is_help(printed: &Printed) -> bool {
 
 #[test]
 fn words_that_are_wrong_are_a_usage_fault(rt: HostRuntime) -> Result<(), Fail> {
-    for table in [FAULTS, UNKNOWN] {
+    for table in &[FAULTS, UNKNOWN] {
         for line in table.lines() {
             let printed = run_line(rt.alloc(), line, &mut Memory::new(rt.alloc()))?;
             assert!(rt; is_fault(&printed), "{line}");
@@ -107,7 +107,7 @@ fn words_that_are_no_text_are_usage_faults(rt: HostRuntime) -> Result<(), Fail> 
     let mut words = Vec::new(alloc);
     let none = run_on(alloc, words.as_slice(), &mut Memory::new(alloc))?;
     assert!(rt; is_fault(&none));
-    for word in [b"debplan".as_slice(), b"compare", b"1", b"lt", b"\xff"] {
+    for word in &[b"debplan".as_slice(), b"compare", b"1", b"lt", b"\xff"] {
         words.push(word.to_vec(alloc)?)?;
     }
     let printed = run_on(alloc, words.as_slice(), &mut Memory::new(alloc))?;

@@ -1,7 +1,9 @@
 -- Refusals of relation fields, and the errors of the calls that take memory.
-use Rattle.std.specs.Prelude.{◌≡◌, ⊤, Result, Err}
+use Rattle.std.specs.Prelude.{◌≡◌, ℕ, ⊤, List, Result, Err, codes}
 use Rattle.relation.specs.declared.error.RelationError.{RelationError}
 use Rattle.relation.specs.declared.error.RelationError.TheVariants as error
+use Rattle.relation.specs.declared.error.RequiredField.{RequiredField}
+use Rattle.relation.specs.declared.error.RequiredField.TheVariants as required
 use Rattle.relation_text.specs.declared.error.RelationFault.{RelationFault}
 use Rattle.relation_text.specs.declared.error.RelationFault.TheVariants.{BadRelation, BadName, TooLarge}
 
@@ -17,3 +19,8 @@ IsFault (error.BadRelation offset) read = read ≡ Err (BadRelation offset)
 IsFault (error.BadName offset) read = read ≡ Err (BadName offset)
 IsFault error.TooLarge read = read ≡ Err TooLarge
 IsFault error.OutOfMemory read = ⊤
+
+-- the name of a field without which there is no package, as it is printed
+abbrev pub field_name : RequiredField → List ℕ
+field_name required.Package = codes "Package"
+field_name required.Version = codes "Version"

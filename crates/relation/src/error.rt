@@ -66,6 +66,11 @@ pub enum RequiredField {
 }
 
 impl fmt::Display for RequiredField {
+    ghost use Rattle.std.specs.Prelude.{Some};
+    ghost use Rattle.relation.specs.Error.{field_name};
+
+    ghost output = { λ field. Some (field_name field) };
+
     fn fmt<W: fmt::Write>(&self, f: &mut fmt::Formatter<W>) -> fmt::Result {
         match self {
             RequiredField::Package => f.write_str("Package"),

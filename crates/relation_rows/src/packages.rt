@@ -2,7 +2,7 @@
 use crate::shown::{shown_atoms, shown_clauses, shown_items};
 use crate::texts::unescaped;
 use relation::{
-    Pkg, PkgError, PkgFields, RelationError, parse_atoms, parse_clauses, parse_provides,
+    Atom, Pkg, PkgError, PkgFields, RelationError, parse_atoms, parse_clauses, parse_provides,
 };
 use stanza::Stanzas;
 use std::alloc::Global;
@@ -28,21 +28,30 @@ fn shown(alloc: Global, text: &[u8]) -> Result<String, Fail> {
     Ok(shown)
 }
 
-fn write_part(shown: &mut String, mark: &str, part: String) -> Result<(), Fail> {
+fn write_part(shown: &mut String, mark: &str, part: &str) -> Result<(), Fail> {
     shown.push_str(mark)?;
-    shown.push_str(part.as_str())?;
+    shown.push_str(part)?;
     Ok(())
+}
+
+// The clauses that a package needs, behind its name and its version.
+fn write_needs(alloc: Global, shown: &mut String, pkg: &Pkg<'_>) -> Result<(), Fail> {
+    write_part(shown, " ", &shown_clauses(alloc, pkg.pre_depends())?)?;
+    write_part(shown, "/", &shown_clauses(alloc, pkg.depends())?)
+}
+
+// The atoms of a package, and the items that it provides.
+fn write_others(alloc: Global, shown: &mut String, pkg: &Pkg<'_>) -> Result<(), Fail> {
+    write_part(shown, "/", &shown_atoms(alloc, pkg.conflicts())?)?;
+    write_part(shown, "/", &shown_atoms(alloc, pkg.breaks())?)?;
+    write_part(shown, "/", &shown_items(alloc, pkg.provides())?)
 }
 
 fn write_pkg(alloc: Global, shown: &mut String, pkg: &Pkg<'_>) -> Result<(), Fail> {
     shown.push_str(str::from_utf8(pkg.name())?)?;
-    shown.push_str(" ")?;
-    shown.push_str(str::from_utf8(pkg.version().text())?)?;
-    write_part(shown, " ", shown_clauses(alloc, pkg.pre_depends())?)?;
-    write_part(shown, "/", shown_clauses(alloc, pkg.depends())?)?;
-    write_part(shown, "/", shown_atoms(alloc, pkg.conflicts())?)?;
-    write_part(shown, "/", shown_atoms(alloc, pkg.breaks())?)?;
-    write_part(shown, "/", shown_items(alloc, pkg.provides())?)
+    write_part(shown, " ", str::from_utf8(pkg.version().text())?)?;
+    write_needs(alloc, shown, pkg)?;
+    write_others(alloc, shown, pkg)
 }
 
 // `$` stands for a newline.
@@ -84,17 +93,19 @@ fn a_package_is_read_from_its_fields(rt: HostRuntime) -> Result<(), Fail> {
     Ok(())
 }
 
-/// Whether the package of a stanza matches the one atom of a text.
+// Whether the package matches one of the atoms.
+fn matches_one(pkg: &Pkg<'_>, atoms: &[Atom<'_>]) -> bool {
+    atoms.iter().any(|atom| atom.matched_by(pkg))
+}
+
+// Whether the package of the stanza matches the atom of a text.
 fn is_matched(alloc: Global, atom: &[u8], text: &[u8]) -> Result<bool, Fail> {
     let atoms = parse_atoms(alloc, atom, ARCH)?;
-    let mut matched = false;
-    for item in Stanzas::new(text) {
-        let pkg = Pkg::from_stanza(alloc, &item?, ARCH)?;
-        for atom in &atoms {
-            matched = atom.matched_by(&pkg);
-        }
-    }
-    Ok(matched)
+    let Some(item) = Stanzas::new(text).next() else {
+        return Err("no stanza".into());
+    };
+    let pkg = Pkg::from_stanza(alloc, &item?, ARCH)?;
+    Ok(matches_one(&pkg, atoms.as_slice()))
 }
 
 // `$` stands for a newline.

@@ -146,7 +146,7 @@ fn row_holds(line: &str) -> bool {
 
 #[test]
 fn versions_are_ordered(rt: HostRuntime) {
-    for table in [STANDARDS, RULES, ARCHIVE] {
+    for table in &[STANDARDS, RULES, ARCHIVE] {
         for line in table.lines() {
             assert!(rt; row_holds(line), "{line}");
         }

@@ -89,29 +89,19 @@ fn three_words_of_the_lists_are_read(rt: HostRuntime) -> Result<(), Fail> {
     Ok(())
 }
 
+// `$` stands for a newline.
+const RECORDS: &str = "\
+→
+Package: x$Status: install ok installed$Architecture: amd64$Version: 1$Config-Version: 2$Essential: yes$→x Install Sound Installed 1 config 1 essential;
+Package: x$Status: install reinstreq unpacked$Architecture: all$Version: 2$Config-Version: 1$$Package: y$Status: deinstall ok config-files$Config-Version: 1$→x Install ReinstallRequired Unpacked 2 config 1;y Deinstall Sound ConfigFiles config 1;
+Package: x$Status: hold ok not-installed$Config-Version: 1$Depends: _$→x Hold Sound NotInstalled;
+Package: x$Status: unknown ok not-installed$Architecture: i386$Version: _$$Package: x$Status: install ok installed$Architecture: all$Version: 1$→foreign at 1;x Install Sound Installed 1 config 1;
+";
+
 #[test]
 fn records_are_those_of_the_text(rt: HostRuntime) -> Result<(), Fail> {
-    let rows = [
-        ("", ""),
-        (
-            "Package: x\nStatus: install ok installed\nArchitecture: amd64\nVersion: 1\nConfig-Version: 2\nEssential: yes\n",
-            "x Install Sound Installed 1 config 1 essential;",
-        ),
-        (
-            "Package: x\nStatus: install reinstreq unpacked\nArchitecture: all\nVersion: 2\nConfig-Version: 1\n\nPackage: y\nStatus: deinstall ok config-files\nConfig-Version: 1\n",
-            "x Install ReinstallRequired Unpacked 2 config 1;y Deinstall Sound ConfigFiles config 1;",
-        ),
-        (
-            "Package: x\nStatus: hold ok not-installed\nConfig-Version: 1\nDepends: _\n",
-            "x Hold Sound NotInstalled;",
-        ),
-        (
-            "Package: x\nStatus: unknown ok not-installed\nArchitecture: i386\nVersion: _\n\nPackage: x\nStatus: install ok installed\nArchitecture: all\nVersion: 1\n",
-            "foreign at 1;x Install Sound Installed 1 config 1;",
-        ),
-    ];
-    for (text, wanted) in rows {
-        assert_eq!(rt; shown(rt.alloc(), text)?.as_str(), wanted, "of {text}");
+    for row in RECORDS.lines() {
+        assert!(rt; is_shown(rt.alloc(), row)?, "{row}");
     }
     Ok(())
 }

@@ -236,16 +236,21 @@ fn are_found(
     Ok(Some(found.as_str()) == wanted && Some(scanned.as_str()) == wanted)
 }
 
-fn start<'p, 'a>(alloc: Global, a: &'p Pkg<'a>) -> Result<Records<'p, 'a>, Fail> {
-    let first = PackageRecord::present(
+// The record of `a`, which is installed.
+fn installed<'p, 'a>(a: &'p Pkg<'a>) -> PackageRecord<'p, 'a> {
+    PackageRecord::present(
         a,
         State::Installed,
         Want::Install,
         Flag::Sound,
         Some(a.version().again()),
         false,
-    );
-    let second = PackageRecord::absent(
+    )
+}
+
+// The record of `o`, of which configuration files are left.
+fn removed<'p, 'a>() -> PackageRecord<'p, 'a> {
+    PackageRecord::absent(
         b"o",
         State::ConfigFiles,
         Want::Deinstall,
@@ -253,8 +258,14 @@ fn start<'p, 'a>(alloc: Global, a: &'p Pkg<'a>) -> Result<Records<'p, 'a>, Fail>
         None,
         None,
         false,
-    );
-    Ok(Records::new(alloc, vec![in alloc; first, second]?)?)
+    )
+}
+
+fn start<'p, 'a>(alloc: Global, a: &'p Pkg<'a>) -> Result<Records<'p, 'a>, Fail> {
+    let mut records = Vec::new(alloc);
+    records.push(installed(a))?;
+    records.push(removed())?;
+    Ok(Records::new(alloc, records)?)
 }
 
 fn row_holds(alloc: Global, index: &[Listed<'_>], row: &str) -> Result<bool, Fail> {

@@ -65,27 +65,39 @@ fn step_of(alloc: Global, line: &str) -> Result<Option<Step>, Fail> {
     }
 }
 
-// What taking the step answers, as it is printed: nothing where it was taken.
+// What applying the step answers, as it is printed: nothing where it was applied.
+fn applied<'a>(
+    alloc: Global,
+    db: &mut Database<'a>,
+    step: &Step,
+    stanza: Option<&'a [u8]>,
+) -> Result<String, Fail> {
+    let mut shown = String::new(alloc);
+    if let Err(refused) = db.apply(step, stanza) {
+        write!(shown, "{refused}")?;
+    }
+    Ok(shown)
+}
+
+fn given(stanza: &[u8]) -> Option<&[u8]> {
+    if stanza.is_empty() {
+        None
+    } else {
+        Some(stanza)
+    }
+}
+
+// What taking the step of a line answers, as it is printed: nothing where it was taken.
 fn taken<'a>(
     alloc: Global,
     db: &mut Database<'a>,
     line: &[u8],
     stanza: &'a [u8],
 ) -> Result<String, Fail> {
-    let mut shown = String::new(alloc);
-    let Some(step) = step_of(alloc, str::from_utf8(line)?)? else {
-        shown.push_str("no step")?;
-        return Ok(shown);
-    };
-    let given = if stanza.is_empty() {
-        None
-    } else {
-        Some(stanza)
-    };
-    if let Err(refused) = db.apply(&step, given) {
-        write!(shown, "{refused}")?;
+    match step_of(alloc, str::from_utf8(line)?)? {
+        None => Ok(String::from_str(alloc, "no step")?),
+        Some(step) => applied(alloc, db, &step, given(stanza)),
     }
-    Ok(shown)
 }
 
 // The text after the steps, or the first refusal.
@@ -146,11 +158,15 @@ fn steps_leave_these_texts(rt: HostRuntime) -> Result<(), Fail> {
     Ok(())
 }
 
+fn has_text(alloc: Global, db: &Database<'_>, text: &[u8]) -> Result<bool, Fail> {
+    Ok(db.text(alloc)?.as_slice() == text)
+}
+
 // Whether the text, read again, is its own text, as is that of its copy.
 fn is_read_again(alloc: Global, text: &[u8]) -> Result<bool, Fail> {
     let db = Database::read(alloc, text, ARCH)?;
     let copy = db.try_copy(alloc)?;
-    Ok(db.text(alloc)?.as_slice() == text && copy.text(alloc)?.as_slice() == text)
+    Ok(has_text(alloc, &db, text)? && has_text(alloc, &copy, text)?)
 }
 
 // Whether the text that the steps of a row leave, if they are taken, is read again.
@@ -176,30 +192,50 @@ fn what_steps_leave_is_read_again(rt: HostRuntime) -> Result<(), Fail> {
     Ok(())
 }
 
+// Names that are recorded, and one of another architecture.
+const NAMED: &[u8] =
+    b"Package: b\nStatus: install ok installed\nArchitecture: all\nVersion: 1\n\nPackage: x\nStatus: unknown ok not-installed\nArchitecture: i386\n\nPackage: a\nStatus: hold ok not-installed\n";
+
 #[test]
-fn names_and_records_are_found(rt: HostRuntime) -> Result<(), Fail> {
-    let text =
-        b"Package: b\nStatus: install ok installed\nArchitecture: all\nVersion: 1\n\nPackage: x\nStatus: unknown ok not-installed\nArchitecture: i386\n\nPackage: a\nStatus: hold ok not-installed\n";
-    let db = Database::read(rt.alloc(), text, ARCH)?;
-    assert_eq!(rt; db.names().len(), 2);
+fn names_are_those_of_records(rt: HostRuntime) -> Result<(), Fail> {
+    let db = Database::read(rt.alloc(), NAMED, ARCH)?;
     assert!(rt; matches!(db.names(), [b"b", b"a"]));
-    assert!(rt; db.record(b"x").is_none());
-    if let Some(record) = db.record(b"a") {
-        assert!(rt; record.is_held() && !record.is_present());
-    }
-    let copy = db.try_copy(rt.alloc())?;
-    assert!(rt; copy.text(rt.alloc())?.as_slice() == db.text(rt.alloc())?.as_slice());
     Ok(())
+}
+
+#[test]
+fn a_name_of_another_architecture_has_no_record(rt: HostRuntime) -> Result<(), Fail> {
+    let db = Database::read(rt.alloc(), NAMED, ARCH)?;
+    assert!(rt; db.record(b"x").is_none());
+    Ok(())
+}
+
+#[test]
+fn a_record_is_found_by_its_name(rt: HostRuntime) -> Result<(), Fail> {
+    let db = Database::read(rt.alloc(), NAMED, ARCH)?;
+    match db.record(b"a") {
+        Some(record) => assert!(rt; record.is_held() && !record.is_present()),
+        None => assert!(rt; false),
+    }
+    Ok(())
+}
+
+// The name that a step is refused for, if it is refused for one.
+fn refused_name(alloc: Global, db: &mut Database<'_>, step: &Step) -> Result<Vec<u8>, Fail> {
+    match db.apply(step, None) {
+        Err(ApplyError::NotApplicable(name)) => Ok(name.as_bytes().to_vec(alloc)?),
+        _ => Ok(Vec::new(alloc)),
+    }
 }
 
 #[test]
 fn a_refused_name_is_lent(rt: HostRuntime) -> Result<(), Fail> {
     let mut db = Database::read(rt.alloc(), b"", ARCH)?;
-    if let Some(step) = step_of(rt.alloc(), "remove a")? {
-        match db.apply(&step, None) {
-            Err(ApplyError::NotApplicable(name)) => assert!(rt; name.as_bytes() == b"a".as_slice()),
-            _ => assert!(rt; false),
+    match step_of(rt.alloc(), "remove a")? {
+        Some(step) => {
+            assert!(rt; refused_name(rt.alloc(), &mut db, &step)?.as_slice() == b"a".as_slice())
         }
+        None => assert!(rt; false),
     }
     Ok(())
 }

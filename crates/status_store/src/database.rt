@@ -1,10 +1,13 @@
 //! The status file as it is stored.
-ghost use Rattle.std.specs.Prelude.{◌≡◌, Ok, None, IfErr, IfOk, OnErr, OnOk, map};
+ghost use Rattle.std.specs.Prelude.{◌≡◌, ◌<◌, Ok, Err, None, IfErr, IfOk, OnErr, OnOk, length, map};
+ghost use Rattle.rules.specs.declared.limits.TheConstants.{TEXT_BYTES};
 ghost use Rattle.std.specs.Option.{option_copied};
 ghost use Rattle.rules.specs.Database.{HasDistinctNames};
 ghost use Rattle.status_text.specs.Error.{IsStatusFault};
 ghost use Rattle.status_text.specs.Slot.{entries_of};
 ghost use Rattle.status_text.specs.Status as Text;
+ghost use Rattle.status_text.specs.declared.error.StatusError.TheVariants as error;
+ghost use Rattle.status_text.specs.declared.error.StatusFault.TheVariants as fault;
 ghost use Rattle.status_store.specs.Applicable.{handed_in, refused_name};
 ghost use Rattle.status_store.specs.Error.{IsApplyFault};
 ghost use Rattle.status_store.specs.Faithful.{ReadsAsIfShort};
@@ -78,6 +81,7 @@ impl<'a> Database<'a> {
         ensures arch { IfOk result (λ db. db.arch ≡ arch.now) }
         ensures ok { IfOk result (λ db. Text.read_status arch.now text.now ≡ Ok db.slots) }
         ensures err { IfErr result (λ e. IsStatusFault e (Text.read_status arch.now text.now)) }
+        ensures too_long { TEXT_BYTES < length text.now → result ≡ Err (error.Refused fault.TooLarge) }
     {
         let slots = read_status(alloc, text, arch)?;
         let table = table_of(alloc, slots)?;

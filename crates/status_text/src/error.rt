@@ -20,6 +20,11 @@ pub enum RequiredField {
 }
 
 impl fmt::Display for RequiredField {
+    ghost use Rattle.std.specs.Prelude.{Some};
+    ghost use Rattle.status_text.specs.Error.{field_name};
+
+    ghost output = { λ field. Some (field_name field) };
+
     fn fmt<W: fmt::Write>(&self, f: &mut fmt::Formatter<W>) -> fmt::Result {
         match self {
             RequiredField::Status => f.write_str("Status"),

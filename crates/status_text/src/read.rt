@@ -1,11 +1,14 @@
 //! The slots of a status file.
-ghost use Rattle.std.specs.Prelude.{◌≡◌, [], IfErr, IfOk, Ok, false};
+ghost use Rattle.std.specs.Prelude.{◌≡◌, ◌<◌, [], Err, IfErr, IfOk, Ok, false, length};
 ghost use Rattle.rules.specs.Database.{HasDistinctNames};
 ghost use Rattle.rules.specs.Entry.{records_of};
+ghost use Rattle.rules.specs.declared.limits.TheConstants.{TEXT_BYTES};
 ghost use Rattle.stanza.specs.Stanza.{items_of};
 ghost use Rattle.status_text.specs.Error.{IsStatusFault};
 ghost use Rattle.status_text.specs.Slot.{entries_of, names_with};
 ghost use Rattle.status_text.specs.Status as Spec;
+ghost use Rattle.status_text.specs.declared.error.StatusError.TheVariants as error;
+ghost use Rattle.status_text.specs.declared.error.StatusFault.TheVariants as fault;
 
 use crate::entry::read_slot;
 use crate::error::{StatusError, StatusFault};
@@ -62,6 +65,7 @@ pub fn read_status<'a>(
     ensures ok { IfOk result (λ slots. Spec.read_status arch.now text.now ≡ Ok slots.items) }
     ensures distinct { IfOk result (λ slots. HasDistinctNames (records_of (entries_of slots.items))) }
     ensures err { IfErr result (λ e. IsStatusFault e (Spec.read_status arch.now text.now)) }
+    ensures too_long { TEXT_BYTES < length text.now → result ≡ Err (error.Refused fault.TooLarge) }
 {
     if text.len() > TEXT_BYTES {
         return Err(StatusFault::TooLarge.into());

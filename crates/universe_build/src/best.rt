@@ -1,9 +1,10 @@
 // Whether a stanza is of the version of its name's best offer.
 
-ghost use Rattle.std.specs.Prelude.{◌≡◌, ◌≤◌, bytes_eq, length};
-ghost use Rattle.std.specs.List.{find};
+ghost use Rattle.std.specs.Prelude.{◌+◌, ◌≡◌, ◌≤◌, bytes_eq, drop, length};
+ghost use Rattle.std.specs.List.{find, prefix_len};
 ghost use Rattle.std.specs.List.Sorted.{IsStrictlySortedBy};
 ghost use Rattle.std.specs.Option.{option_copied};
+ghost use Rattle.std.specs.Ordering.{is_lt};
 ghost use Rattle.rules.specs.Name.{name_cmp};
 ghost use Rattle.candidates.specs.Offer.{offer_name_cmp};
 ghost use Rattle.universe_build.specs.Choice.{best_exacts, is_sought};
@@ -58,20 +59,28 @@ pub fn is_best(best: &[Offer<'_>], place: usize, found: &Found<'_, '_>) -> bool
     }
 }
 
+fn is_before(offer: &Offer<'_>, name: &[u8]) -> bool
+    ensures { result ≡ is_lt (name_cmp offer.now.name name.now) }
+{
+    order_to(offer, name).is_lt()
+}
+
 // How many of the offers, from the first on, are of names before this one.
 fn names_before(offers: &[Offer<'_>], name: &[u8]) -> usize
-    ensures { result ≤ length offers.now }
+    ensures count { result ≡ prefix_len (λ offer. is_lt (name_cmp offer.name name.now)) offers.now }
+    ensures within { result ≤ length offers.now }
 {
     offers
         .iter()
-        .take_while(|offer| offer.name() < name)
+        .take_while(|offer| is_before(offer, name))
         .count()
 }
 
 /// The first place from here on whose offer is of this name or a later one. Linear in the places between.
 pub fn place_from(best: &[Offer<'_>], place: usize, name: &[u8]) -> usize
     requires { place ≤ length best.now }
-    ensures { result ≤ length best.now }
+    ensures place { result ≡ place + prefix_len (λ offer. is_lt (name_cmp offer.name name.now)) (drop place best.now) }
+    ensures within { result ≤ length best.now }
 {
     place + names_before(best.split_at(place).1, name)
 }

@@ -1,10 +1,11 @@
 // The goals of a request.
 
-ghost use Rattle.std.specs.Prelude.{◌≡◌, ◌≤◌, IfErr, IfOk, Ok, OnOk, length};
+ghost use Rattle.std.specs.Prelude.{◌≡◌, ◌<◌, ◌≤◌, Err, IfErr, IfOk, Ok, OnOk, length};
 ghost use Rattle.rules.specs.declared.limits.TheConstants.{GOALS, TEXT_BYTES};
 ghost use Rattle.universe_request.specs.Cut.{lines_of};
 ghost use Rattle.universe_request.specs.Error.{IsRequestFault};
 ghost use Rattle.universe_request.specs.Request.{read_goal, read_lines, read_request};
+ghost use Rattle.universe_request.specs.declared.error.RequestError.TheVariants.{TooLarge};
 
 use crate::error::RequestError;
 use crate::goal_text::goal_of;
@@ -77,6 +78,7 @@ impl Request {
     pub fn read(alloc: Global, text: &[u8], arch: &[u8]) -> Result<Request, RequestError>
         ensures ok { IfOk result (λ request. read_request arch.now text.now ≡ Ok request) }
         ensures err { IfErr result (λ e. IsRequestFault e (read_request arch.now text.now)) }
+        ensures too_long { TEXT_BYTES < length text.now → result ≡ Err TooLarge }
     {
         if text.len() > TEXT_BYTES {
             return Err(RequestError::TooLarge);
