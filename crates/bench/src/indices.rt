@@ -21,16 +21,5 @@ pub fn measure(rt: &HostRuntime, text: &[u8]) -> Result<()> {
 
 /// The release keys of an index of which nothing is known.
 pub fn no_keys(alloc: Global) -> Result<Release, AllocError> {
-    Ok(Release {
-        archive: None,
-        suite: None,
-        codename: None,
-        version: None,
-        component: None,
-        origin: None,
-        label: None,
-        host: Text::copied_from(alloc, b"")?,
-        not_automatic: false,
-        but_automatic_upgrades: false,
-    })
+    Ok(Release::without_keys(Text::copied_from(alloc, b"")?))
 }

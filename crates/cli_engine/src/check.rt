@@ -69,6 +69,31 @@ fn judge<'a>(
     Ok(answer)
 }
 
+// Judges the plan by what the texts before the request are read as.
+fn judge_by<'a>(
+    alloc: Global,
+    read: &ReadTexts<'a>,
+    inputs: &Inputs<'_, 'a>,
+    plan: &[u8],
+) -> Result<Verdict, Refusal>
+    requires { AreRead (texts_of inputs.now) (slot_records read.now.database.slots) (indices_of read.now.indices.items) read.now.prefs }
+    ensures answer { IfOk result (λ verdict. IsAnswer (texts_of inputs.now) plan.now verdict) }
+    ensures refused { IfErr result (λ refused. IsFirstRefusal (texts_of inputs.now) plan.now refused) }
+{
+    let ReadTexts {
+        database,
+        indices,
+        prefs,
+    } = read;
+    let universe = universe_of(alloc, database, indices.as_slice(), prefs, inputs)?;
+    let steps = match read_steps(alloc, plan) {
+        Ok(steps) => steps,
+        Err(fault) => return Err(refused_at(Place::Plan, fault)),
+    };
+    let verdict = judge(alloc, database, &universe, steps.as_slice())?;
+    Ok(verdict)
+}
+
 /// Judges the plan by the texts: the verdict of what they denote, or the first refusal in the order status, sources,
 /// indices, preferences, request, plan; where memory was wanting, that is answered instead. Reading is linear in the texts
 /// but for the order of the stanzas, n log n, and the priorities cost what `candidates::Offered::find` says; judging costs what
@@ -82,16 +107,6 @@ pub fn check_plan_bytes(
     ensures answer { IfOk result (λ verdict. IsAnswer (texts_of inputs.now) plan.now verdict) }
     ensures refused { IfErr result (λ refused. IsFirstRefusal (texts_of inputs.now) plan.now refused) }
 {
-    let ReadTexts {
-        database,
-        indices,
-        prefs,
-    } = read_texts(alloc, inputs)?;
-    let universe = universe_of(alloc, &database, indices.as_slice(), &prefs, inputs)?;
-    let steps = match read_steps(alloc, plan) {
-        Ok(steps) => steps,
-        Err(fault) => return Err(refused_at(Place::Plan, fault)),
-    };
-    let verdict = judge(alloc, &database, &universe, steps.as_slice())?;
-    Ok(verdict)
+    let read = read_texts(alloc, inputs)?;
+    judge_by(alloc, &read, inputs, plan)
 }

@@ -1,6 +1,6 @@
 //! Texts that are one stanza.
-use crate::texts::unescaped;
 use index::read_alone;
+use rows::unescaped;
 use std::alloc::Global;
 use std::test::Fail;
 

@@ -1,7 +1,7 @@
 //! Packages files, by rows worked by hand, for the architecture amd64.
-use crate::texts::unescaped;
 use index::{Entry, Index, IndexError};
 use relation::Pkg;
+use rows::unescaped;
 use rules::{Release, Text};
 use std::alloc::{AllocError, Global};
 use std::str;
@@ -10,18 +10,7 @@ use std::test::Fail;
 const ARCH: &[u8] = b"amd64";
 
 fn release_of(alloc: Global, host: &[u8]) -> Result<Release, AllocError> {
-    Ok(Release {
-        archive: None,
-        suite: None,
-        codename: None,
-        version: None,
-        component: None,
-        origin: None,
-        label: None,
-        host: Text::copied_from(alloc, host)?,
-        not_automatic: false,
-        but_automatic_upgrades: false,
-    })
+    Ok(Release::without_keys(Text::copied_from(alloc, host)?))
 }
 
 fn read<'a>(

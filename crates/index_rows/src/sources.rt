@@ -1,6 +1,7 @@
 //! Sources texts: this project's own format, by rows worked by hand.
-use crate::texts::{repeated, unescaped};
+use crate::texts::repeated;
 use index::{Source, SourcesError, read_sources};
+use rows::unescaped;
 use rules::{Release, Text};
 use std::alloc::Global;
 use std::str;

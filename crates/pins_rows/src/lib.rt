@@ -8,5 +8,3 @@ mod calls;
 mod priorities;
 #[cfg(test)]
 mod records;
-#[cfg(test)]
-mod texts;

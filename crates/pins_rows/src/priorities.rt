@@ -1,28 +1,12 @@
 //! Priorities over origins. Wanted values are those of apt_preferences(5), "APT's Default Priority Assignments" and "The
 //! Effect of APT Preferences", with what the README of `pins` says of several records and origins, by hand.
-use crate::texts::unescaped;
 use debversion::Version;
 use pins::{Origin, Prefs};
+use rows::unescaped;
 use rules::{Release, Text};
 use std::alloc::Global;
 use std::process::Abort;
 use std::test::Fail;
-
-fn no_keys(alloc: Global) -> Result<Release, Fail> {
-    let host = Text::copied_from(alloc, b"")?;
-    Ok(Release {
-        archive: None,
-        suite: None,
-        codename: None,
-        version: None,
-        component: None,
-        origin: None,
-        label: None,
-        host,
-        not_automatic: false,
-        but_automatic_upgrades: false,
-    })
-}
 
 // One item of a spelled release: a letter, and behind `=` its value.
 fn set_key(release: &mut Release, key: &str, value: Text) {
@@ -40,7 +24,7 @@ fn set_key(release: &mut Release, key: &str, value: Text) {
 
 // The release keys of an index, spelled as items with commas between them; `N` and `B` are its two flags.
 fn release_of(alloc: Global, spelled: &str) -> Result<Release, Fail> {
-    let mut release = no_keys(alloc)?;
+    let mut release = Release::without_keys(Text::copied_from(alloc, b"")?);
     for item in spelled.split(',') {
         match item.split_once('=') {
             Some((key, value)) => {

@@ -1,7 +1,7 @@
 //! Preferences files, each with what it is to be read as. The format is that of apt_preferences(5), as the README of `pins`
 //! bounds it; lines were counted by hand.
-use crate::texts::unescaped;
 use pins::Prefs;
+use rows::unescaped;
 use rules::{Pin, PinnedNames, ReleaseItem, ReleaseKey};
 use std::alloc::Global;
 use std::process::Abort;

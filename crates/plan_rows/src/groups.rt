@@ -3,11 +3,11 @@
 //! and no smaller group of it could be configured by itself.
 use crate::ends::universe_of;
 use crate::packages::{name_of, package};
-use crate::universes::unescaped;
 use plancheck::{configure_failing, legal};
 use plancheck_group::{greatest_part, is_indivisible};
 use plantext::read_step;
 use relation::Pkg;
+use rows::unescaped;
 use rules::{Flag, Name, Rule, State, Step, Want};
 use status::{PackageRecord, Records};
 use std::alloc::Global;

@@ -8,6 +8,7 @@ use crate::packages::name_of;
 use debversion::Version;
 use index::Index;
 use pins::Prefs;
+use rows::unescaped;
 use rules::{Goal, GoalLine, Op, Release, Restriction, Text, VersionText};
 use status_store::{Database, Record};
 use std::alloc::Global;
@@ -43,18 +44,10 @@ pub(crate) fn release(
     not_automatic: bool,
     but_automatic_upgrades: bool,
 ) -> Result<Release, Fail> {
-    let host = Text::copied_from(alloc, b"")?;
     Ok(Release {
-        archive: None,
-        suite: None,
-        codename: None,
-        version: None,
-        component: None,
-        origin: None,
-        label: None,
-        host,
         not_automatic,
         but_automatic_upgrades,
+        ..Release::without_keys(Text::copied_from(alloc, b"")?)
     })
 }
 
@@ -100,15 +93,6 @@ fn shown(alloc: Global, universe: &Universe<'_, '_>) -> Result<String, Fail> {
         write_pair(&mut shown, candidate.name(), candidate.version())?;
     }
     Ok(shown)
-}
-
-/// The bytes of a row's text, in which `$` stands for a newline.
-pub(crate) fn unescaped(alloc: Global, text: &str) -> Result<Vec<u8>, Fail> {
-    let mut bytes = Vec::new(alloc);
-    for byte in text.as_bytes() {
-        bytes.push(if *byte == b'$' { b'\n' } else { *byte })?;
-    }
-    Ok(bytes)
 }
 
 // The universe of these, or the refusal, as text.

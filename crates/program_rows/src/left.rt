@@ -1,6 +1,6 @@
 //! What the steps of a plan leave of a status file.
-use crate::memory::unescaped;
 use plantext::read_plan;
+use rows::unescaped;
 use rules::{State, Step};
 use stanza::Stanzas;
 use status_store::{ApplyError, Database, Record};

@@ -1,5 +1,6 @@
 //! A host in memory, and runs of the program over it.
 use cli::{Host, ReadError, run};
+use rows::unescaped;
 use std::alloc::{AllocError, Global};
 use std::test::Fail;
 
@@ -55,15 +56,6 @@ impl Host for Memory<'_> {
         }
         Err(ReadError::Unreadable)
     }
-}
-
-/// The bytes of a row's text.
-pub(crate) fn unescaped(alloc: Global, text: &str) -> Result<Vec<u8>, AllocError> {
-    let mut bytes = Vec::new(alloc);
-    for byte in text.as_bytes() {
-        bytes.push(if *byte == b'$' { b'\n' } else { *byte })?;
-    }
-    Ok(bytes)
 }
 
 /// The words of a line, which spaces part.

@@ -1,7 +1,7 @@
 //! Values of relation fields: what they spell, and that a parser refuses what the check refuses.
 use crate::shown::{shown_atoms, shown_clauses, shown_items};
-use crate::texts::unescaped;
 use relation::{Form, check, parse_atoms, parse_clauses, parse_provides};
+use rows::unescaped;
 use std::alloc::Global;
 use std::process::Abort;
 use std::test::Fail;

@@ -13,6 +13,4 @@ mod shapes;
 #[cfg(test)]
 mod shown;
 #[cfg(test)]
-mod texts;
-#[cfg(test)]
 mod versions;

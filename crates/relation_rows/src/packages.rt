@@ -1,9 +1,9 @@
 //! Packages of stanzas, their refusals, and which package matches which atom.
 use crate::shown::{shown_atoms, shown_clauses, shown_items};
-use crate::texts::unescaped;
 use relation::{
     Atom, Pkg, PkgError, PkgFields, RelationError, parse_atoms, parse_clauses, parse_provides,
 };
+use rows::unescaped;
 use stanza::Stanzas;
 use std::alloc::Global;
 use std::str;

@@ -1,6 +1,6 @@
 //! Rows of refused values, from Policy 7.1 and by hand: what the clauses do not say. Offsets were counted in the row's text.
-use crate::texts::unescaped;
 use relation_text::{Form, RelationFault, check};
+use rows::unescaped;
 use std::alloc::Global;
 use std::process::Abort;
 use std::test::Fail;

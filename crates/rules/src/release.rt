@@ -1,4 +1,5 @@
 // What is known of an index and of the preferences of the administrator (apt_preferences(5)).
+ghost use Rattle.std.specs.Prelude.{◌≡◌, None, false};
 
 use crate::name::Name;
 use crate::text::{Items, Text};
@@ -27,6 +28,37 @@ pub struct Release {
     pub not_automatic: bool,
     /// `ButAutomaticUpgrades: yes`
     pub but_automatic_upgrades: bool,
+}
+
+impl Release {
+    /// The release keys of an index of which no more is known than the site that it came from. Takes no memory.
+    pub fn without_keys(host: Text) -> Release
+        ensures { result ≡ record {
+          archive = None;
+          suite = None;
+          codename = None;
+          version = None;
+          component = None;
+          origin = None;
+          label = None;
+          host = host;
+          not_automatic = false;
+          but_automatic_upgrades = false;
+        } }
+    {
+        Release {
+            archive: None,
+            suite: None,
+            codename: None,
+            version: None,
+            component: None,
+            origin: None,
+            label: None,
+            host,
+            not_automatic: false,
+            but_automatic_upgrades: false,
+        }
+    }
 }
 
 /// A key of a release pin.

@@ -1,6 +1,6 @@
 //! What the clauses do not say: printed refusals, worked texts and their readings, and that the calls succeed. Lines and
 //! offsets were counted in the row's text; the words are those of dpkg(1), and the architecture is amd64.
-use crate::texts::unescaped;
+use rows::unescaped;
 use status_text::{Slot, StatusError, StatusRecord, read_status};
 use std::alloc::Global;
 use std::str;

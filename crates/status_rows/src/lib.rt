@@ -12,5 +12,3 @@ mod records;
 mod spelling;
 #[cfg(test)]
 mod stores;
-#[cfg(test)]
-mod texts;

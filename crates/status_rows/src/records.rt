@@ -1,7 +1,7 @@
 //! What the clauses do not say: that the calls succeed, and worked stanzas. The rows were written by hand: the words are
 //! those of dpkg(1), the architecture is amd64, and `$` stands for a newline.
-use crate::texts::unescaped;
 use index::{Entry, read_alone};
+use rows::unescaped;
 use status_record::Record;
 use status_text::{Slot, read_status};
 use std::alloc::Global;

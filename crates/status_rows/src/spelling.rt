@@ -1,5 +1,5 @@
 //! What the clauses don't say: that the calls succeed, and the texts of a few fields and stanzas, written by hand.
-use crate::texts::unescaped;
+use rows::unescaped;
 use status_spelling::{write_bytes, write_field};
 use std::alloc::Global;
 use std::test::Fail;

@@ -1,7 +1,7 @@
 //! What the clauses do not say: printed refusals, worked texts, and that the calls succeed. The texts and what actions
 //! leave were worked out by hand from dpkg(1) and Debian Policy 5; the architecture is amd64.
-use crate::texts::unescaped;
 use debversion::Version;
+use rows::unescaped;
 use rules::{Name, Names, VersionText, is_name};
 use status_store::{ApplyError, Database, Step};
 use std::alloc::Global;

@@ -1,6 +1,7 @@
 //! Texts of plans, each with what it is to be read as. The format is this project's own; lines were counted by hand.
-use crate::texts::{is_printed, unescaped, write_named};
+use crate::texts::{is_printed, write_named};
 use plantext::{PlanError, PlanFault, read_plan, read_step, write_plan, write_step};
+use rows::unescaped;
 use rules::Step;
 use std::alloc::{AllocError, Global};
 use std::process::Abort;

@@ -1,6 +1,7 @@
 //! Requests, each with what it is to be read as. The format is this project's own, its atoms are those of Policy
 //! 7.1; lines were counted by hand.
-use crate::texts::{is_printed, unescaped, write_named};
+use crate::texts::{is_printed, write_named};
+use rows::unescaped;
 use rules::{Goal, Op, Restriction};
 use std::alloc::{AllocError, Global};
 use std::process::Abort;

@@ -4,15 +4,6 @@ use std::fmt::Display;
 use std::str;
 use std::test::Fail;
 
-/// The bytes of a row's text, in which `$` stands for a newline.
-pub(crate) fn unescaped(alloc: Global, text: &str) -> Result<Vec<u8>, Fail> {
-    let mut bytes = Vec::new(alloc);
-    for byte in text.as_bytes() {
-        bytes.push(if *byte == b'$' { b'\n' } else { *byte })?;
-    }
-    Ok(bytes)
-}
-
 /// Writes a word of a step or of a goal, and a name behind it.
 pub(crate) fn write_named(shown: &mut String, word: &str, name: &[u8]) -> Result<(), Fail> {
     shown.push_str(word)?;

@@ -1,7 +1,7 @@
 //! Plans and steps as they are written, and lines as one step. The format is this project's own.
 use crate::plans::show_step;
-use crate::texts::unescaped;
 use plantext::{PlanError, read_plan, read_step, write_plan, write_step};
+use rows::unescaped;
 use rules::{Name, Step, is_name};
 use std::alloc::{AllocError, Global};
 use std::process::Abort;
