@@ -1,10 +1,11 @@
 //! What debplan's readers cost on real data. `bench MEASURE FILE ..` reads each FILE once, does the work of
 //! the MEASURE before it, and prints fixed counts; times go to standard error alone.
-//! It stands on the readers and on `universe_build`, and nothing stands on it.
+//! It stands on the readers, `kept_index` and `universe_build`, and nothing stands on it.
 #![tactic(auto)]
 
 mod arguments;
 mod indices;
+mod opened;
 mod relations;
 mod report;
 mod stanzas;
@@ -36,13 +37,13 @@ fn main(rt: HostRuntime) -> io::Result<ExitCode> {
 }
 
 fn run(rt: &HostRuntime, task: &Task<'_>) -> Result<()> {
-    let text = fs::read(rt, task.path)?;
+    let path = task.path;
     match task.measure {
-        Measure::Stanzas => stanzas::measure(rt, text.as_slice()),
-        Measure::Versions => versions::measure(rt, text.as_slice()),
-        Measure::Relations => relations::measure(rt, text.as_slice()),
-        Measure::Index => indices::measure(rt, text.as_slice()),
-        Measure::Status => statuses::measure(rt, text.as_slice()),
-        Measure::Universe => universes::measure(rt, text.as_slice()),
+        Measure::Stanzas => stanzas::measure(rt, fs::read(rt, path)?.as_slice()),
+        Measure::Versions => versions::measure(rt, fs::read(rt, path)?.as_slice()),
+        Measure::Relations => relations::measure(rt, fs::read(rt, path)?.as_slice()),
+        Measure::Index => indices::measure(rt, fs::read(rt, path)?.as_slice()),
+        Measure::Status => statuses::measure(rt, fs::read(rt, path)?.as_slice()),
+        Measure::Universe => universes::measure(rt, path),
     }
 }

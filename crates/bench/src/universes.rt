@@ -1,17 +1,22 @@
 //! Building the universe of a request over an index.
 use crate::indices::no_keys;
+use crate::opened::Opened;
 use crate::report::print_time;
-use anyhow::Result;
+use anyhow::{Result, bail};
 use index::Index;
+use kept_index::keep;
 use pins::Prefs;
+use std::fs::File;
 use std::time::Instant;
 use universe_build::build;
 
-/// Measures the building of the universe over the text as the only index for `amd64`, where nothing is installed and
-/// nothing is asked for, so that the candidate of each name is admitted. The reading of the index isn't measured.
-pub fn measure(rt: &HostRuntime, text: &[u8]) -> Result<()> {
+/// Measures the building of the universe over the file as the only index for `amd64`, where nothing is installed and
+/// nothing is asked for, so that the candidate of each name is admitted. The reading of the index isn't measured; no more of
+/// it is held than what is kept.
+pub fn measure(rt: &HostRuntime, path: &str) -> Result<()> {
     let release = no_keys(rt.alloc())?;
-    let indices = [Index::read(rt.alloc(), text, release, b"amd64", 0)?];
+    let kept = kept_of(rt, path)?;
+    let indices = [Index::read(rt.alloc(), kept.as_slice(), release, b"amd64", 0)?];
     let prefs = Prefs::without_records(rt.alloc(), None)?;
     let goals = Vec::new(rt.alloc());
     let start = Instant::now(rt)?;
@@ -21,4 +26,15 @@ pub fn measure(rt: &HostRuntime, text: &[u8]) -> Result<()> {
     println!(rt; "pairs {pairs}")?;
     print_time(rt, "universe built", time)?;
     Ok(())
+}
+
+// What is kept of the index in this file.
+fn kept_of(rt: &HostRuntime, path: &str) -> Result<Vec<u8>> {
+    let mut opened = Opened {
+        file: File::open(rt, path)?,
+    };
+    let Ok(kept) = keep(rt.alloc(), &mut opened) else {
+        bail!("nothing is kept of it");
+    };
+    Ok(kept)
 }

@@ -1,7 +1,7 @@
 -- Reading stops where the first of several files does.
 use Rattle.std.proofs.Common.{◌≡◌, ℕ, List, Option, Some, None, refl, ap, sym, ◌∙◌}
 use Rattle.std.specs.Option.{option_copied, option_or}
-use Rattle.cli.specs.Files.{Files}
+use Rattle.cli.specs.Files.{Files, kept_in}
 use Rattle.cli.specs.Stop.{stop_at_preferences, stop_at_sources, stop_in, stop_of, unread}
 use Rattle.cli.specs.declared.arguments.Options.{Options}
 use Rattle.cli_engine.specs.Texts.{sources_of}
@@ -11,7 +11,7 @@ use Rattle.cli_engine.specs.declared.refusal.Place.TheVariants as place
 -- where reading stops in the sources that were read, it stops in those that there are
 pub stops_in : (files : Files) (start status preferences : Option Place) (found : Option (List ℕ)) (sources : List ℕ)
     → (option_or (option_or start status) (unread place.Sources found) ≡ None → found ≡ Some sources)
-    → option_or (option_or (option_or (option_or start status) (unread place.Sources found)) (stop_in files (sources_of sources))) preferences
+    → option_or (option_or (option_or (option_or start status) (unread place.Sources found)) (stop_in (kept_in files) (sources_of sources))) preferences
     ≡ option_or start (option_or status (option_or (stop_at_sources files found) preferences))
 stops_in files (Some before) status preferences found sources is = refl
 stops_in files None (Some before) preferences found sources is = refl
@@ -24,13 +24,13 @@ pub stops_of : (files : Files) (options : Options) (start status found indices s
     → status ≡ option_or start (unread place.Status (files options.status.now))
     → found ≡ option_or status (unread place.Sources (files options.sources.now))
     → (found ≡ None → files options.sources.now ≡ Some sources)
-    → indices ≡ option_or found (stop_in files (sources_of sources))
+    → indices ≡ option_or found (stop_in (kept_in files) (sources_of sources))
     → stopped ≡ option_or indices (stop_at_preferences files (option_copied options.preferences))
     → stopped ≡ option_or start (stop_of files options)
 stops_of files options start status found indices stopped sources at-status at-sources is at-indices at-preferences =
     at-preferences
     ∙ ap (λ (o : Option Place). option_or o (stop_at_preferences files (option_copied options.preferences)))
-    (at-indices ∙ ap (λ (o : Option Place). option_or o (stop_in files (sources_of sources))) sources-read)
+    (at-indices ∙ ap (λ (o : Option Place). option_or o (stop_in (kept_in files) (sources_of sources))) sources-read)
     ∙ stops_in files start (unread place.Status (files options.status.now))
     (stop_at_preferences files (option_copied options.preferences)) (files options.sources.now) sources
     (λ none. is (sources-read ∙ none))

@@ -4,3 +4,4 @@ pub mod Files
 pub mod Inputs
 pub mod Outcome
 pub mod Stop
+pub mod Whole

@@ -1,8 +1,8 @@
--- Where reading stops: at the first place, in the order of reading, whose file can't be read, or at sources that are
--- refused.
+-- Where reading stops: at the first place, in the order of reading, whose file can't be read, at sources that are
+-- refused, or at an index of which nothing is kept.
 use Rattle.std.specs.Prelude.{ℕ, ◌+◌, List, [], ◌∷◌, Option, Some, None, Result, Ok, Err}
 use Rattle.std.specs.Option.{option_and_then, option_copied, option_or}
-use Rattle.cli.specs.Files.{Files}
+use Rattle.cli.specs.Files.{Files, kept_in}
 use Rattle.cli.specs.declared.arguments.Options.{Options}
 use Rattle.cli_engine.specs.Texts.{sources_of}
 use Rattle.cli_engine.specs.declared.refusal.Fault.{Fault}
@@ -26,10 +26,10 @@ abbrev pub stop_in : Files → Result (List SourceText) Fault → Option Place
 stop_in files (Err refused) = Some place.Sources
 stop_in files (Ok named) = unread_from files 1 named
 
--- the sources, where they can't be read or are refused, or the first of their indices that can't be read
+-- the sources, where they can't be read or are refused, or the first of their indices of which nothing is kept
 abbrev pub stop_at_sources : Files → Option (List ℕ) → Option Place
 stop_at_sources files None = Some place.Sources
-stop_at_sources files (Some text) = stop_in files (sources_of text)
+stop_at_sources files (Some text) = stop_in (kept_in files) (sources_of text)
 
 -- the preferences, where there are any and they can't be read
 abbrev pub stop_at_preferences : Files → Option (List ℕ) → Option Place

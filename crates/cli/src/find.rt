@@ -10,6 +10,7 @@ use crate::candidate::Candidate;
 use crate::host::Host;
 use crate::inputs::{inputs_of, slices_of, unless_unread};
 use crate::read::{Texts, read_texts};
+use crate::whole::with_line;
 use cli_engine::{Refusal, candidate_bytes};
 use std::alloc::Global;
 
@@ -25,8 +26,11 @@ pub fn find_candidate<H: Host>(
         (texts : TextsOf) × AreTextsAt at query.now.options texts × IsCandidateAnswer texts query.now.name.now found) }
 {
     let mut stopped_at = None;
-    let texts = read_texts(alloc, host, &mut stopped_at, &query.options)?;
-    unless_unread(found_in(alloc, query, &texts), stopped_at)
+    let mut texts = read_texts(alloc, host, &mut stopped_at, &query.options)?;
+    match unless_unread(found_in(alloc, query, &texts), stopped_at) {
+        Ok(found) => Ok(found),
+        Err(refused) => Err(with_line(alloc, host, &query.options, &mut texts, refused)),
+    }
 }
 
 // What is found in these texts.

@@ -9,13 +9,15 @@ use crate::arguments::Arguments;
 use crate::host::Host;
 use crate::inputs::{inputs_of, slices_of, unless_unread};
 use crate::read::{PlanTexts, read_plan_texts};
+use crate::whole::with_line;
 use cli_engine::{Refusal, check_plan_bytes};
 use rules::Verdict;
 use std::alloc::Global;
 
 /// Judges the plan by the files of a host. They are read in the order status, sources, indices, preferences, request and
 /// plan, and of all refusals the first in that order is answered: a file that can't be read is refused (E5) at its place.
-/// A verdict is answered only where all of them were read. Costs what reading them and `check_plan_bytes` cost.
+/// A verdict is answered only where all of them were read. Of the indices no more is held than what is kept of them; where
+/// one is refused they are read once more, whole. Costs what reading them and `check_plan_bytes` cost.
 pub fn check_plan<H: Host>(
     alloc: Global,
     host: &mut H,
@@ -25,8 +27,11 @@ pub fn check_plan<H: Host>(
         (texts : TextsOf) × (plan : List ℕ) × AreTextsOf at arguments.now texts plan × IsAnswer texts plan verdict) }
 {
     let mut stopped_at = None;
-    let texts = read_plan_texts(alloc, host, &mut stopped_at, arguments)?;
-    unless_unread(judged(alloc, arguments, &texts), stopped_at)
+    let mut read = read_plan_texts(alloc, host, &mut stopped_at, arguments)?;
+    match unless_unread(judged(alloc, arguments, &read), stopped_at) {
+        Ok(verdict) => Ok(verdict),
+        Err(refused) => Err(with_line(alloc, host, &arguments.options, &mut read.texts, refused)),
+    }
 }
 
 // What is answered of these texts.

@@ -15,6 +15,7 @@ mod outcome;
 mod print;
 mod program;
 mod read;
+mod whole;
 
 pub use answer::{candidate_line, comparison_line, verdict_line};
 pub use arguments::{Arguments, Options, Query};
@@ -26,5 +27,6 @@ pub use exit::{Exit, exit_of_candidate, exit_of_comparison, exit_of_refusal, exi
 pub use find::find_candidate;
 pub use host::{Host, ReadError};
 pub use judge::check_plan;
+pub use kept_index::{ReadFailed, Source};
 pub use outcome::{Outcome, outcome_of_answer, outcome_of_candidate, outcome_of_comparison};
 pub use program::{refuse_for_memory, run};

@@ -17,7 +17,8 @@ use std::alloc::{AllocError, Global};
 use std::io::Write;
 
 /// Runs the program on the words of its command line, of which the first is its own name, and gives its exit status.
-/// It reads each file once, from its beginning to its end, and writes nothing but its answer or one refusal.
+/// It reads each file from its beginning to its end, once, and the indices once more where one is refused. It writes nothing
+/// but its answer or one refusal.
 pub fn run<H: Host, W: Write, E: Write>(
     alloc: Global,
     words: &[Vec<u8>],

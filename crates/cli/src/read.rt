@@ -1,19 +1,22 @@
 // Reading the files in their order, as far as they can be read.
-ghost use Rattle.std.specs.Prelude.{◌≡◌, IfOk, None, Some, length, map};
+ghost use Rattle.std.specs.Prelude.{◌≡◌, ◌⊎◌, IfErr, IfOk, None, Some, length, map};
 ghost use Rattle.std.specs.Option.{option_copied, option_map, option_or};
-ghost use Rattle.cli.specs.Files.{AreIndices, AreIndicesUnless, AreTextsOf, Files, IsFoundUnless, IsPreferredUnless};
+ghost use Rattle.cli.specs.Files.{AreIndices, AreIndicesUnless, AreKeptTextsOf, Files, IsFoundUnless, IsPreferredUnless, kept_in};
 ghost use Rattle.cli.specs.Inputs.{texts_with};
 ghost use Rattle.cli.specs.Stop.{stop_at_preferences, stop_in, stop_of, unread, unread_from};
 ghost use Rattle.cli_engine.specs.Answer.{HasItsIndices};
+ghost use Rattle.kept_index.specs.declared.error.KeepError.TheVariants as error;
 ghost use Rattle.cli_engine.specs.Texts.{sources_of};
 
 use crate::arguments::{Arguments, Options};
 use crate::host::{Host, ReadError};
 use cli_engine::{Fault, Place, read_sources};
 use index::Source;
+use kept_index::{KeepError, keep};
 use std::alloc::{AllocError, Global};
 
-/// The texts of the options that were read, with nothing in the place of the others.
+/// The texts of the options that were read, with nothing in the place of the others. Of the indices it is what is kept of
+/// them.
 #[derive(Drop)]
 pub(crate) struct Texts {
     pub(crate) status: Vec<u8>,
@@ -31,8 +34,9 @@ pub(crate) struct PlanTexts {
 }
 
 /// Reads the files of these options in the order in which their texts are judged: the status file, the sources, the
-/// index of each stanza of the sources, the preferences. It opens none behind the first that can't be read, and none
-/// behind sources that are refused: this is where reading stops. Memory alone can fail.
+/// index of each stanza of the sources, the preferences. It opens none behind the first that can't be read, none behind
+/// sources that are refused, and none behind an index of which nothing is kept: this is where reading stops. Memory alone
+/// can fail.
 pub(crate) fn read_texts<H: Host>(
     alloc: Global,
     host: &mut H,
@@ -46,7 +50,7 @@ pub(crate) fn read_texts<H: Host>(
     ensures sources { (at : Files) → H.files host.old ≡ Some at → IfOk result (λ texts.
         IsFoundUnless stopped_at.new (at options.now.sources.now) texts.sources.items) }
     ensures indices { (at : Files) → H.files host.old ≡ Some at → IfOk result (λ texts.
-        AreIndicesUnless stopped_at.new at texts.sources.items (map (λ text. text.items) texts.indices.items)) }
+        AreIndicesUnless stopped_at.new (kept_in at) texts.sources.items (map (λ text. text.items) texts.indices.items)) }
     ensures preferences { (at : Files) → H.files host.old ≡ Some at → IfOk result (λ texts. IsPreferredUnless stopped_at.new at
         (option_copied options.now.preferences) (option_map (λ text. text.items) texts.preferences)) }
     ensures stops { (at : Files) → H.files host.old ≡ Some at → IfOk result (λ _.
@@ -88,7 +92,7 @@ pub(crate) fn read_plan_texts<H: Host>(
 ) -> Result<PlanTexts, AllocError>
     ensures count { IfOk result (λ read.
         HasItsIndices (sources_of read.texts.sources.items) (map (λ text. text.items) read.texts.indices.items)) }
-    ensures found { (at : Files) → H.files host.old ≡ Some at → IfOk result (λ read. stopped_at.new ≡ None → AreTextsOf at
+    ensures found { (at : Files) → H.files host.old ≡ Some at → IfOk result (λ read. stopped_at.new ≡ None → AreKeptTextsOf at
         arguments.now (texts_with arguments.now.options read.texts read.request.items) read.plan.items) }
 {
     let texts = read_texts(alloc, host, stopped_at, &arguments.options)?;
@@ -142,7 +146,7 @@ fn stop(stopped_at: &mut Option<Place>, place: Place)
     *stopped_at = stopped_at.or(Some(place));
 }
 
-// The texts of the indices that the sources name, if these aren't refused.
+// What is kept of the indices that the sources name, if these aren't refused.
 fn read_indices<H: Host>(
     alloc: Global,
     host: &mut H,
@@ -151,9 +155,9 @@ fn read_indices<H: Host>(
 ) -> Result<Vec<Vec<u8>>, AllocError>
     ensures count { IfOk result (λ texts. HasItsIndices (sources_of sources.now) (map (λ text. text.items) texts.items)) }
     ensures texts { (at : Files) → H.files host.old ≡ Some at → IfOk result (λ texts.
-        AreIndicesUnless stopped_at.new at sources.now (map (λ text. text.items) texts.items)) }
+        AreIndicesUnless stopped_at.new (kept_in at) sources.now (map (λ text. text.items) texts.items)) }
     ensures stops { (at : Files) → H.files host.old ≡ Some at → IfOk result (λ _.
-        stopped_at.new ≡ option_or stopped_at.old (stop_in at (sources_of sources.now))) }
+        stopped_at.new ≡ option_or stopped_at.old (stop_in (kept_in at) (sources_of sources.now))) }
     ensures stays { stopped_at.new ≡ None → stopped_at.old ≡ None }
     ensures unchanged { H.files host.new ≡ H.files host.old }
 {
@@ -170,7 +174,7 @@ fn read_indices<H: Host>(
     }
 }
 
-// The text of each of these indices.
+// What is kept of each of these indices.
 fn read_each<H: Host>(
     alloc: Global,
     host: &mut H,
@@ -179,11 +183,96 @@ fn read_each<H: Host>(
 ) -> Result<Vec<Vec<u8>>, AllocError>
     ensures count { IfOk result (λ texts. length texts.items ≡ length named.now) }
     ensures texts { (at : Files) → H.files host.old ≡ Some at → IfOk result (λ texts. stopped_at.new ≡ None
-        → AreIndices at named.now (map (λ text. text.items) texts.items)) }
+        → AreIndices (kept_in at) named.now (map (λ text. text.items) texts.items)) }
     ensures stops { (at : Files) → H.files host.old ≡ Some at → IfOk result (λ _.
-        stopped_at.new ≡ option_or stopped_at.old (unread_from at 1 named.now)) }
+        stopped_at.new ≡ option_or stopped_at.old (unread_from (kept_in at) 1 named.now)) }
     ensures stays { stopped_at.new ≡ None → stopped_at.old ≡ None }
     ensures unchanged { H.files host.new ≡ H.files host.old }
+{
+    let mut texts = Vec::new(alloc);
+    for source in named {
+        let place = Place::Index(texts.len() + 1);
+        texts.push(keep_index(alloc, host, stopped_at, place, source.file())?)?;
+    }
+    Ok(texts)
+}
+
+// What is kept of the index at this place, or nothing where reading has stopped; it stops here where the file can't be
+// read, and where nothing is kept of it.
+fn keep_index<H: Host>(
+    alloc: Global,
+    host: &mut H,
+    stopped_at: &mut Option<Place>,
+    place: Place,
+    path: &[u8],
+) -> Result<Vec<u8>, AllocError>
+    ensures text { (at : Files) → H.files host.old ≡ Some at
+        → IfOk result (λ kept. IsFoundUnless stopped_at.new (kept_in at path.now) kept.items) }
+    ensures stops { (at : Files) → H.files host.old ≡ Some at → IfOk result (λ _.
+        stopped_at.new ≡ option_or stopped_at.old (unread place (kept_in at path.now))) }
+    ensures stays { stopped_at.new ≡ None → stopped_at.old ≡ None }
+    ensures unchanged { H.files host.new ≡ H.files host.old }
+{
+    if stopped_at.is_some() {
+        return Ok(Vec::new(alloc));
+    }
+    match keep_file(alloc, host, path) {
+        Ok(kept) => Ok(kept),
+        Err(KeepError::OutOfMemory) => Err(AllocError),
+        Err(_) => {
+            stop(stopped_at, place);
+            Ok(Vec::new(alloc))
+        }
+    }
+}
+
+// What is kept of the index at this path.
+fn keep_file<H: Host>(alloc: Global, host: &mut H, path: &[u8]) -> Result<Vec<u8>, KeepError>
+    ensures ok { (at : Files) → H.files host.old ≡ Some at → IfOk result (λ kept. kept_in at path.now ≡ Some kept.items) }
+    ensures err { (at : Files) → H.files host.old ≡ Some at
+        → IfErr result (λ e. (e ≡ error.OutOfMemory) ⊎ (kept_in at path.now ≡ None)) }
+    ensures unchanged { H.files host.new ≡ H.files host.old }
+{
+    match host.open(alloc, path) {
+        Ok(text) => {
+            let mut text = text;
+            keep(alloc, &mut text)
+        }
+        Err(ReadError::OutOfMemory) => Err(KeepError::OutOfMemory),
+        Err(ReadError::Unreadable) => Err(KeepError::Read),
+    }
+}
+
+/// The whole texts of the indices that the sources name, if these aren't refused. Memory alone can fail.
+pub(crate) fn read_whole_indices<H: Host>(
+    alloc: Global,
+    host: &mut H,
+    stopped_at: &mut Option<Place>,
+    sources: &[u8],
+) -> Result<Vec<Vec<u8>>, AllocError>
+    ensures count { IfOk result (λ texts. HasItsIndices (sources_of sources.now) (map (λ text. text.items) texts.items)) }
+{
+    match read_sources(alloc, sources) {
+        Ok(named) => {
+            let texts = read_whole_each(alloc, host, stopped_at, named.as_slice())?;
+            Ok(texts)
+        }
+        Err(Fault::OutOfMemory) => Err(AllocError),
+        Err(_) => {
+            stop(stopped_at, Place::Sources);
+            Ok(Vec::new(alloc))
+        }
+    }
+}
+
+// The whole text of each of these indices.
+fn read_whole_each<H: Host>(
+    alloc: Global,
+    host: &mut H,
+    stopped_at: &mut Option<Place>,
+    named: &[Source<'_>],
+) -> Result<Vec<Vec<u8>>, AllocError>
+    ensures count { IfOk result (λ texts. length texts.items ≡ length named.now) }
 {
     let mut texts = Vec::new(alloc);
     for source in named {

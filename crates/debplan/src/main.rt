@@ -1,12 +1,32 @@
 //! The program `debplan`: `cli::run` over the machine's own files, with its words and its streams.
 #![tactic(auto)]
 
-use cli::{Host, ReadError, refuse_for_memory, run};
+use cli::{Host, ReadError, ReadFailed, Source, refuse_for_memory, run};
 use std::alloc::{AllocError, Global};
 use std::env::{Env, FillError};
 use std::fs;
-use std::io::ErrorKind;
+use std::fs::File;
+use std::io::{ErrorKind, Read};
 use std::process::ExitCode;
+
+/// A file of the machine that was opened.
+#[derive(Drop)]
+struct Opened {
+    file: File,
+}
+
+impl Source for Opened {
+    fn read(&mut self, block: &mut [u8]) -> Result<usize, ReadFailed> {
+        for _ in 0..usize::MAX {
+            match self.file.read(block) {
+                Ok(count) => return Ok(count),
+                Err(error) if error.kind() == ErrorKind::Interrupted => {}
+                Err(_) => return Err(ReadFailed),
+            }
+        }
+        Err(ReadFailed)
+    }
+}
 
 /// The files of the machine.
 #[derive(Drop)]
@@ -15,12 +35,25 @@ struct Disk<'a> {
 }
 
 impl Host for Disk<'_> {
+    type Text = Opened;
+
     fn read(&mut self, _alloc: Global, path: &[u8]) -> Result<Vec<u8>, ReadError> {
         let Ok(path) = str::from_utf8(path) else {
             return Err(ReadError::Unreadable);
         };
         match fs::read(self.rt, path) {
             Ok(text) => Ok(text),
+            Err(error) if error.kind() == ErrorKind::OutOfMemory => Err(ReadError::OutOfMemory),
+            Err(_) => Err(ReadError::Unreadable),
+        }
+    }
+
+    fn open(&mut self, _alloc: Global, path: &[u8]) -> Result<Opened, ReadError> {
+        let Ok(path) = str::from_utf8(path) else {
+            return Err(ReadError::Unreadable);
+        };
+        match File::open(self.rt, path) {
+            Ok(file) => Ok(Opened { file }),
             Err(error) if error.kind() == ErrorKind::OutOfMemory => Err(ReadError::OutOfMemory),
             Err(_) => Err(ReadError::Unreadable),
         }

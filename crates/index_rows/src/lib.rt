@@ -1,9 +1,12 @@
-//! What an index and a sources text are read as, and who provides a name, row by row. This crate has tests alone, so that
-//! `index` isn't proved once more with each of them. Lines and offsets were counted in the row's text.
+//! What an index and a sources text are read as, what is kept of an index, and who provides a name, row by row. This crate
+//! has tests alone, so that `index` and `kept_index` aren't proved once more with each of them. Lines
+//! and offsets were counted in the row's text.
 #![tactic(auto)]
 
 #[cfg(test)]
 mod alone;
+#[cfg(test)]
+mod keeping;
 #[cfg(test)]
 mod packages;
 #[cfg(test)]

@@ -17,7 +17,9 @@ struct OneFile<'a> {
     text: &'a [u8],
 }
 
-impl Host for OneFile<'_> {
+impl<'a> Host for OneFile<'a> {
+    type Text = &'a [u8];
+
     ghost files = { λ host. Some (λ path. if bytes_eq path host.path.now then Some host.text.now else None) };
 
     fn read(&mut self, alloc: Global, path: &[u8]) -> Result<Vec<u8>, ReadError> {
@@ -28,6 +30,13 @@ impl Host for OneFile<'_> {
             Ok(text) => Ok(text),
             Err(_) => Err(ReadError::OutOfMemory),
         }
+    }
+
+    fn open(&mut self, _alloc: Global, path: &[u8]) -> Result<&'a [u8], ReadError> {
+        if path != self.path {
+            return Err(ReadError::Unreadable);
+        }
+        Ok(self.text)
     }
 }
 

@@ -1,5 +1,5 @@
 //! A host in memory, and runs of the program over it.
-use cli::{Host, ReadError, run};
+use cli::{Host, ReadError, ReadFailed, Source, run};
 use rows::unescaped;
 use std::alloc::{AllocError, Global};
 use std::test::Fail;
@@ -43,7 +43,31 @@ impl<'a> Memory<'a> {
     }
 }
 
+/// The text of a file that was opened, of which no reading gives more than seven bytes.
+#[derive(Drop)]
+pub(crate) struct Opened {
+    text: Vec<u8>,
+    taken: usize,
+}
+
+impl Source for Opened {
+    fn read(&mut self, block: &mut [u8]) -> Result<usize, ReadFailed> {
+        let Some(left) = self.text.as_slice().get(self.taken..) else {
+            return Ok(0);
+        };
+        let count = left.len().min(block.len()).min(7);
+        block
+            .split_at_mut(count)
+            .0
+            .copy_from_slice(left.split_at(count).0);
+        self.taken += count;
+        Ok(count)
+    }
+}
+
 impl Host for Memory<'_> {
+    type Text = Opened;
+
     fn read(&mut self, alloc: Global, path: &[u8]) -> Result<Vec<u8>, ReadError> {
         if self.note(path).is_err() {
             return Err(ReadError::OutOfMemory);
@@ -55,6 +79,11 @@ impl Host for Memory<'_> {
             }
         }
         Err(ReadError::Unreadable)
+    }
+
+    fn open(&mut self, alloc: Global, path: &[u8]) -> Result<Opened, ReadError> {
+        let text = self.read(alloc, path)?;
+        Ok(Opened { text, taken: 0 })
     }
 }
 

@@ -16,29 +16,30 @@ plan→plan 1$unpack a 1$configure a$
 ";
 
 // The file that is missing, the one that is refused, the files that are opened and the answer. A refusal of an earlier text
-// wins over a file that can't be read, and that over a refusal of a later text.
+// wins over a file that can't be read, and that over a refusal of a later text. A refusal of an index is told by the whole
+// texts of the indices, which are opened once more for it.
 const RUNS: &str = "\
 →→status sources index1 index2 request plan →0 yes$|
 status→→status →5 |debplan: status: E5 Read$
 sources→→status sources →5 |debplan: sources: E5 Read$
-index1→→status sources index1 →5 |debplan: index 1: E5 Read$
-index2→→status sources index1 index2 →5 |debplan: index 2: E5 Read$
+index1→→status sources index1 index1 →5 |debplan: index 1: E5 Read$
+index2→→status sources index1 index2 index1 index2 →5 |debplan: index 2: E5 Read$
 request→→status sources index1 index2 request →5 |debplan: request: E5 Read$
 plan→→status sources index1 index2 request plan →5 |debplan: plan: E5 Read$
 sources→status→status sources →3 |debplan: status: E2 BadLine 1$
 index1→sources→status sources →3 |debplan: sources: E2 BadLine 1$
-index2→index1→status sources index1 index2 →3 |debplan: index 1: E2 BadLine 1$
-plan→index2→status sources index1 index2 request plan →3 |debplan: index 2: E2 BadLine 1$
+index2→index1→status sources index1 index1 index2 →3 |debplan: index 1: E2 BadLine 1$
+plan→index2→status sources index1 index2 index1 index2 →3 |debplan: index 2: E2 BadLine 1$
 plan→request→status sources index1 index2 request plan →3 |debplan: request: E16 BadRequest 1$
-index1→index2→status sources index1 →5 |debplan: index 1: E5 Read$
+index1→index2→status sources index1 index1 →5 |debplan: index 1: E5 Read$
 ";
 
 // The same with preferences.
 const PREFERRED_RUNS: &str = "\
 →→status sources index1 index2 preferences request plan →0 yes$|
 preferences→→status sources index1 index2 preferences →5 |debplan: preferences: E5 Read$
-index2→preferences→status sources index1 index2 →5 |debplan: index 2: E5 Read$
-preferences→index2→status sources index1 index2 preferences →3 |debplan: index 2: E2 BadLine 1$
+index2→preferences→status sources index1 index2 index1 index2 →5 |debplan: index 2: E5 Read$
+preferences→index2→status sources index1 index2 index1 index2 →3 |debplan: index 2: E2 BadLine 1$
 preferences→request→status sources index1 index2 preferences →5 |debplan: preferences: E5 Read$
 request→preferences→status sources index1 index2 preferences request →3 |debplan: preferences: E2 BadLine 1$
 plan→preferences→status sources index1 index2 preferences request plan →3 |debplan: preferences: E2 BadLine 1$
@@ -50,12 +51,12 @@ const CANDIDATE_RUNS: &str = "\
 plan→request→status sources index1 index2 preferences →0 a 1 5$|
 status→→status →5 |debplan: status: E5 Read$
 sources→→status sources →5 |debplan: sources: E5 Read$
-index2→→status sources index1 index2 →5 |debplan: index 2: E5 Read$
+index2→→status sources index1 index2 index1 index2 →5 |debplan: index 2: E5 Read$
 preferences→→status sources index1 index2 preferences →5 |debplan: preferences: E5 Read$
 index1→sources→status sources →3 |debplan: sources: E2 BadLine 1$
 preferences→status→status sources index1 index2 preferences →3 |debplan: status: E2 BadLine 1$
-preferences→index2→status sources index1 index2 preferences →3 |debplan: index 2: E2 BadLine 1$
-index2→preferences→status sources index1 index2 →5 |debplan: index 2: E5 Read$
+preferences→index2→status sources index1 index2 index1 index2 →3 |debplan: index 2: E2 BadLine 1$
+index2→preferences→status sources index1 index2 index1 index2 →5 |debplan: index 2: E5 Read$
 ";
 
 // The files without the missing one, and with the refused one.
@@ -91,7 +92,7 @@ fn holds(alloc: Global, command: &str, rest_of_line: &str, row: &str) -> Result<
 }
 
 #[test]
-fn each_file_is_opened_once_at_its_turn_up_to_the_first_that_cannot_be_read(
+fn files_are_opened_at_their_turn_and_indices_once_more_where_one_is_refused(
     rt: HostRuntime,
 ) -> Result<(), Fail> {
     for row in RUNS.lines() {

@@ -101,7 +101,13 @@ fn a_refusal_that_cannot_be_written_keeps_its_status(rt: HostRuntime) -> Result<
 struct Exhausted;
 
 impl Host for Exhausted {
+    type Text = &'static [u8];
+
     fn read(&mut self, _alloc: Global, _path: &[u8]) -> Result<Vec<u8>, ReadError> {
+        Err(ReadError::OutOfMemory)
+    }
+
+    fn open(&mut self, _alloc: Global, _path: &[u8]) -> Result<&'static [u8], ReadError> {
         Err(ReadError::OutOfMemory)
     }
 }

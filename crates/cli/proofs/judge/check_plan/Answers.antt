@@ -1,30 +1,22 @@
 -- A verdict is answered of the texts that the files have.
-use Rattle.std.proofs.Common.{◌≡◌, ℕ, IfOk, List, Option, None, Result, Ok, Err, subst, rules}
-use Rattle.cli.specs.Files.{AreTextsOf}
-use Rattle.cli.specs.Inputs.{texts_with}
+use Rattle.std.proofs.lemmas.Result.{IfOk-at_ok}
 use Rattle.cli.proofs.judge.check_plan.Goals as goal
+use Rattle.cli.specs.Inputs.{texts_with}
 use Rattle.cli_engine.specs.Answer.{IsAnswer}
-use Rattle.cli_engine.specs.Texts.{Texts as TextsOf}
+use Rattle.kept_index.proofs.EnoughLemmas.{is-enough}
+use Rattle.kept_texts.proofs.AnswerLemmas.{verdict_kept}
+use Rattle.kept_texts.specs.Texts.{with_indices}
 
--- what holds of a value where reading hasn't stopped holds of the answer
-answered : {A E S : Type 0} (P Q : A → Type 0) (R : Type 0) (stopped : Option S) (judged result : Result A E)
-    → IfOk result (λ _. stopped ≡ None) → IfOk result (λ value. judged ≡ Ok value)
-    → IfOk judged Q → (stopped ≡ None → R) → ((value : A) → R → Q value → P value) → IfOk result P
-answered P Q R stopped judged (Ok value) none same holds found joined =
-    joined value (found none) (subst (λ r. IfOk r Q) same holds)
-answered P Q R stopped judged (Err refused) none same holds found joined = search rules
-
-pub returns : goal.returns
-returns g c =
-    let texts = texts_with c.args.arguments.now.options c.in_ok-texts.texts.texts c.in_ok-texts.texts.request.items in
-    let plan = c.in_ok-texts.texts.plan.items in
-    record {
-      answer = λ at known. answered
-          (λ verdict. (x : TextsOf) × (x' : List ℕ) × AreTextsOf at c.args.arguments.now x x' × IsAnswer x x' verdict)
-          (λ verdict. IsAnswer texts plan verdict)
-          (AreTextsOf at c.args.arguments.now texts plan)
-          c.read_plan_texts.new.stopped_at c.judged.result c.unless_unread.result
-          c.unless_unread.ensures.read c.unless_unread.ensures.same c.judged.ensures
-          (c.in_ok-texts.ensures.found at known)
-          (λ verdict are answer. (texts, plan, are, answer));
-    }
+pub returns-in-Ok : goal.returns-in-Ok
+returns-in-Ok g c = record {
+  answer = λ at known.
+      let texts = texts_with c.args.arguments.now.options c.in_ok-read.read.texts c.in_ok-read.read.request.items in
+      let plan = c.in_ok-read.read.plan.items in
+      let read = c.in_ok-read.ensures.found at known c.in-Ok.ensures.read in
+      let holds = IfOk-at_ok (λ verdict. IsAnswer texts plan verdict) c.in-Ok.ensures.same c.judged.ensures in (
+        with_indices read.indices texts,
+        plan,
+        read.whole,
+        verdict_kept is-enough texts read.indices plan c.in-Ok.verdict read.kept holds,
+      );
+}

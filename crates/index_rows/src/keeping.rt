@@ -1,0 +1,89 @@
+//! What is kept of a text, row by row: the text and what is kept of it, with `$` for a newline. Where the text is refused,
+//! `-` stands.
+ghost use Rattle.std.specs.Prelude.{Some};
+
+use kept_index::{KeepError, ReadFailed, Source, keep};
+use rows::unescaped;
+use std::alloc::Global;
+use std::test::Fail;
+
+/// Bytes of which no reading gives more than so many.
+#[derive(Drop)]
+struct Few<'a> {
+    bytes: &'a [u8],
+    most: usize,
+}
+
+impl Source for Few<'_> {
+    ghost left = { λ few. Some few.bytes.now };
+
+    fn read(&mut self, block: &mut [u8]) -> Result<usize, ReadFailed> {
+        let room = block.len().min(self.most.max(1));
+        self.bytes.read(block.split_at_mut(room).0)
+    }
+}
+
+/// A device that fails.
+#[derive(Drop)]
+struct Broken;
+
+impl Source for Broken {
+    fn read(&mut self, _block: &mut [u8]) -> Result<usize, ReadFailed> {
+        Err(ReadFailed)
+    }
+}
+
+const ROWS: &str = "\
+→
+$$$→
+Package: a$→Package: a$$
+Package: a$Maintainer: b$Version: 1$→Package: a$Version: 1$$
+Package: a$Depends: b,$ c$Description: d$ e$→Package: a$Depends: b,$ c$$
+package:a$PROVIDES:   c $→package: a$PROVIDES: c$$
+Package: a$$Package: b$→Package: a$$Package: b$$
+$Package: a$$$ $Package: b$Breaks: c→Package: a$$Package: b$Breaks: c$$
+Package: a$Depends:$ b$→Package: a$Depends:$ b$$
+Package: a$Essential: yes$Protected: no$Conflicts: c$Pre-Depends: d$Priority: e$→Package: a$Essential: yes$Protected: no$Conflicts: c$Pre-Depends: d$$
+Architecture: all$→Architecture: all$$
+Maintainer: b$→-
+Package: a$$Maintainer: b$→-
+Package: a$b$→-
+Package: a$$Package: b$Package: c$→-
+Package: a$Maintainer: b$maintainer: c$→-
+ a$→-";
+
+// Whether this is kept of the text, where readings give so many bytes at most.
+fn is_kept(alloc: Global, text: &[u8], most: usize, wanted: &str) -> Result<bool, Fail> {
+    match keep(alloc, &mut Few { bytes: text, most }) {
+        Ok(kept) => Ok(kept.as_slice() == unescaped(alloc, wanted)?.as_slice()),
+        Err(error) => Ok(error == KeepError::Refused && wanted == "-"),
+    }
+}
+
+// Whether the row holds, however many bytes a reading gives.
+fn holds(alloc: Global, row: &str) -> Result<bool, Fail> {
+    let Some((text, wanted)) = row.split_once('→') else {
+        return Ok(false);
+    };
+    let text = unescaped(alloc, text)?;
+    for most in 1..9 {
+        if !is_kept(alloc, text.as_slice(), most, wanted)? {
+            return Ok(false);
+        }
+    }
+    is_kept(alloc, text.as_slice(), usize::MAX, wanted)
+}
+
+#[test]
+fn of_each_stanza_the_fields_of_its_package_are_kept(rt: HostRuntime) -> Result<(), Fail> {
+    for row in ROWS.lines() {
+        assert!(rt; holds(rt.alloc(), row)?, "{row}");
+    }
+    Ok(())
+}
+
+#[test]
+fn a_device_that_fails_is_no_refusal(rt: HostRuntime) -> Result<(), Fail> {
+    assert!(rt; keep(rt.alloc(), &mut Broken).err() == Some(KeepError::Read));
+    Ok(())
+}

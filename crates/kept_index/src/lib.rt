@@ -1,0 +1,13 @@
+//! What is kept of an index that is read as a stream: of each stanza the fields that its package is read from.
+//! The definitions that the contracts cite stand in `specs/`, `Kept.antt` first.
+#![tactic(auto)]
+
+mod error;
+pub mod laws;
+mod part;
+mod source;
+mod stream;
+
+pub use error::KeepError;
+pub use source::{ReadFailed, Source};
+pub use stream::keep;

@@ -1,0 +1,4 @@
+pub mod MappedLemmas
+pub mod CandidateLemmas
+pub mod UniverseLemmas
+pub mod VerdictLemmas
