@@ -11,6 +11,10 @@ pub fn measure(rt: &HostRuntime, text: &[u8]) -> Result<()> {
     let release = no_keys(rt.alloc())?;
     let start = Instant::now(rt)?;
     let index = Index::read(rt.alloc(), text, release, b"amd64", 0)?;
+    print_counts(rt, &index, start)
+}
+
+fn print_counts(rt: &HostRuntime, index: &Index<'_>, start: Instant) -> Result<()> {
     let time = start.elapsed(rt)?;
     let (packages, names) = (index.packages().len(), index.names(rt.alloc())?.len());
     let skipped = index.skipped();

@@ -10,9 +10,20 @@ use std::time::Instant;
 pub fn measure(rt: &HostRuntime, text: &[u8]) -> Result<()> {
     let start = Instant::now(rt)?;
     let database = database_of(rt, text)?;
+    measure_read(rt, &database, text, start)
+}
+
+// Measures what was read from the text since the start.
+fn measure_read(
+    rt: &HostRuntime,
+    database: &Database<'_>,
+    text: &[u8],
+    start: Instant,
+) -> Result<()> {
     print_time(rt, "status read", start.elapsed(rt)?)?;
-    let written = measure_writing(rt, &database)?;
-    print_counts(rt, &database, text, written.as_slice())
+    let written = measure_writing(rt, database)?;
+    let again = database_of(rt, written.as_slice())?;
+    print_counts(rt, database, &again, text, written.as_slice())
 }
 
 // The text of the database, whose time is printed.
@@ -26,13 +37,13 @@ fn measure_writing(rt: &HostRuntime, database: &Database<'_>) -> Result<Vec<u8>>
 fn print_counts(
     rt: &HostRuntime,
     database: &Database<'_>,
+    again: &Database<'_>,
     text: &[u8],
     written: &[u8],
 ) -> Result<()> {
-    let again = database_of(rt, written)?;
     let records = database.names().len();
     let is_same = written == text;
-    let is_stable = is_read_again(rt, database, &again, written)?;
+    let is_stable = is_read_again(rt, database, again, written)?;
     println!(rt; "records {records} same {is_same} stable {is_stable}")?;
     Ok(())
 }

@@ -17,12 +17,18 @@ pub fn measure(rt: &HostRuntime, path: &str) -> Result<()> {
     let release = no_keys(rt.alloc())?;
     let kept = kept_of(rt, path)?;
     let indices = [Index::read(rt.alloc(), kept.as_slice(), release, b"amd64", 0)?];
+    measure_building(rt, &indices)
+}
+
+fn measure_building(rt: &HostRuntime, indices: &[Index<'_>]) -> Result<()> {
     let prefs = Prefs::without_records(rt.alloc(), None)?;
-    let goals = Vec::new(rt.alloc());
     let start = Instant::now(rt)?;
-    let universe = build(rt.alloc(), &[], &indices, &prefs, goals)?;
+    let universe = build(rt.alloc(), &[], indices, &prefs, Vec::new(rt.alloc()))?;
+    print_pairs(rt, universe.pairs().len(), start)
+}
+
+fn print_pairs(rt: &HostRuntime, pairs: usize, start: Instant) -> Result<()> {
     let time = start.elapsed(rt)?;
-    let pairs = universe.pairs().len();
     println!(rt; "pairs {pairs}")?;
     print_time(rt, "universe built", time)?;
     Ok(())

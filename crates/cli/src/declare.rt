@@ -17,50 +17,49 @@ pub(crate) fn program<'a>(alloc: Global) -> Result<Command<'a>, AllocError> {
 pub(crate) const RELATION_WORDS: [&str; 6] = ["lt", "le", "eq", "ne", "ge", "gt"];
 
 fn compare<'a>(alloc: Global) -> Result<Command<'a>, AllocError> {
-    let relation = word(alloc, "relation", "REL")
-        .help("How V is to stand to W")
-        .value_parser(RELATION_WORDS.as_slice());
     Command::new(alloc, "compare")
         .about("Says whether a version stands so to another in the order of versions")
         .arg(word(alloc, "version", "V").help("A version"))?
-        .arg(relation)?
+        .arg(
+            word(alloc, "relation", "REL")
+                .help("How V is to stand to W")
+                .value_parser(RELATION_WORDS.as_slice()),
+        )?
         .arg(word(alloc, "other", "W").help("The version that it is compared with"))
 }
 
 fn candidate<'a>(alloc: Global) -> Result<Command<'a>, AllocError> {
-    let name = word(alloc, "name", "NAME").help("The name of a package");
     let command = Command::new(alloc, "candidate").about(
         "Says which version of a package is to be chosen, and with which priority",
     );
-    with_options(alloc, command)?.arg(name)
+    with_options(alloc, command)?.arg(word(alloc, "name", "NAME").help("The name of a package"))
 }
 
 fn check_plan<'a>(alloc: Global) -> Result<Command<'a>, AllocError> {
-    let request = option(alloc, "request", "FILE").help("The request: a goal on each line");
-    let plan = word(alloc, "plan", "PLAN").help("The plan: a step on each line");
     let command = Command::new(alloc, "check-plan").about(
         "Says whether every step of a plan is allowed when its turn comes, and its end is good",
     );
-    with_options(alloc, command)?.arg(request)?.arg(plan)
+    with_options(alloc, command)?
+        .arg(option(alloc, "request", "FILE").help("The request: a goal on each line"))?
+        .arg(word(alloc, "plan", "PLAN").help("The plan: a step on each line"))
 }
 
 // The command with the options that say which packages there are, and what is preferred among them.
 fn with_options<'a>(alloc: Global, command: Command<'a>) -> Result<Command<'a>, AllocError> {
-    let arch = option(alloc, "arch", "ARCH").help("The architecture that packages are for");
-    let status = option(alloc, "status", "FILE").help("The status file of dpkg");
-    let sources = option(alloc, "sources", "FILE").help("The sources: a stanza for each index");
-    let preferences = option(alloc, "preferences", "FILE")
-        .help("The preferences: a stanza for each record")
-        .required(false);
-    let target = option(alloc, "target", "REL")
-        .help("The target release")
-        .required(false);
     command
-        .arg(arch)?
-        .arg(status)?
-        .arg(sources)?
-        .arg(preferences)?
-        .arg(target)
+        .arg(option(alloc, "arch", "ARCH").help("The architecture that packages are for"))?
+        .arg(option(alloc, "status", "FILE").help("The status file of dpkg"))?
+        .arg(option(alloc, "sources", "FILE").help("The sources: a stanza for each index"))?
+        .arg(
+            option(alloc, "preferences", "FILE")
+                .help("The preferences: a stanza for each record")
+                .required(false),
+        )?
+        .arg(
+            option(alloc, "target", "REL")
+                .help("The target release")
+                .required(false),
+        )
 }
 
 fn option<'a>(alloc: Global, name: &'a str, value: &'a str) -> Arg<'a> {

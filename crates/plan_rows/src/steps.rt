@@ -80,8 +80,27 @@ fn unpack_rule(db: &Records<'_, '_>, listed: &Listed<'_>) -> &'static str {
 // The rule that unpacking a package fails beside one in this state.
 fn rule_beside(alloc: Global, stands: &str, state: &str, name: &str) -> Result<&'static str, Fail> {
     let stands = listed(alloc, text_of(stands))?;
-    let db = alone(alloc, record_of(&stands, state))?;
-    Ok(unpack_rule(&db, &listed(alloc, text_of(name))?))
+    rule_beside_one(alloc, &stands, state, name)
+}
+
+fn rule_beside_one(
+    alloc: Global,
+    stands: &Listed<'_>,
+    state: &str,
+    name: &str,
+) -> Result<&'static str, Fail> {
+    let listed = listed(alloc, text_of(name))?;
+    unpack_rule_beside(alloc, stands, state, &listed)
+}
+
+fn unpack_rule_beside(
+    alloc: Global,
+    stands: &Listed<'_>,
+    state: &str,
+    listed: &Listed<'_>,
+) -> Result<&'static str, Fail> {
+    let db = alone(alloc, record_of(stands, state))?;
+    Ok(unpack_rule(&db, listed))
 }
 
 fn unpacks_so(alloc: Global, row: &str) -> Result<bool, Fail> {
@@ -114,10 +133,18 @@ fn a_conflict_counts_either_way(rt: HostRuntime) -> Result<(), Fail> {
 
 // The rule that unpacking the package fails where nothing is present, listed or not.
 fn rule_alone(alloc: Global, name: &str, is_listed: bool) -> Result<&'static str, Fail> {
-    let db = Records::new(alloc, Vec::new(alloc))?;
     let listed = listed(alloc, text_of(name))?;
+    unpack_rule_alone(alloc, &listed, is_listed)
+}
+
+fn unpack_rule_alone(
+    alloc: Global,
+    listed: &Listed<'_>,
+    is_listed: bool,
+) -> Result<&'static str, Fail> {
+    let db = Records::new(alloc, Vec::new(alloc))?;
     if is_listed {
-        return Ok(unpack_rule(&db, &listed));
+        return Ok(unpack_rule(&db, listed));
     }
     let pkg = listed.pkg();
     Ok(word_of(unpack_failing(&db, None, pkg.name(), pkg.version())))
@@ -176,8 +203,28 @@ fn rule_of_both(
     name: &str,
 ) -> Result<&'static str, Fail> {
     let x = listed(alloc, text_of("x"))?;
+    rule_beside_y(alloc, &x, state, action, name)
+}
+
+fn rule_beside_y(
+    alloc: Global,
+    x: &Listed<'_>,
+    state: &str,
+    action: &str,
+    name: &str,
+) -> Result<&'static str, Fail> {
     let y = listed(alloc, text_of("y"))?;
-    let db = database(alloc, record_of(&x, state), installed(&y))?;
+    rule_in_both(alloc, record_of(x, state), installed(&y), action, name)
+}
+
+fn rule_in_both(
+    alloc: Global,
+    x: PackageRecord<'_, '_>,
+    y: PackageRecord<'_, '_>,
+    action: &str,
+    name: &str,
+) -> Result<&'static str, Fail> {
+    let db = database(alloc, x, y)?;
     Ok(rule_in(&db, action, name))
 }
 

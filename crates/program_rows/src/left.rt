@@ -34,6 +34,21 @@ fn take<'a>(db: &mut Database<'a>, index: &'a [u8], step: &Step) -> Result<(), F
     }
 }
 
+// Takes so many steps of a plan.
+fn take_first<'a>(
+    alloc: Global,
+    db: &mut Database<'a>,
+    index: &'a [u8],
+    plan: &[u8],
+    count: usize,
+) -> Result<(), Fail> {
+    let steps = read_plan(alloc, plan)?;
+    for step in steps.iter().take(count) {
+        take(db, index, step)?;
+    }
+    Ok(())
+}
+
 // The words of dpkg(1), "Package states".
 fn word_of(state: State) -> &'static str {
     match state {
@@ -94,11 +109,21 @@ pub(crate) fn is_left_by(
     left: &str,
 ) -> Result<bool, Fail> {
     let (status, index, plan) = texts;
-    let (status, index) = (unescaped(alloc, status)?, unescaped(alloc, index)?);
-    let steps = read_plan(alloc, unescaped(alloc, plan)?.as_slice())?;
-    let mut db = Database::read(alloc, status.as_slice(), ARCH)?;
-    for step in steps.iter().take(count) {
-        take(&mut db, index.as_slice(), step)?;
-    }
+    let status = unescaped(alloc, status)?;
+    let index = unescaped(alloc, index)?;
+    let plan = unescaped(alloc, plan)?;
+    let texts = (status.as_slice(), index.as_slice(), plan.as_slice());
+    is_left_by_texts(alloc, texts, count, left)
+}
+
+fn is_left_by_texts(
+    alloc: Global,
+    texts: (&[u8], &[u8], &[u8]),
+    count: usize,
+    left: &str,
+) -> Result<bool, Fail> {
+    let (status, index, plan) = texts;
+    let mut db = Database::read(alloc, status, ARCH)?;
+    take_first(alloc, &mut db, index, plan, count)?;
     is_left(alloc, &db, left)
 }

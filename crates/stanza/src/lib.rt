@@ -11,8 +11,6 @@ pub mod laws;
 mod lines;
 mod names;
 mod seen;
-#[cfg(test)]
-mod tests;
 mod values;
 mod view;
 mod walk;

@@ -100,12 +100,20 @@ fn taken<'a>(
     }
 }
 
-// The text after the steps, or the first refusal.
 fn text_after(alloc: Global, status: &[u8], steps: &[Vec<u8>]) -> Result<Vec<u8>, Fail> {
     let mut db = Database::read(alloc, status, ARCH)?;
+    text_left(alloc, &mut db, steps)
+}
+
+// The text after the steps, or the first refusal.
+fn text_left<'a>(
+    alloc: Global,
+    db: &mut Database<'a>,
+    steps: &'a [Vec<u8>],
+) -> Result<Vec<u8>, Fail> {
     for pair in steps.chunks(2) {
         if let [line, stanza] = pair {
-            let refused = taken(alloc, &mut db, line.as_slice(), stanza.as_slice())?;
+            let refused = taken(alloc, db, line.as_slice(), stanza.as_slice())?;
             if !refused.is_empty() {
                 return Ok(refused.as_bytes().to_vec(alloc)?);
             }
@@ -162,11 +170,20 @@ fn has_text(alloc: Global, db: &Database<'_>, text: &[u8]) -> Result<bool, Fail>
     Ok(db.text(alloc)?.as_slice() == text)
 }
 
-// Whether the text, read again, is its own text, as is that of its copy.
+fn has_copied_text(alloc: Global, db: &Database<'_>, text: &[u8]) -> Result<bool, Fail> {
+    let copy = db.try_copy(alloc)?;
+    has_text(alloc, &copy, text)
+}
+
+// Whether the text is the database's, as is that of its copy.
+fn is_text(alloc: Global, db: &Database<'_>, text: &[u8]) -> Result<bool, Fail> {
+    Ok(has_text(alloc, db, text)? && has_copied_text(alloc, db, text)?)
+}
+
+// Whether the text, read again, is its own text.
 fn is_read_again(alloc: Global, text: &[u8]) -> Result<bool, Fail> {
     let db = Database::read(alloc, text, ARCH)?;
-    let copy = db.try_copy(alloc)?;
-    Ok(has_text(alloc, &db, text)? && has_text(alloc, &copy, text)?)
+    is_text(alloc, &db, text)
 }
 
 // Whether the text that the steps of a row leave, if they are taken, is read again.
@@ -220,8 +237,9 @@ fn a_record_is_found_by_its_name(rt: HostRuntime) -> Result<(), Fail> {
     Ok(())
 }
 
-// The name that a step is refused for, if it is refused for one.
-fn refused_name(alloc: Global, db: &mut Database<'_>, step: &Step) -> Result<Vec<u8>, Fail> {
+// The name that a step on no records is refused for, if it is refused for one.
+fn refused_name(alloc: Global, step: &Step) -> Result<Vec<u8>, Fail> {
+    let mut db = Database::read(alloc, b"", ARCH)?;
     match db.apply(step, None) {
         Err(ApplyError::NotApplicable(name)) => Ok(name.as_bytes().to_vec(alloc)?),
         _ => Ok(Vec::new(alloc)),
@@ -230,10 +248,9 @@ fn refused_name(alloc: Global, db: &mut Database<'_>, step: &Step) -> Result<Vec
 
 #[test]
 fn a_refused_name_is_lent(rt: HostRuntime) -> Result<(), Fail> {
-    let mut db = Database::read(rt.alloc(), b"", ARCH)?;
     match step_of(rt.alloc(), "remove a")? {
         Some(step) => {
-            assert!(rt; refused_name(rt.alloc(), &mut db, &step)?.as_slice() == b"a".as_slice())
+            assert!(rt; refused_name(rt.alloc(), &step)?.as_slice() == b"a".as_slice())
         }
         None => assert!(rt; false),
     }

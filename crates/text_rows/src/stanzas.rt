@@ -1,7 +1,6 @@
-//! Worked texts, after Debian Policy 5.1 and by hand: what the clauses do not say.
-mod collect;
-
-use crate::{StanzaError, Stanzas};
+//! Control texts, each with its stanzas and its fault, after Debian Policy 5.1 and by hand.
+use rows::unescaped;
+use stanza::Stanzas;
 use std::alloc::Global;
 use std::process::Abort;
 use std::str;
@@ -34,15 +33,6 @@ fn shown(alloc: Global, text: &[u8], commented: bool) -> Result<String, Fail> {
     Ok(shown)
 }
 
-// The bytes of a row's text, in which `$` stands for a newline.
-fn unescaped(alloc: Global, text: &str) -> Result<Vec<u8>, Fail> {
-    let mut bytes = Vec::new(alloc);
-    for byte in text.as_bytes() {
-        bytes.push(if *byte == b'$' { b'\n' } else { *byte })?;
-    }
-    Ok(bytes)
-}
-
 // The text before the arrow is shown as is said behind it.
 fn is_shown(alloc: Global, commented: bool, row: &str) -> Result<bool, Fail> {
     let Some((text, wanted)) = row.split_once('→') else {
@@ -70,7 +60,6 @@ fn the_example_of_the_readme(rt: HostRuntime) -> Result<(), Fail> {
     Ok(())
 }
 
-// `$` stands for a newline.
 const STANZAS: &str = "\
 →
 $ $\t\t$→

@@ -3,7 +3,7 @@ ghost use Rattle.std.specs.Prelude.{◌≡◌, map, IfOk, Ok, Err, false};
 ghost use Rattle.stanza.specs.Stanza.{items_of};
 ghost use Rattle.stanza.specs.Collect.{values_in};
 
-use crate::{StanzaError, Stanzas};
+use stanza::{StanzaError, Stanzas};
 use std::alloc::{AllocError, AllocFailed, Global};
 use std::test::Fail;
 

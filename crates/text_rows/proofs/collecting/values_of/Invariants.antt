@@ -2,7 +2,7 @@ use Rattle.std.proofs.Common.{◌≡◌, ℕ, false, List, map, Bor}
 use Rattle.stanza.specs.Stanza.{items_of}
 use Rattle.stanza.specs.Collect.{values_in}
 use Rattle.stanza.proofs.CollectLemmas.{with_front}
-use Rattle.stanza.proofs.tests.collect.values_of.Given as goal
+use Rattle.text_rows.proofs.collecting.values_of.Given as goal
 
 -- the values so far, before those of what is left, are the text's
 abbrev pub invariant-loop-item : goal.invariant-loop-item
