@@ -8,7 +8,7 @@ use std::alloc::{AllocError, Global};
 
 /// Where packages come from, and what is preferred among them: the architecture that packages are for, the paths of the
 /// files, and the target release.
-#[derive(Clone, Copy, Debug)]
+#[derive(Clone, Copy)]
 pub struct Options<'a> {
     /// The architecture.
     pub arch: &'a str,
@@ -23,7 +23,7 @@ pub struct Options<'a> {
 }
 
 /// What a plan is to be judged by.
-#[derive(Clone, Copy, Debug)]
+#[derive(Clone, Copy)]
 pub struct Arguments<'a> {
     /// Where packages come from.
     pub options: Options<'a>,
@@ -34,7 +34,7 @@ pub struct Arguments<'a> {
 }
 
 /// Of which name the candidate is asked for.
-#[derive(Clone, Copy, Debug)]
+#[derive(Clone, Copy)]
 pub struct Query<'a> {
     /// Where packages come from.
     pub options: Options<'a>,
@@ -43,7 +43,7 @@ pub struct Query<'a> {
 }
 
 /// What two versions are to be compared as.
-#[derive(Clone, Copy, Debug)]
+#[derive(Clone, Copy)]
 pub(crate) struct Comparison<'a> {
     /// The version.
     pub(crate) version: &'a str,
@@ -54,7 +54,7 @@ pub(crate) struct Comparison<'a> {
 }
 
 /// What a command line asks for.
-#[derive(Clone, Copy, Debug)]
+#[derive(Clone, Copy)]
 pub(crate) enum Call<'a> {
     /// To compare two versions.
     Compare(Comparison<'a>),

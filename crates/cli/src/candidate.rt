@@ -7,7 +7,7 @@ use std::alloc::{AllocError, Global};
 use std::marker::Model;
 
 /// The candidate of a name: a version, and its priority (apt_preferences(5)). It owns its texts.
-#[derive(Debug, Drop)]
+#[derive(Drop)]
 pub struct Candidate {
     name: Text,
     version: Text,

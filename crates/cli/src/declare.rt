@@ -5,12 +5,19 @@ use std::alloc::{AllocError, Global};
 
 /// The command line of the program. Memory alone can fail.
 pub(crate) fn program<'a>(alloc: Global) -> Result<Command<'a>, AllocError> {
-    Command::new(alloc, "debplan")
+    let program = Command::new(alloc, "debplan")
         .about("Compares versions, names candidates and judges plans of dpkg actions")
-        .subcommand_required(true)
-        .subcommand(compare(alloc)?)?
-        .subcommand(candidate(alloc)?)?
-        .subcommand(check_plan(alloc)?)
+        .subcommand_required(true);
+    let program = with(program, compare(alloc))?;
+    let program = with(program, candidate(alloc))?;
+    with(program, check_plan(alloc))
+}
+
+fn with<'a>(
+    program: Command<'a>,
+    subcommand: Result<Command<'a>, AllocError>,
+) -> Result<Command<'a>, AllocError> {
+    program.subcommand(subcommand?)
 }
 
 /// The words for the relations in which two versions may be asked to stand (deb-version(7)).

@@ -8,7 +8,7 @@ use cli_engine::{Fault, Refusal};
 use rules::Verdict;
 
 /// How the program ends.
-#[derive(Clone, Copy, Debug, PartialEq, Eq)]
+#[derive(Clone, Copy, PartialEq, Eq)]
 pub enum Exit {
     /// The answer is yes, or help was asked for.
     Success,

@@ -12,7 +12,7 @@ use crate::outcome::{
     Outcome, outcome_of_answer, outcome_of_candidate, outcome_of_comparison, outcome_of_usage,
 };
 use crate::print::{complain, print};
-use cli_engine::compare;
+use cli_engine::{Refusal, compare};
 use std::alloc::{AllocError, Global};
 use std::io::Write;
 
@@ -51,25 +51,36 @@ fn outcome_of_words<H: Host>(
         return outcome_of_usage(alloc, &mistake(alloc, "an argument isn't UTF-8"));
     };
     match call_of(alloc, texts.as_slice()) {
-        Ok(
-            Call::Compare(
-                Comparison {
-                    version,
-                    relation,
-                    other,
-                },
-            ),
-        ) => {
-            let answer = compare(version.as_bytes(), relation, other.as_bytes());
-            outcome_of_comparison(alloc, &answer)
-        }
-        Ok(Call::Candidate(query)) => {
-            let answer = find_candidate(alloc, host, &query);
-            outcome_of_candidate(alloc, query.name.as_bytes(), &answer)
-        }
-        Ok(Call::CheckPlan(arguments)) => {
-            outcome_of_answer(alloc, &check_plan(alloc, host, &arguments))
-        }
+        Ok(call) => outcome_of_call(alloc, &call, host),
         Err(error) => outcome_of_usage(alloc, &error),
     }
+}
+
+// What is printed of this call.
+fn outcome_of_call<H: Host>(
+    alloc: Global,
+    call: &Call<'_>,
+    host: &mut H,
+) -> Result<Outcome, AllocError> {
+    match call {
+        Call::Compare(comparison) => {
+            outcome_of_comparison(alloc, &answer_of_comparison(comparison))
+        }
+        Call::Candidate(query) => {
+            let answer = find_candidate(alloc, host, query);
+            outcome_of_candidate(alloc, query.name.as_bytes(), &answer)
+        }
+        Call::CheckPlan(arguments) => {
+            outcome_of_answer(alloc, &check_plan(alloc, host, arguments))
+        }
+    }
+}
+
+fn answer_of_comparison(comparison: &Comparison<'_>) -> Result<bool, Refusal> {
+    let Comparison {
+        version,
+        relation,
+        other,
+    } = *comparison;
+    compare(version.as_bytes(), relation, other.as_bytes())
 }

@@ -5,7 +5,7 @@ ghost use Rattle.cli_engine.specs.Reading.{IsFaultOf};
 ghost use Rattle.cli_engine.specs.Texts.{plan_of};
 
 use crate::refusal::Fault;
-use plantext::{PlanError, PlanFault, read_plan};
+use plantext::{PlanError, read_plan};
 use rules::Step;
 use std::alloc::Global;
 
@@ -16,8 +16,7 @@ pub(crate) fn read_steps(alloc: Global, text: &[u8]) -> Result<Vec<Step>, Fault>
 {
     match read_plan(alloc, text) {
         Ok(steps) => Ok(steps),
-        Err(PlanError::BadPlan(line)) => Err(Fault::Plan(PlanFault::BadPlan(line))),
-        Err(PlanError::TooLarge) => Err(Fault::Plan(PlanFault::TooLarge)),
+        Err(PlanError::Refused(refused)) => Err(Fault::Plan(refused)),
         Err(PlanError::OutOfMemory) => Err(Fault::OutOfMemory),
     }
 }

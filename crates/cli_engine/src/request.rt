@@ -19,7 +19,7 @@ use status_record::Record;
 use std::alloc::Global;
 use universe::Universe;
 use universe_build::{UniverseError, build};
-use universe_request::{Request, RequestError, RequestFault};
+use universe_request::{Request, RequestError};
 
 fn goals_in(alloc: Global, text: &[u8], arch: &[u8]) -> Result<Vec<GoalLine>, Fault>
     ensures ok { IfOk result (λ goals. with_fault fault.Request (Read.read_request arch.now text.now) ≡ Ok goals.items) }
@@ -27,8 +27,7 @@ fn goals_in(alloc: Global, text: &[u8], arch: &[u8]) -> Result<Vec<GoalLine>, Fa
 {
     match Request::read(alloc, text, arch) {
         Ok(request) => Ok(request.into_vec()),
-        Err(RequestError::BadRequest(line)) => Err(Fault::Request(RequestFault::BadRequest(line))),
-        Err(RequestError::TooLarge) => Err(Fault::Request(RequestFault::TooLarge)),
+        Err(RequestError::Refused(refused)) => Err(Fault::Request(refused)),
         Err(RequestError::OutOfMemory) => Err(Fault::OutOfMemory),
     }
 }

@@ -13,12 +13,13 @@ use crate::compare::part_cmp;
 use crate::feed::feed_part;
 use crate::parse::{split_epoch, split_revision};
 use rules::{BadVersion, Op};
+use std::alloc::AllocError;
 use std::cmp::Ordering;
 use std::hash::{Hash, Hasher};
 use std::marker::Model;
 
 /// A version of a package, `[epoch:]upstream[-revision]` (Policy 5.6.12), over the caller's text.
-#[derive(Clone, Debug, Drop)]
+#[derive(Drop)]
 pub struct Version<'a> {
     text: &'a [u8],
     epoch: u32,
@@ -95,6 +96,18 @@ impl<'a> Version<'a> {
         ensures { result ≡ is_met op (version_cmp self.now version.now) }
     {
         op.is_met(self.cmp(version))
+    }
+}
+
+impl<'a> Clone for Version<'a> {
+    ghost use Rattle.std.specs.Prelude.{⊤};
+
+    ghost is_clone = { λ version copy. copy ≡ version };
+
+    ghost is_infallible = { λ _. ⊤ };
+
+    fn clone(&self) -> Result<Version<'a>, AllocError> {
+        Ok(self.again())
     }
 }
 

@@ -1,8 +1,7 @@
 //! Texts that are one stanza.
 use index::read_alone;
 use rows::unescaped;
-use std::alloc::Global;
-use std::test::Fail;
+use std::alloc::{AllocError, Global};
 
 // A text, and the name of its package, or `-`. `$` stands for a newline.
 const ROWS: &str = "\
@@ -15,19 +14,22 @@ Package: x$Version: 1$Architecture: all$$y$→-
 →-
 ";
 
-fn is_read(alloc: Global, row: &str) -> Result<bool, Fail> {
-    let Some((text, wanted)) = row.split_once('→') else {
-        return Ok(false);
-    };
-    let text = unescaped(alloc, text)?;
-    match read_alone(text.as_slice(), b"amd64") {
-        Some(entry) => Ok(entry.name() == wanted.as_bytes()),
-        None => Ok(wanted == "-"),
+fn is_named(text: &[u8], wanted: &str) -> bool {
+    match read_alone(text, b"amd64") {
+        Some(entry) => entry.name() == wanted.as_bytes(),
+        None => wanted == "-",
     }
 }
 
+fn is_read(alloc: Global, row: &str) -> Result<bool, AllocError> {
+    let Some((text, wanted)) = row.split_once('→') else {
+        return Ok(false);
+    };
+    Ok(is_named(unescaped(alloc, text)?.as_slice(), wanted))
+}
+
 #[test]
-fn one_stanza_that_counts_is_a_package(rt: HostRuntime) -> Result<(), Fail> {
+fn one_stanza_that_counts_is_a_package(rt: HostRuntime) -> Result<(), AllocError> {
     for row in ROWS.lines() {
         assert!(rt; is_read(rt.alloc(), row)?, "{row}");
     }

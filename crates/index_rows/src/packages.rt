@@ -1,11 +1,11 @@
 //! Packages files, by rows worked by hand, for the architecture amd64.
-use index::{Entry, Index, IndexError};
+use crate::texts::{is_printed, write_part};
+use index::{Entry, Index, IndexError, Listed};
 use relation::Pkg;
 use rows::unescaped;
 use rules::{Release, Text};
 use std::alloc::{AllocError, Global};
-use std::str;
-use std::test::Fail;
+use std::process::Abort;
 
 const ARCH: &[u8] = b"amd64";
 
@@ -13,57 +13,58 @@ fn release_of(alloc: Global, host: &[u8]) -> Result<Release, AllocError> {
     Ok(Release::without_keys(Text::copied_from(alloc, host)?))
 }
 
-fn read<'a>(
-    alloc: Global,
-    text: &'a [u8],
-    arch: &'a [u8],
-    before: usize,
-) -> Result<Index<'a>, IndexError> {
-    match release_of(alloc, b"h") {
-        Ok(release) => Index::read(alloc, text, release, arch, before),
-        Err(AllocError) => Err(IndexError::OutOfMemory),
-    }
-}
-
 // The numbers of clauses, atoms and items of the relation fields.
-fn counts_of(alloc: Global, pkg: &Pkg<'_>) -> Result<String, AllocError> {
+fn write_counts(alloc: Global, shown: &mut Vec<u8>, pkg: &Pkg<'_>) -> Result<(), AllocError> {
     let clauses = [pkg.pre_depends().len(), pkg.depends().len()];
     let atoms = [pkg.conflicts().len(), pkg.breaks().len()];
     let items = pkg.provides().len();
-    format!(in alloc;
+    let counts = format!(in alloc;
         "{}{}{}{}{items}",
         clauses[0], clauses[1], atoms[0], atoms[1]
-    )
+    )?;
+    shown.extend_from_slice(counts.as_bytes())
+}
+
+fn write_pkg(alloc: Global, shown: &mut Vec<u8>, entry: &Entry<'_>) -> Result<(), AllocError> {
+    let pkg = entry.pkg(alloc)?;
+    write_counts(alloc, shown, &pkg)
 }
 
 // The name, the version, those numbers, and whether it is essential.
-fn shown_entry(alloc: Global, entry: &Entry<'_>) -> Result<String, Fail> {
-    let counts = counts_of(alloc, &entry.pkg(alloc)?)?;
-    let name = str::from_utf8(entry.name())?;
-    let version = str::from_utf8(entry.version().text())?;
-    let mark = if entry.is_essential() {
-        " essential"
-    } else {
-        ""
-    };
-    Ok(format!(in alloc; "{name} {version} {counts}{mark}, ")?)
+fn write_entry(alloc: Global, shown: &mut Vec<u8>, entry: &Entry<'_>) -> Result<(), AllocError> {
+    write_part(shown, entry.name(), b" ")?;
+    write_part(shown, entry.version().text(), b" ")?;
+    write_pkg(alloc, shown, entry)?;
+    if entry.is_essential() {
+        shown.extend_from_slice(b" essential")?;
+    }
+    shown.extend_from_slice(b", ")
+}
+
+fn write_skipped(alloc: Global, shown: &mut Vec<u8>, skipped: usize) -> Result<(), AllocError> {
+    let skipped = format!(in alloc; "skipped {skipped}")?;
+    shown.extend_from_slice(skipped.as_bytes())
 }
 
 // The packages, then how many stanzas were skipped.
-fn shown_index(alloc: Global, index: &Index<'_>) -> Result<String, Fail> {
-    let mut shown = String::new(alloc);
+fn write_index(alloc: Global, shown: &mut Vec<u8>, index: &Index<'_>) -> Result<(), AllocError> {
     for entry in index.packages() {
-        shown.push_str(shown_entry(alloc, entry)?.as_str())?;
+        write_entry(alloc, shown, entry)?;
     }
-    write!(shown, "skipped {}", index.skipped())?;
-    Ok(shown)
+    write_skipped(alloc, shown, index.skipped())
 }
 
-/// What an index is read as, or the refusal as it is printed.
-fn shown(alloc: Global, text: &[u8], before: usize) -> Result<String, Fail> {
-    match read(alloc, text, ARCH, before) {
-        Ok(index) => shown_index(alloc, &index),
-        Err(error) => Ok(format!(in alloc; "{error}")?),
+fn is_index(alloc: Global, index: &Index<'_>, wanted: &str) -> Result<bool, AllocError> {
+    let mut shown = Vec::new(alloc);
+    write_index(alloc, &mut shown, index)?;
+    Ok(shown.as_slice() == wanted.as_bytes())
+}
+
+// Whether the text is read as this index, or its refusal is printed so.
+fn is_read_as(alloc: Global, text: &[u8], before: usize, wanted: &str) -> Result<bool, AllocError> {
+    match Index::read(alloc, text, release_of(alloc, b"h")?, ARCH, before) {
+        Ok(index) => is_index(alloc, &index, wanted),
+        Err(error) => is_printed(alloc, &error, wanted),
     }
 }
 
@@ -102,54 +103,101 @@ const REFUSED: &str = "\
 4000000→Package: a$Architecture: i386$$Package: b$Version: 1$Architecture: all$$x$→E10 TooLarge
 ";
 
-fn is_shown(alloc: Global, row: &str) -> Result<bool, Fail> {
-    let Some((before, rest)) = row.split_once('→') else {
-        return Ok(false);
-    };
+fn is_read_behind(alloc: Global, before: usize, rest: &str) -> Result<bool, AllocError> {
     let Some((text, wanted)) = rest.split_once('→') else {
         return Ok(false);
     };
-    let text = unescaped(alloc, text)?;
-    let shown = shown(alloc, text.as_slice(), before.parse()?)?;
-    Ok(shown.as_str() == wanted)
+    is_read_as(alloc, unescaped(alloc, text)?.as_slice(), before, wanted)
+}
+
+fn is_read(alloc: Global, row: &str) -> Result<bool, AllocError> {
+    let Some((before, rest)) = row.split_once('→') else {
+        return Ok(false);
+    };
+    match before.parse::<usize>() {
+        Ok(before) => is_read_behind(alloc, before, rest),
+        Err(_) => Ok(false),
+    }
+}
+
+fn assert_rows<R: Abort + AllocGlobal>(rt: &R, rows: &str) -> Result<(), AllocError> {
+    for row in rows.lines() {
+        assert!(rt; is_read(rt.alloc(), row)?, "{row}");
+    }
+    Ok(())
 }
 
 #[test]
 fn stanzas_of_the_architecture_are_read_up_to_the_first_refusal(
     rt: HostRuntime,
-) -> Result<(), Fail> {
-    for table in &[READ, ESSENTIAL, REFUSED] {
-        for row in table.lines() {
-            assert!(rt; is_shown(rt.alloc(), row)?, "{row}");
+) -> Result<(), AllocError> {
+    assert_rows(&rt, READ)?;
+    assert_rows(&rt, ESSENTIAL)?;
+    assert_rows(&rt, REFUSED)
+}
+
+const FOUR_STANZAS: &[u8] =
+    b"Package: b\nVersion: 1\nArchitecture: all\n\nPackage: a\nVersion: 1\nArchitecture: all\n\nPackage: c\nArchitecture: i386\n\nPackage: b\nVersion: 2\nArchitecture: amd64\nX: y\n";
+
+fn are_b_and_a(names: &[&[u8]]) -> bool {
+    match names {
+        [first, second] => *first == b"b".as_slice() && *second == b"a".as_slice(),
+        _ => false,
+    }
+}
+
+fn has_its_names(alloc: Global, index: &Index<'_>) -> Result<bool, AllocError> {
+    Ok(are_b_and_a(index.names(alloc)?.as_slice()))
+}
+
+fn is_same(listed: &Listed<'_>, entry: &Entry<'_>) -> bool {
+    listed.pkg().name() == entry.name() && listed.stanza().line() == entry.stanza().line()
+}
+
+fn is_listed(alloc: Global, entry: &Entry<'_>) -> Result<bool, AllocError> {
+    let listed = entry.listed(alloc)?;
+    Ok(is_same(&listed, entry))
+}
+
+fn are_listed(alloc: Global, entries: &[Entry<'_>]) -> Result<bool, AllocError> {
+    for entry in entries {
+        if !is_listed(alloc, entry)? {
+            return Ok(false);
         }
     }
-    Ok(())
+    Ok(true)
+}
+
+fn is_whole(alloc: Global, index: &Index<'_>) -> Result<bool, AllocError> {
+    let is_of_the_host = index.release().host.as_bytes() == b"h".as_slice();
+    Ok(is_of_the_host && has_its_names(alloc, index)? && are_listed(alloc, index.packages())?)
+}
+
+fn is_read_whole(alloc: Global) -> Result<bool, AllocError> {
+    match Index::read(alloc, FOUR_STANZAS, release_of(alloc, b"h")?, ARCH, 0) {
+        Ok(index) => is_whole(alloc, &index),
+        Err(_) => Ok(false),
+    }
 }
 
 #[test]
-fn an_index_has_its_names_once_and_its_release(rt: HostRuntime) -> Result<(), Fail> {
-    let text =
-        b"Package: b\nVersion: 1\nArchitecture: all\n\nPackage: a\nVersion: 1\nArchitecture: all\n\nPackage: c\nArchitecture: i386\n\nPackage: b\nVersion: 2\nArchitecture: amd64\nX: y\n";
-    let index = read(rt.alloc(), text, ARCH, 0)?;
-    let names = index.names(rt.alloc())?;
-    assert_eq!(rt; names.as_slice(), [b"b".as_slice(), b"a"].as_slice());
-    assert_eq!(rt; index.release().host.as_bytes(), b"h".as_slice());
-    for entry in index.packages() {
-        let listed = entry.listed(rt.alloc())?;
-        assert_eq!(rt; listed.pkg().name(), entry.name());
-        assert_eq!(rt; listed.stanza().line(), entry.stanza().line());
-    }
+fn an_index_has_its_names_once_and_its_release(rt: HostRuntime) -> Result<(), AllocError> {
+    assert!(rt; is_read_whole(rt.alloc())?);
     Ok(())
+}
+
+const TWO_STANZAS: &[u8] =
+    b"Package: a\nVersion: 1\nArchitecture: all\nDepends: b, c | d\n\nPackage: b\nVersion: 1\nArchitecture: amd64\n";
+
+fn is_index_or_no_memory(alloc: Global) -> Result<bool, AllocError> {
+    match Index::read(alloc, TWO_STANZAS, release_of(alloc, b"")?, ARCH, 0) {
+        Ok(index) => Ok(index.packages().len() == 2),
+        Err(error) => Ok(error == IndexError::OutOfMemory),
+    }
 }
 
 #[test]
 fn a_refused_growth_is_want_of_memory(rt: HostRuntime) -> Result<(), AllocError> {
-    let text =
-        b"Package: a\nVersion: 1\nArchitecture: all\nDepends: b, c | d\n\nPackage: b\nVersion: 1\nArchitecture: amd64\n";
-    let release = release_of(rt.alloc(), b"")?;
-    match Index::read(rt.alloc(), text, release, ARCH, 0) {
-        Ok(index) => assert_eq!(rt; index.packages().len(), 2),
-        Err(error) => assert_eq!(rt; error, IndexError::OutOfMemory),
-    }
+    assert!(rt; is_index_or_no_memory(rt.alloc())?);
     Ok(())
 }

@@ -1,11 +1,10 @@
 //! Sources texts: this project's own format, by rows worked by hand.
-use crate::texts::repeated;
+use crate::texts::{is_printed, write_part};
 use index::{Source, SourcesError, read_sources};
 use rows::unescaped;
 use rules::{Release, Text};
-use std::alloc::Global;
-use std::str;
-use std::test::Fail;
+use std::alloc::{AllocError, Global};
+use std::process::Abort;
 
 // Each key that a source has is shown by its name and its value.
 const KEYS: &str =
@@ -37,35 +36,40 @@ fn value_of<'r>(release: &'r Release, name: &str) -> Option<&'r [u8]> {
     }
 }
 
-fn shown_key(alloc: Global, name: &str, value: &[u8]) -> Result<String, Fail> {
-    let value = str::from_utf8(value)?;
-    Ok(format!(in alloc; " {name}={value}")?)
+fn write_key(shown: &mut Vec<u8>, name: &str, value: &[u8]) -> Result<(), AllocError> {
+    write_part(shown, b" ", name.as_bytes())?;
+    write_part(shown, b"=", value)
 }
 
-fn write_source(alloc: Global, shown: &mut String, source: &Source<'_>) -> Result<(), Fail> {
-    shown.push_str(str::from_utf8(source.file())?)?;
+fn write_keys(shown: &mut Vec<u8>, release: &Release) -> Result<(), AllocError> {
     for name in KEYS.split_whitespace() {
-        if let Some(value) = value_of(source.release(), name) {
-            shown.push_str(shown_key(alloc, name, value)?.as_str())?;
+        if let Some(value) = value_of(release, name) {
+            write_key(shown, name, value)?;
         }
     }
-    shown.push_str(";")?;
     Ok(())
 }
 
-fn shown_sources(alloc: Global, sources: &[Source<'_>]) -> Result<String, Fail> {
-    let mut shown = String::new(alloc);
+fn write_sources(shown: &mut Vec<u8>, sources: &[Source<'_>]) -> Result<(), AllocError> {
     for source in sources {
-        write_source(alloc, &mut shown, source)?;
+        shown.extend_from_slice(source.file())?;
+        write_keys(shown, source.release())?;
+        shown.extend_from_slice(b";")?;
     }
-    Ok(shown)
+    Ok(())
 }
 
-/// The indices with their keys, or the refusal as it is printed.
-fn shown(alloc: Global, text: &[u8]) -> Result<String, Fail> {
+fn are_sources(alloc: Global, sources: &[Source<'_>], wanted: &str) -> Result<bool, AllocError> {
+    let mut shown = Vec::new(alloc);
+    write_sources(&mut shown, sources)?;
+    Ok(shown.as_slice() == wanted.as_bytes())
+}
+
+// Whether the text names these indices with these keys, or its refusal is printed so.
+fn is_read_as(alloc: Global, text: &[u8], wanted: &str) -> Result<bool, AllocError> {
     match read_sources(alloc, text) {
-        Ok(sources) => shown_sources(alloc, sources.as_slice()),
-        Err(error) => Ok(format!(in alloc; "{error}")?),
+        Ok(sources) => are_sources(alloc, sources.as_slice(), wanted),
+        Err(error) => is_printed(alloc, &error, wanted),
     }
 }
 
@@ -95,21 +99,24 @@ Label: l$x$→E2 BadLine 2
  x$File: a$→E2 BadLine 1
 ";
 
-fn is_shown(alloc: Global, row: &str) -> Result<bool, Fail> {
+fn is_read(alloc: Global, row: &str) -> Result<bool, AllocError> {
     let Some((text, wanted)) = row.split_once('→') else {
         return Ok(false);
     };
-    Ok(shown(alloc, unescaped(alloc, text)?.as_slice())?.as_str() == wanted)
+    is_read_as(alloc, unescaped(alloc, text)?.as_slice(), wanted)
+}
+
+fn assert_rows<R: Abort + AllocGlobal>(rt: &R, rows: &str) -> Result<(), AllocError> {
+    for row in rows.lines() {
+        assert!(rt; is_read(rt.alloc(), row)?, "{row}");
+    }
+    Ok(())
 }
 
 #[test]
-fn each_stanza_is_an_index_up_to_the_first_refusal(rt: HostRuntime) -> Result<(), Fail> {
-    for table in &[READ, REFUSED] {
-        for row in table.lines() {
-            assert!(rt; is_shown(rt.alloc(), row)?, "{row}");
-        }
-    }
-    Ok(())
+fn each_stanza_is_an_index_up_to_the_first_refusal(rt: HostRuntime) -> Result<(), AllocError> {
+    assert_rows(&rt, READ)?;
+    assert_rows(&rt, REFUSED)
 }
 
 // What stands behind a thousand stanzas. Each has two lines, so the thousand and first begins on line 2001.
@@ -121,43 +128,76 @@ Label: l$→E9 MissingField 2001 File
 File: b$x$→E2 BadLine 2002
 ";
 
-fn counted(alloc: Global, text: &[u8]) -> Result<String, Fail> {
+fn is_number(alloc: Global, count: usize, wanted: &str) -> Result<bool, AllocError> {
+    let shown = format!(in alloc; "{count} indices")?;
+    Ok(shown.as_str() == wanted)
+}
+
+fn are_counted(alloc: Global, text: &[u8], wanted: &str) -> Result<bool, AllocError> {
     match read_sources(alloc, text) {
-        Ok(sources) => Ok(format!(in alloc; "{} indices", sources.len())?),
-        Err(error) => Ok(format!(in alloc; "{error}")?),
+        Ok(sources) => is_number(alloc, sources.len(), wanted),
+        Err(error) => is_printed(alloc, &error, wanted),
     }
 }
 
-fn is_counted(alloc: Global, row: &str) -> Result<bool, Fail> {
+fn write_thousand(text: &mut Vec<u8>, last: &[u8]) -> Result<(), AllocError> {
+    for _ in 0..1000 {
+        text.extend_from_slice(b"File: a\n\n")?;
+    }
+    text.extend_from_slice(last)
+}
+
+fn is_counted_with(alloc: Global, last: &[u8], wanted: &str) -> Result<bool, AllocError> {
+    let mut text = Vec::new(alloc);
+    write_thousand(&mut text, last)?;
+    are_counted(alloc, text.as_slice(), wanted)
+}
+
+fn is_counted(alloc: Global, row: &str) -> Result<bool, AllocError> {
     let Some((last, wanted)) = row.split_once('→') else {
         return Ok(false);
     };
-    let mut text = repeated(alloc, b"File: a\n\n", 1000)?;
-    text.extend_from_slice(unescaped(alloc, last)?.as_slice())?;
-    Ok(counted(alloc, text.as_slice())?.as_str() == wanted)
+    is_counted_with(alloc, unescaped(alloc, last)?.as_slice(), wanted)
 }
 
 #[test]
-fn a_thousand_indices_are_read(rt: HostRuntime) -> Result<(), Fail> {
+fn a_thousand_indices_are_read(rt: HostRuntime) -> Result<(), AllocError> {
     for row in BEHIND_A_THOUSAND.lines() {
         assert!(rt; is_counted(rt.alloc(), row)?, "{row}");
     }
     Ok(())
 }
 
-#[test]
-fn the_keys_are_given_away(rt: HostRuntime) -> Result<(), Fail> {
-    for source in read_sources(rt.alloc(), b"File: a\nHost: h\n")? {
-        assert_eq!(rt; source.into_release().host.as_bytes(), b"h".as_slice());
+fn is_of_the_host(release: &Release) -> bool {
+    release.host.as_bytes() == b"h".as_slice()
+}
+
+fn is_given_away(alloc: Global) -> bool {
+    match read_sources(alloc, b"File: a\nHost: h\n") {
+        Ok(mut sources) => match sources.pop() {
+            Some(source) => is_of_the_host(&source.into_release()),
+            None => false,
+        },
+        Err(_) => false,
     }
-    Ok(())
+}
+
+#[test]
+fn the_keys_are_given_away(rt: HostRuntime) {
+    assert!(rt; is_given_away(rt.alloc()));
+}
+
+fn are_two_or_no_memory(alloc: Global) -> bool {
+    match read_sources(
+        alloc,
+        b"File: a\nSuite: s\nHost: h\n\nFile: b\nArchive: t\n",
+    ) {
+        Ok(sources) => sources.len() == 2,
+        Err(error) => error == SourcesError::OutOfMemory,
+    }
 }
 
 #[test]
 fn a_refused_growth_is_want_of_memory(rt: HostRuntime) {
-    let text = b"File: a\nSuite: s\nHost: h\n\nFile: b\nArchive: t\n";
-    match read_sources(rt.alloc(), text) {
-        Ok(sources) => assert_eq!(rt; sources.len(), 2),
-        Err(error) => assert_eq!(rt; error, SourcesError::OutOfMemory),
-    }
+    assert!(rt; are_two_or_no_memory(rt.alloc()));
 }

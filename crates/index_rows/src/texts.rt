@@ -1,12 +1,23 @@
 //! Texts of rows.
-use std::alloc::Global;
-use std::test::Fail;
+use std::alloc::{AllocError, Global};
+use std::fmt::Display;
 
-/// This many copies of a text, one after another.
-pub(crate) fn repeated(alloc: Global, part: &[u8], count: usize) -> Result<Vec<u8>, Fail> {
-    let mut text = Vec::new(alloc);
-    for _ in 0..count {
-        text.extend_from_slice(part)?;
-    }
-    Ok(text)
+/// Writes two texts, one after another.
+pub(crate) fn write_part(
+    shown: &mut Vec<u8>,
+    first: &[u8],
+    second: &[u8],
+) -> Result<(), AllocError> {
+    shown.extend_from_slice(first)?;
+    shown.extend_from_slice(second)
+}
+
+/// Whether the value is printed so.
+pub(crate) fn is_printed<T: Display>(
+    alloc: Global,
+    value: &T,
+    wanted: &str,
+) -> Result<bool, AllocError> {
+    let shown = format!(in alloc; "{value}")?;
+    Ok(shown.as_str() == wanted)
 }

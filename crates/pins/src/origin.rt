@@ -18,7 +18,7 @@ enum Place<'p> {
 }
 
 /// A place that a version comes from: the status file or an index.
-#[derive(Clone, Drop)]
+#[derive(Drop)]
 pub struct Origin<'p> {
     place: Place<'p>,
 }

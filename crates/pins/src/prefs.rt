@@ -17,7 +17,7 @@ use std::alloc::{AllocError, Global};
 use std::marker::Model;
 
 /// What the administrator prefers: the records of a preferences file, and the target release. It owns both.
-#[derive(Debug, Drop)]
+#[derive(Drop)]
 pub struct Prefs {
     records: Vec<Preference>,
     target: Option<Text>,

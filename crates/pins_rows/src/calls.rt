@@ -1,21 +1,32 @@
 //! Each public call once, refusals as they are printed, and want of memory.
+use crate::texts::is_printed;
 use debversion::Version;
 use pins::{Origin, Prefs, PrefsError, PrefsFault, PrefsField};
 use stanza::StanzaError;
-use std::test::Fail;
+use std::alloc::{AllocError, Global};
+
+// Whether foo, bar and a package without a place have the priorities of the example.
+fn are_of_the_example(prefs: &Prefs) -> bool {
+    let Ok(version) = Version::parse(b"1.0-1") else {
+        return false;
+    };
+    let place = [Origin::status_file()];
+    prefs.priority(b"foo", &version, place.as_slice()) == Some(1001)
+        && prefs.priority(b"bar", &version, place.as_slice()) == Some(100)
+        && prefs.priority(b"foo", &version, &[]).is_none()
+}
+
+fn is_the_example(read: Result<Prefs, PrefsError>) -> bool {
+    match read {
+        Ok(prefs) => prefs.records().len() == 1 && are_of_the_example(&prefs),
+        Err(_) => false,
+    }
+}
 
 #[test]
-fn the_readme_example(rt: HostRuntime) -> Result<(), Fail> {
-    let alloc = rt.alloc();
+fn the_readme_example(rt: HostRuntime) {
     let text = b"Package: foo\nPin: version 1.*\nPin-Priority: 1001\n";
-    let prefs = Prefs::read(alloc, text, Some(b"stable"))?;
-    assert_eq!(rt; prefs.records().len(), 1);
-    let version = Version::parse(b"1.0-1")?;
-    let place = [Origin::status_file()];
-    assert_eq!(rt; prefs.priority(b"foo", &version, &place), Some(1001));
-    assert_eq!(rt; prefs.priority(b"bar", &version, &place), Some(100));
-    assert_eq!(rt; prefs.priority(b"foo", &version, &[]), None);
-    Ok(())
+    assert!(rt; is_the_example(Prefs::read(rt.alloc(), text, Some(b"stable"))));
 }
 
 // Whether the target is this one, and there are no records.
@@ -23,59 +34,86 @@ fn is_target_alone(prefs: &Prefs, target: Option<&[u8]>) -> bool {
     prefs.target() == target && prefs.records().is_empty()
 }
 
-#[test]
-fn the_target_is_kept(rt: HostRuntime) -> Result<(), Fail> {
-    let read = Prefs::read(rt.alloc(), b"", Some(b"stable"))?;
-    assert!(rt; is_target_alone(&read, Some(b"stable")));
-    let without = Prefs::without_records(rt.alloc(), Some(b"12"))?;
-    assert!(rt; is_target_alone(&without, Some(b"12")));
-    let none = Prefs::without_records(rt.alloc(), None)?;
-    assert!(rt; is_target_alone(&none, None));
-    Ok(())
+fn is_kept_as_read(alloc: Global, target: Option<&[u8]>) -> bool {
+    match Prefs::read(alloc, b"", target) {
+        Ok(prefs) => is_target_alone(&prefs, target),
+        Err(_) => false,
+    }
+}
+
+fn is_kept_without_records(alloc: Global, target: Option<&[u8]>) -> bool {
+    match Prefs::without_records(alloc, target) {
+        Ok(prefs) => is_target_alone(&prefs, target),
+        Err(AllocError) => false,
+    }
 }
 
 #[test]
-fn refusals_are_printed_with_their_codes(rt: HostRuntime) -> Result<(), Fail> {
+fn the_target_is_kept(rt: HostRuntime) {
+    assert!(rt; is_kept_as_read(rt.alloc(), Some(b"stable")));
+    assert!(rt; is_kept_without_records(rt.alloc(), Some(b"12")));
+    assert!(rt; is_kept_without_records(rt.alloc(), None));
+}
+
+fn is_missing(alloc: Global, field: PrefsField, wanted: &str) -> Result<bool, AllocError> {
+    let fault = PrefsFault::MissingField(7, field);
+    is_printed(alloc, &PrefsError::from(fault), wanted)
+}
+
+#[test]
+fn refusals_are_printed_with_their_codes(rt: HostRuntime) -> Result<(), AllocError> {
     let alloc = rt.alloc();
-    let rows = [
-        (PrefsFault::Stanza(StanzaError::BadLine(7)), "E2 BadLine 7"),
-        (
-            PrefsFault::MissingField(7, PrefsField::Package),
-            "E9 MissingField 7 Package",
-        ),
-        (
-            PrefsFault::MissingField(7, PrefsField::Pin),
-            "E9 MissingField 7 Pin",
-        ),
-        (
-            PrefsFault::MissingField(7, PrefsField::PinPriority),
-            "E9 MissingField 7 Pin-Priority",
-        ),
-        (PrefsFault::BadPin(7), "E11 BadPin 7"),
-        (PrefsFault::TooLarge, "E10 TooLarge"),
-    ];
-    for (fault, wanted) in &rows {
-        let printed = format!(in alloc; "{}", PrefsError::from(*fault))?;
-        assert_eq!(rt; printed.as_str(), *wanted);
-    }
-    let memory = format!(in alloc; "{}", PrefsError::OutOfMemory)?;
-    assert_eq!(rt; memory.as_str(), "E1 OutOfMemory");
+    let stanza = PrefsFault::Stanza(StanzaError::BadLine(7));
+    assert!(rt; is_printed(alloc, &PrefsError::from(stanza), "E2 BadLine 7")?);
+    assert!(rt; is_missing(alloc, PrefsField::Package, "E9 MissingField 7 Package")?);
+    assert!(rt; is_missing(alloc, PrefsField::Pin, "E9 MissingField 7 Pin")?);
+    assert!(rt;
+        is_missing(
+            alloc,
+            PrefsField::PinPriority,
+            "E9 MissingField 7 Pin-Priority"
+        )?
+    );
+    assert!(rt;
+        is_printed(
+            alloc,
+            &PrefsError::from(PrefsFault::BadPin(7)),
+            "E11 BadPin 7"
+        )?
+    );
+    assert!(rt;
+        is_printed(
+            alloc,
+            &PrefsError::from(PrefsFault::TooLarge),
+            "E10 TooLarge"
+        )?
+    );
+    assert!(rt; is_printed(alloc, &PrefsError::OutOfMemory, "E1 OutOfMemory")?);
     Ok(())
+}
+
+const FOUR_RECORDS: &[u8] =
+    b"Package: a b\nPin: version 1\nPin-Priority: 5\n\nPackage: *\nPin: release a=x,n=y\nPin-Priority: 5\n\n\
+Package: *\nPin: version 1*\nPin-Priority: 5\n\nPackage: *\nPin: origin x\nPin-Priority: 5\n";
+
+fn are_records_or_no_memory(alloc: Global) -> bool {
+    match Prefs::read(alloc, FOUR_RECORDS, Some(b"stable")) {
+        Ok(prefs) => prefs.records().len() == 4,
+        Err(error) => error == PrefsError::OutOfMemory,
+    }
+}
+
+// A field that is missing is refused before memory is taken.
+fn is_refused_alone(alloc: Global) -> bool {
+    match Prefs::read(alloc, b"Package: a", None) {
+        Ok(_) => false,
+        Err(error) => error == PrefsError::from(PrefsFault::MissingField(1, PrefsField::Pin)),
+    }
 }
 
 /// Run with each allocation refused in turn (`rt try --test --fail-alloc N`): the answer is the same or want of memory.
 #[test]
 fn a_refused_growth_is_answered_as_want_of_memory(rt: HostRuntime) {
-    let text =
-        b"Package: a b\nPin: version 1\nPin-Priority: 5\n\nPackage: *\nPin: release a=x,n=y\nPin-Priority: 5\n\n\
-Package: *\nPin: version 1*\nPin-Priority: 5\n\nPackage: *\nPin: origin x\nPin-Priority: 5\n";
-    match Prefs::read(rt.alloc(), text, Some(b"stable")) {
-        Ok(prefs) => assert_eq!(rt; prefs.records().len(), 4),
-        Err(error) => assert_eq!(rt; error, PrefsError::OutOfMemory),
-    }
-    // A field that is missing is refused before memory is taken.
-    assert_eq!(rt;
-        Prefs::read(rt.alloc(), b"Package: a", None).err(),
-        Some(PrefsError::from(PrefsFault::MissingField(1, PrefsField::Pin)))
-    );
+    assert!(rt; are_records_or_no_memory(rt.alloc()));
+    assert!(rt; is_refused_alone(rt.alloc()));
 }

@@ -8,3 +8,5 @@ mod calls;
 mod priorities;
 #[cfg(test)]
 mod records;
+#[cfg(test)]
+mod texts;

@@ -4,9 +4,8 @@ use debversion::Version;
 use pins::{Origin, Prefs};
 use rows::unescaped;
 use rules::{Release, Text};
-use std::alloc::Global;
+use std::alloc::{AllocError, Global};
 use std::process::Abort;
-use std::test::Fail;
 
 // One item of a spelled release: a letter, and behind `=` its value.
 fn set_key(release: &mut Release, key: &str, value: Text) {
@@ -22,89 +21,141 @@ fn set_key(release: &mut Release, key: &str, value: Text) {
     }
 }
 
-// The release keys of an index, spelled as items with commas between them; `N` and `B` are its two flags.
-fn release_of(alloc: Global, spelled: &str) -> Result<Release, Fail> {
-    let mut release = Release::without_keys(Text::copied_from(alloc, b"")?);
-    for item in spelled.split(',') {
-        match item.split_once('=') {
-            Some((key, value)) => {
-                set_key(
-                    &mut release,
-                    key,
-                    Text::copied_from(alloc, value.as_bytes())?,
-                )
-            }
-            None => {
-                release.not_automatic |= item == "N";
-                release.but_automatic_upgrades |= item == "B";
-            }
+// One item: a key with its value, or a flag, `N` or `B`.
+fn set_item(alloc: Global, release: &mut Release, item: &str) -> Result<(), AllocError> {
+    match item.split_once('=') {
+        Some((key, value)) => {
+            let value = Text::copied_from(alloc, value.as_bytes())?;
+            set_key(release, key, value);
+        }
+        None => {
+            release.not_automatic |= item == "N";
+            release.but_automatic_upgrades |= item == "B";
         }
     }
+    Ok(())
+}
+
+fn set_items(alloc: Global, release: &mut Release, spelled: &str) -> Result<(), AllocError> {
+    for item in spelled.split(',') {
+        set_item(alloc, release, item)?;
+    }
+    Ok(())
+}
+
+// The release keys of an index, spelled as items with commas between them.
+fn release_of(alloc: Global, spelled: &str) -> Result<Release, AllocError> {
+    let mut release = Release::without_keys(Text::copied_from(alloc, b"")?);
+    set_items(alloc, &mut release, spelled)?;
     Ok(release)
 }
 
-fn releases_of(alloc: Global, spelled: &str) -> Result<Vec<Release>, Fail> {
-    let mut releases = Vec::new(alloc);
-    for place in spelled.split(';') {
-        if !place.is_empty() && place != "status" {
-            releases.push(release_of(alloc, place)?)?;
-        }
-    }
-    Ok(releases)
+fn add_release(
+    alloc: Global,
+    releases: &mut Vec<Release>,
+    spelled: &str,
+) -> Result<(), AllocError> {
+    releases.push(release_of(alloc, spelled)?)?;
+    Ok(())
 }
 
-// The origins, with `;` between them: `status` first, where there, and then the indices.
-fn origins_of<'p>(
+// The releases of the places, with `;` between them: `status` first, where there, and then the indices.
+fn add_releases(
     alloc: Global,
+    releases: &mut Vec<Release>,
     spelled: &str,
+) -> Result<(), AllocError> {
+    for place in spelled.split(';') {
+        if !place.is_empty() && place != "status" {
+            add_release(alloc, releases, place)?;
+        }
+    }
+    Ok(())
+}
+
+fn add_origins<'p>(
+    origins: &mut Vec<Origin<'p>>,
+    has_status: bool,
     releases: &'p [Release],
-) -> Result<Vec<Origin<'p>>, Fail> {
-    let mut origins = Vec::new(alloc);
-    if spelled.starts_with("status") {
+) -> Result<(), AllocError> {
+    if has_status {
         origins.push(Origin::status_file())?;
     }
     for release in releases {
         origins.push(Origin::index(release))?;
     }
-    Ok(origins)
+    Ok(())
 }
 
-fn prefs_of(alloc: Global, text: &str, target: &str) -> Result<Prefs, Fail> {
-    let target = if target.is_empty() {
-        None
-    } else {
-        Some(target.as_bytes())
-    };
-    Ok(Prefs::read(alloc, unescaped(alloc, text)?.as_slice(), target)?)
-}
-
-fn shown(alloc: Global, priority: Option<i32>) -> Result<String, Fail> {
+fn is_number(priority: Option<i32>, wanted: &str) -> bool {
     match priority {
-        None => Ok(String::from_str(alloc, "none")?),
-        Some(priority) => Ok(format!(in alloc; "{priority}")?),
+        None => wanted == "none",
+        Some(priority) => wanted.parse::<i32>() == Ok(priority),
     }
 }
 
-// By the file's records, the target and the origins, `foo 1.0-1` has the priority that is wanted.
-fn is_given(alloc: Global, row: &str) -> Result<bool, Fail> {
-    let mut parts = row.split('→');
-    let (Some(text), Some(target), Some(origins), Some(wanted)) = (
-        parts.next(),
-        parts.next(),
-        parts.next(),
-        parts.next(),
-    ) else {
-        return Ok(false);
-    };
-    let prefs = prefs_of(alloc, text, target)?;
-    let releases = releases_of(alloc, origins)?;
-    let origins = origins_of(alloc, origins, releases.as_slice())?;
-    let version = Version::parse(b"1.0-1")?;
-    let priority = prefs.priority(b"foo", &version, origins.as_slice());
-    Ok(shown(alloc, priority)?.as_str() == wanted)
+fn is_priority(prefs: &Prefs, origins: &[Origin<'_>], wanted: &str) -> bool {
+    match Version::parse(b"1.0-1") {
+        Ok(version) => is_number(prefs.priority(b"foo", &version, origins), wanted),
+        Err(_) => false,
+    }
 }
 
-fn assert_rows<R: Abort + AllocGlobal>(rt: &R, rows: &str) -> Result<(), Fail> {
+fn is_given_with(
+    alloc: Global,
+    prefs: &Prefs,
+    has_status: bool,
+    releases: &[Release],
+    wanted: &str,
+) -> Result<bool, AllocError> {
+    let mut origins = Vec::new(alloc);
+    add_origins(&mut origins, has_status, releases)?;
+    Ok(is_priority(prefs, origins.as_slice(), wanted))
+}
+
+// Whether what the records say of the places is wanted.
+fn is_given_at(alloc: Global, prefs: &Prefs, rest: &str) -> Result<bool, AllocError> {
+    let Some((places, wanted)) = rest.split_once('→') else {
+        return Ok(false);
+    };
+    let mut releases = Vec::new(alloc);
+    add_releases(alloc, &mut releases, places)?;
+    is_given_with(
+        alloc,
+        prefs,
+        places.starts_with("status"),
+        releases.as_slice(),
+        wanted,
+    )
+}
+
+fn target_of(target: &str) -> Option<&[u8]> {
+    if target.is_empty() {
+        None
+    } else {
+        Some(target.as_bytes())
+    }
+}
+
+fn is_given_by(alloc: Global, text: &[u8], rest: &str) -> Result<bool, AllocError> {
+    let Some((target, rest)) = rest.split_once('→') else {
+        return Ok(false);
+    };
+    match Prefs::read(alloc, text, target_of(target)) {
+        Ok(prefs) => is_given_at(alloc, &prefs, rest),
+        Err(_) => Ok(false),
+    }
+}
+
+// By the file's records, the target and the places, `foo 1.0-1` has the priority that is wanted.
+fn is_given(alloc: Global, row: &str) -> Result<bool, AllocError> {
+    let Some((text, rest)) = row.split_once('→') else {
+        return Ok(false);
+    };
+    is_given_by(alloc, unescaped(alloc, text)?.as_slice(), rest)
+}
+
+fn assert_rows<R: Abort + AllocGlobal>(rt: &R, rows: &str) -> Result<(), AllocError> {
     for row in rows.lines() {
         assert!(rt; is_given(rt.alloc(), row)?, "{row}");
     }
@@ -136,7 +187,7 @@ const DEFAULTS: &str = "\
 ";
 
 #[test]
-fn without_records_the_places_decide(rt: HostRuntime) -> Result<(), Fail> {
+fn without_records_the_places_decide(rt: HostRuntime) -> Result<(), AllocError> {
     assert_rows(&rt, DEFAULTS)
 }
 
@@ -171,7 +222,7 @@ Package: foo$Pin: origin h.example$Pin-Priority: 7→→status→100
 ";
 
 #[test]
-fn a_record_speaks_of_the_versions_that_its_pin_matches(rt: HostRuntime) -> Result<(), Fail> {
+fn a_record_speaks_of_the_versions_that_its_pin_matches(rt: HostRuntime) -> Result<(), AllocError> {
     assert_rows(&rt, PINS)
 }
 
@@ -196,6 +247,6 @@ Package: foo$Pin: version *$Pin-Priority: 7→→→none
 ";
 
 #[test]
-fn the_first_named_record_decides_and_else_the_greatest(rt: HostRuntime) -> Result<(), Fail> {
+fn the_first_named_record_decides_and_else_the_greatest(rt: HostRuntime) -> Result<(), AllocError> {
     assert_rows(&rt, SEVERAL)
 }

@@ -1,93 +1,98 @@
 //! Preferences files, each with what it is to be read as. The format is that of apt_preferences(5), as the README of `pins`
 //! bounds it; lines were counted by hand.
+use crate::texts::is_printed;
 use pins::Prefs;
 use rows::unescaped;
-use rules::{Pin, PinnedNames, ReleaseItem, ReleaseKey};
-use std::alloc::Global;
+use rules::{Pin, PinnedNames, Preference, ReleaseItem, ReleaseKey};
+use std::alloc::{AllocError, Global};
 use std::process::Abort;
-use std::str;
-use std::test::Fail;
 
-fn key_text(key: ReleaseKey) -> &'static str {
+fn key_text(key: ReleaseKey) -> &'static [u8] {
     match key {
-        ReleaseKey::Archive => "a",
-        ReleaseKey::Codename => "n",
-        ReleaseKey::Version => "v",
-        ReleaseKey::Component => "c",
-        ReleaseKey::Origin => "o",
-        ReleaseKey::Label => "l",
+        ReleaseKey::Archive => b" a:",
+        ReleaseKey::Codename => b" n:",
+        ReleaseKey::Version => b" v:",
+        ReleaseKey::Component => b" c:",
+        ReleaseKey::Origin => b" o:",
+        ReleaseKey::Label => b" l:",
     }
 }
 
-fn write_bytes(shown: &mut String, bytes: &[u8]) -> Result<(), Fail> {
-    shown.push_str(str::from_utf8(bytes)?)?;
-    Ok(())
+fn write_part(shown: &mut Vec<u8>, mark: &[u8], part: &[u8]) -> Result<(), AllocError> {
+    shown.extend_from_slice(mark)?;
+    shown.extend_from_slice(part)
 }
 
-fn write_names(shown: &mut String, names: &PinnedNames) -> Result<(), Fail> {
+fn write_names(shown: &mut Vec<u8>, names: &PinnedNames) -> Result<(), AllocError> {
     match names {
-        PinnedNames::Every => shown.push_str("*")?,
+        PinnedNames::Every => shown.extend_from_slice(b"*")?,
         PinnedNames::Listed(names) => {
             for name in names.as_slice() {
-                shown.push_str("/")?;
-                write_bytes(shown, name.as_bytes())?;
+                write_part(shown, b"/", name.as_bytes())?;
             }
         }
     }
     Ok(())
 }
 
-fn write_pin(shown: &mut String, pin: &Pin) -> Result<(), Fail> {
+fn write_items(shown: &mut Vec<u8>, items: &[ReleaseItem]) -> Result<(), AllocError> {
+    for ReleaseItem { key, value } in items {
+        write_part(shown, key_text(*key), value.as_bytes())?;
+    }
+    Ok(())
+}
+
+fn write_pin(shown: &mut Vec<u8>, pin: &Pin) -> Result<(), AllocError> {
     match pin {
-        Pin::VersionBeginning(beginning) => {
-            shown.push_str(" begins:")?;
-            write_bytes(shown, beginning.as_bytes())?;
-        }
-        Pin::Version(version) => {
-            shown.push_str(" is:")?;
-            write_bytes(shown, version.as_bytes())?;
-        }
-        Pin::Release(items) => {
-            for ReleaseItem { key, value } in items.as_slice() {
-                shown.push_str(" ")?;
-                shown.push_str(key_text(*key))?;
-                shown.push_str(":")?;
-                write_bytes(shown, value.as_bytes())?;
-            }
-        }
-        Pin::Origin(host) => {
-            shown.push_str(" from:")?;
-            write_bytes(shown, host.as_bytes())?;
-        }
+        Pin::VersionBeginning(beginning) => write_part(shown, b" begins:", beginning.as_bytes()),
+        Pin::Version(version) => write_part(shown, b" is:", version.as_bytes()),
+        Pin::Release(items) => write_items(shown, items.as_slice()),
+        Pin::Origin(host) => write_part(shown, b" from:", host.as_bytes()),
+    }
+}
+
+fn write_priority(alloc: Global, shown: &mut Vec<u8>, priority: i32) -> Result<(), AllocError> {
+    let priority = format!(in alloc; " {priority};")?;
+    shown.extend_from_slice(priority.as_bytes())
+}
+
+// The records, each as its names, its pin and its priority, with a `;` behind it.
+fn write_records(
+    alloc: Global,
+    shown: &mut Vec<u8>,
+    records: &[Preference],
+) -> Result<(), AllocError> {
+    for record in records {
+        write_names(shown, &record.names)?;
+        write_pin(shown, &record.pin)?;
+        write_priority(alloc, shown, record.priority)?;
     }
     Ok(())
 }
 
-/// The records, each as its names, its pin and its priority, with a `;` behind it; or the refusal as it is printed.
-fn shown(alloc: Global, text: &[u8]) -> Result<String, Fail> {
-    let prefs = match Prefs::read(alloc, text, None) {
-        Ok(prefs) => prefs,
-        Err(error) => return Ok(format!(in alloc; "{error}")?),
-    };
-    let mut shown = String::new(alloc);
-    for record in prefs.records() {
-        write_names(&mut shown, &record.names)?;
-        write_pin(&mut shown, &record.pin)?;
-        let priority = format!(in alloc; " {};", record.priority)?;
-        shown.push_str(priority.as_str())?;
+fn are_spelled(alloc: Global, records: &[Preference], wanted: &str) -> Result<bool, AllocError> {
+    let mut shown = Vec::new(alloc);
+    write_records(alloc, &mut shown, records)?;
+    Ok(shown.as_slice() == wanted.as_bytes())
+}
+
+// Whether the records of the text, or the refusal as it is printed, are these.
+fn is_read_as(alloc: Global, text: &[u8], wanted: &str) -> Result<bool, AllocError> {
+    match Prefs::read(alloc, text, None) {
+        Ok(prefs) => are_spelled(alloc, prefs.records(), wanted),
+        Err(error) => is_printed(alloc, &error, wanted),
     }
-    Ok(shown)
 }
 
 // The text before the arrow is read or refused as is said behind it.
-fn is_read(alloc: Global, row: &str) -> Result<bool, Fail> {
+fn is_read(alloc: Global, row: &str) -> Result<bool, AllocError> {
     let Some((text, wanted)) = row.split_once('→') else {
         return Ok(false);
     };
-    Ok(shown(alloc, unescaped(alloc, text)?.as_slice())?.as_str() == wanted)
+    is_read_as(alloc, unescaped(alloc, text)?.as_slice(), wanted)
 }
 
-fn assert_rows<R: Abort + AllocGlobal>(rt: &R, rows: &str) -> Result<(), Fail> {
+fn assert_rows<R: Abort + AllocGlobal>(rt: &R, rows: &str) -> Result<(), AllocError> {
     for row in rows.lines() {
         assert!(rt; is_read(rt.alloc(), row)?, "{row}");
     }
@@ -107,7 +112,7 @@ pin-priority: 5$PIN: version 1$package: a$→/a is:1 5;
 ";
 
 #[test]
-fn each_stanza_is_a_record(rt: HostRuntime) -> Result<(), Fail> {
+fn each_stanza_is_a_record(rt: HostRuntime) -> Result<(), AllocError> {
     assert_rows(&rt, RECORDS)
 }
 
@@ -131,7 +136,7 @@ Package: a\x0bb$Pin: version 1$Pin-Priority: 5→E11 BadPin 1
 ";
 
 #[test]
-fn the_names_are_a_star_or_names(rt: HostRuntime) -> Result<(), Fail> {
+fn the_names_are_a_star_or_names(rt: HostRuntime) -> Result<(), AllocError> {
     assert_rows(&rt, NAMES)
 }
 
@@ -154,7 +159,7 @@ Package: a$Pin:$Pin-Priority: 5→E11 BadPin 2
 ";
 
 #[test]
-fn a_version_pin_has_a_version_or_its_beginning(rt: HostRuntime) -> Result<(), Fail> {
+fn a_version_pin_has_a_version_or_its_beginning(rt: HostRuntime) -> Result<(), AllocError> {
     assert_rows(&rt, VERSIONS)
 }
 
@@ -179,7 +184,7 @@ Package: *$Pin: release a=x,$ n=y$Pin-Priority: 5→E11 BadPin 2
 ";
 
 #[test]
-fn a_release_pin_has_items(rt: HostRuntime) -> Result<(), Fail> {
+fn a_release_pin_has_items(rt: HostRuntime) -> Result<(), AllocError> {
     assert_rows(&rt, RELEASES)
 }
 
@@ -199,7 +204,7 @@ Package: *$Pin: origin \"a$ \"$Pin-Priority: 5→E11 BadPin 2
 ";
 
 #[test]
-fn an_origin_pin_has_a_host(rt: HostRuntime) -> Result<(), Fail> {
+fn an_origin_pin_has_a_host(rt: HostRuntime) -> Result<(), AllocError> {
     assert_rows(&rt, HOSTS)
 }
 
@@ -225,7 +230,7 @@ Package: a$Pin: version 1$Pin-Priority: 7.5→E11 BadPin 3
 ";
 
 #[test]
-fn a_priority_is_a_number_of_two_bytes(rt: HostRuntime) -> Result<(), Fail> {
+fn a_priority_is_a_number_of_two_bytes(rt: HostRuntime) -> Result<(), AllocError> {
     assert_rows(&rt, PRIORITIES)
 }
 
@@ -249,6 +254,6 @@ Package: a$Pin: version 1$Pin-Priority: 5$$Package: a$Pin: x$Pin-Priority: 5$$Pa
 ";
 
 #[test]
-fn the_first_refusal_is_answered(rt: HostRuntime) -> Result<(), Fail> {
+fn the_first_refusal_is_answered(rt: HostRuntime) -> Result<(), AllocError> {
     assert_rows(&rt, ORDER)
 }

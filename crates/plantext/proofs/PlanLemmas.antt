@@ -25,8 +25,7 @@ put_steps_more steps step (Err fault) = refl
 -- the refusal of a line is the refusal of all
 pub line_refused : (e : PlanError) (steps : List Step) (read : Result Step PlanFault) (later : Result (List Step) PlanFault)
     → IsPlanFault e read → IsPlanFault e (put_steps steps (put_step read later))
-line_refused (error.BadPlan line) steps read later h = rw h refl
-line_refused error.TooLarge steps read later h = rw h refl
+line_refused (error.Refused fault) steps read later h = rw h refl
 line_refused error.OutOfMemory steps read later h = tt
 
 -- the steps behind those so far, of a text that begins with a line

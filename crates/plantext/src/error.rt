@@ -1,7 +1,6 @@
 // Why the text of a plan wasn't read.
 
-ghost use Rattle.plantext.specs.Error.{plan_error_of};
-ghost use Rattle.plantext.specs.declared.error.PlanError.TheVariants.{OutOfMemory};
+ghost use Rattle.plantext.specs.declared.error.PlanError.TheVariants.{OutOfMemory, Refused};
 ghost use Rattle.std.specs.Prelude.{◌≡◌};
 
 use std::alloc::{AllocError, AllocFailed};
@@ -21,25 +20,19 @@ pub enum PlanFault {
 /// Why the text of a plan wasn't read.
 #[derive(Clone, Copy, Debug, PartialEq, Eq, Error)]
 pub enum PlanError {
-    /// The line of this number, counted from 1, isn't what the format says, or lacks its newline.
-    #[error("E18 BadPlan {0}")]
-    BadPlan(usize),
-    /// The text is too long, or has a step too many.
-    #[error("E10 TooLarge")]
-    TooLarge,
+    /// The text is refused.
+    #[error("{0}")]
+    Refused(PlanFault),
     /// A growth was refused.
     #[error("E1 OutOfMemory")]
     OutOfMemory,
 }
 
 impl From<PlanFault> for PlanError {
-    ghost from_gives = { λ fault e. e ≡ plan_error_of fault };
+    ghost from_gives = { λ fault e. e ≡ Refused fault };
 
     fn from(fault: PlanFault) -> PlanError {
-        match fault {
-            PlanFault::BadPlan(line) => PlanError::BadPlan(line),
-            PlanFault::TooLarge => PlanError::TooLarge,
-        }
+        PlanError::Refused(fault)
     }
 }
 

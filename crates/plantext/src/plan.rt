@@ -9,7 +9,8 @@ ghost use Rattle.plantext.specs.Plan as Spec;
 ghost use Rattle.plantext.specs.Plan.{header, only_line, read_plan, read_step, read_steps, step_in_line};
 ghost use Rattle.rules.specs.declared.limits.TheConstants.{STEPS, TEXT_BYTES};
 ghost use Rattle.plantext.specs.declared.cut.TheConstants.{NEWLINE};
-ghost use Rattle.plantext.specs.declared.error.PlanError.TheVariants.{TooLarge};
+ghost use Rattle.plantext.specs.declared.error.PlanError.TheVariants.{Refused};
+ghost use Rattle.plantext.specs.declared.error.PlanFault.TheVariants.{TooLarge};
 
 use crate::cut::{NEWLINE, cut_part, split_part};
 use crate::error::{PlanError, PlanFault};
@@ -31,10 +32,10 @@ fn step_in_line(alloc: Global, number: usize, line: &[u8]) -> Result<Step, PlanE
     ensures within { OnOk result (number ≤ STEPS) }
 {
     let Some(step) = step_of(alloc, line)? else {
-        return Err(PlanError::BadPlan(number + 1));
+        return Err(PlanError::Refused(PlanFault::BadPlan(number + 1)));
     };
     if number > STEPS {
-        return Err(PlanError::TooLarge);
+        return Err(PlanError::Refused(PlanFault::TooLarge));
     }
     Ok(step)
 }
@@ -71,17 +72,17 @@ fn read_steps(alloc: Global, lines: &[u8]) -> Result<Vec<Step>, PlanError>
 pub fn read_plan(alloc: Global, text: &[u8]) -> Result<Vec<Step>, PlanError>
     ensures ok { IfOk result (λ steps. read_plan text.now ≡ Ok steps.items) }
     ensures err { IfErr result (λ e. IsPlanFault e (read_plan text.now)) }
-    ensures too_long { TEXT_BYTES < length text.now → result ≡ Err TooLarge }
+    ensures too_long { TEXT_BYTES < length text.now → result ≡ Err (Refused TooLarge) }
 {
     if text.len() > TEXT_BYTES {
-        return Err(PlanError::TooLarge);
+        return Err(PlanError::Refused(PlanFault::TooLarge));
     }
     let (first, left) = cut_part(NEWLINE, text);
     if !is_header(first) {
-        return Err(PlanError::BadPlan(1));
+        return Err(PlanError::Refused(PlanFault::BadPlan(1)));
     }
     match left {
-        None => Err(PlanError::BadPlan(1)),
+        None => Err(PlanError::Refused(PlanFault::BadPlan(1))),
         Some(lines) => read_steps(alloc, lines),
     }
 }
@@ -104,16 +105,16 @@ fn only_line(text: &[u8]) -> Option<&[u8]>
 pub fn read_step(alloc: Global, text: &[u8]) -> Result<Step, PlanError>
     ensures ok { IfOk result (λ step. read_step text.now ≡ Ok step) }
     ensures err { IfErr result (λ e. IsPlanFault e (read_step text.now)) }
-    ensures too_long { TEXT_BYTES < length text.now → result ≡ Err TooLarge }
+    ensures too_long { TEXT_BYTES < length text.now → result ≡ Err (Refused TooLarge) }
 {
     if text.len() > TEXT_BYTES {
-        return Err(PlanError::TooLarge);
+        return Err(PlanError::Refused(PlanFault::TooLarge));
     }
     let Some(line) = only_line(text) else {
-        return Err(PlanError::BadPlan(1));
+        return Err(PlanError::Refused(PlanFault::BadPlan(1)));
     };
     match step_of(alloc, line)? {
-        None => Err(PlanError::BadPlan(1)),
+        None => Err(PlanError::Refused(PlanFault::BadPlan(1))),
         Some(step) => Ok(step),
     }
 }

@@ -1,6 +1,6 @@
 //! Plans of every action, from the status file on. The verdicts follow from the rules of actions in Debian Policy, chapter
 //! 7, the states in dpkg(1), and what Policy 5.6.9 says of essential packages.
-use crate::scenario::holds_over_start;
+use crate::scenario::all_hold_over_start;
 use std::test::Fail;
 
 // Packages that depend on each other are configured together, and whatever could be configured by itself isn't among them.
@@ -48,10 +48,5 @@ Package: o$Status: hold ok config-files$→→→plan 1$purge o$→1 no step 1 F
 
 #[test]
 fn every_action_is_judged_when_its_turn_comes(rt: HostRuntime) -> Result<(), Fail> {
-    for table in &[GROUPS, DECONFIGURED, REMOVED, PURGED] {
-        for row in table.lines() {
-            assert!(rt; holds_over_start(rt.alloc(), row)?, "{row}");
-        }
-    }
-    Ok(())
+    all_hold_over_start(rt.alloc(), &[GROUPS, DECONFIGURED, REMOVED, PURGED])
 }

@@ -55,15 +55,23 @@ const REFUSALS: &str = "\
 
 fn holds(alloc: Global, row: &str) -> Result<bool, Fail> {
     let mut answer = row;
-    candidate_of(alloc, &mut answer)?.is(alloc, answer)
+    let printed = candidate_of(alloc, &mut answer)?;
+    Ok(printed.is(alloc, answer)?)
+}
+
+// Fails with the first row of these tables that doesn't hold.
+fn all_hold(alloc: Global, tables: &[&str]) -> Result<(), Fail> {
+    for table in tables {
+        for row in table.lines() {
+            if !holds(alloc, row)? {
+                return Err(Fail::new(row));
+            }
+        }
+    }
+    Ok(())
 }
 
 #[test]
 fn a_candidate_is_named_with_its_priority(rt: HostRuntime) -> Result<(), Fail> {
-    for table in &[PRIORITIES, OWN_RULES, NAMES, REFUSALS] {
-        for row in table.lines() {
-            assert!(rt; holds(rt.alloc(), row)?, "{row}");
-        }
-    }
-    Ok(())
+    all_hold(rt.alloc(), &[PRIORITIES, OWN_RULES, NAMES, REFUSALS])
 }

@@ -4,7 +4,7 @@
 //! Debian Policy, chapter 7, dpkg(1) and docs/DECISIONS.md; then what our actions leave of the steps that dpkg carried
 //! out, where it is something else; and last, where the two differ, the decision in docs/DECISIONS.md that says why.
 //! dpkg knows no request and no end of a plan, so `no end` is no difference.
-use crate::left::is_left_by;
+use crate::left::{Sequence, is_left_by};
 use crate::scenario::{holds_over_start, next_column};
 use std::alloc::Global;
 use std::test::Fail;
@@ -236,11 +236,16 @@ const TABLES: [&str; 10] = [
 ];
 
 #[derive(Drop)]
-struct Row<'r> {
+struct Texts<'r> {
     status: &'r str,
     index: &'r str,
     request: &'r str,
     plan: &'r str,
+}
+
+#[derive(Drop)]
+struct Row<'r> {
+    texts: Texts<'r>,
     by_dpkg: &'r str,
     left_by_dpkg: &'r str,
     verdict: &'r str,
@@ -248,13 +253,19 @@ struct Row<'r> {
     decision: &'r str,
 }
 
+fn texts_of<'r>(rest: &mut &'r str) -> Result<Texts<'r>, Fail> {
+    Ok(Texts {
+        status: next_column(rest)?,
+        index: next_column(rest)?,
+        request: next_column(rest)?,
+        plan: next_column(rest)?,
+    })
+}
+
 fn row_of(line: &str) -> Result<Row<'_>, Fail> {
     let mut rest = line;
     Ok(Row {
-        status: next_column(&mut rest)?,
-        index: next_column(&mut rest)?,
-        request: next_column(&mut rest)?,
-        plan: next_column(&mut rest)?,
+        texts: texts_of(&mut rest)?,
         by_dpkg: next_column(&mut rest)?,
         left_by_dpkg: next_column(&mut rest)?,
         verdict: next_column(&mut rest)?,
@@ -265,11 +276,15 @@ fn row_of(line: &str) -> Result<Row<'_>, Fail> {
 
 // Whether the plan is judged so.
 fn is_judged(alloc: Global, row: &Row<'_>) -> Result<bool, Fail> {
-    let status = if row.verdict == "yes" { "0" } else { "1" };
-    let scenario = format!(in alloc;
-        "{}→{}→{}→{}→{status} {}$|",
-        row.status, row.index, row.request, row.plan, row.verdict
-    )?;
+    let exit = if row.verdict == "yes" { "0" } else { "1" };
+    let Texts {
+        status,
+        index,
+        request,
+        plan,
+    } = &row.texts;
+    let verdict = row.verdict;
+    let scenario = format!(in alloc; "{status}→{index}→{request}→{plan}→{exit} {verdict}$|")?;
     holds_over_start(alloc, scenario.as_str())
 }
 
@@ -288,8 +303,14 @@ fn is_left(alloc: Global, row: &Row<'_>) -> Result<bool, Fail> {
     } else {
         row.left_otherwise
     };
-    let texts = (row.status, row.index, row.plan);
-    is_left_by(alloc, texts, count_of_carried_out(row)?, left)
+    let texts = &row.texts;
+    let sequence = Sequence {
+        status: texts.status,
+        index: texts.index,
+        plan: texts.plan,
+        count: count_of_carried_out(row)?,
+    };
+    is_left_by(alloc, &sequence, left)
 }
 
 // Whether the verdict on the steps is dpkg's.
@@ -303,35 +324,53 @@ fn agrees(row: &Row<'_>) -> bool {
     }
 }
 
-#[test]
-fn plans_are_judged_as_counted_by_hand(rt: HostRuntime) -> Result<(), Fail> {
+// Whether a difference from dpkg has a decision that says why, and nothing else has one.
+fn is_named(row: &Row<'_>) -> bool {
+    let is_same = agrees(row) && row.left_otherwise.is_empty();
+    is_same == row.decision.is_empty()
+}
+
+/// What is asked of a row.
+#[derive(Clone, Copy)]
+enum Question {
+    IsJudged,
+    IsLeft,
+    IsNamed,
+}
+
+fn holds(alloc: Global, asked: Question, line: &str) -> Result<bool, Fail> {
+    let row = row_of(line)?;
+    match asked {
+        Question::IsJudged => is_judged(alloc, &row),
+        Question::IsLeft => is_left(alloc, &row),
+        Question::IsNamed => Ok(is_named(&row)),
+    }
+}
+
+// Fails with the first row of which it doesn't hold.
+fn all_hold(alloc: Global, asked: Question) -> Result<(), Fail> {
     for table in TABLES {
         for line in table.lines() {
-            assert!(rt; is_judged(rt.alloc(), &row_of(line)?)?, "{line}");
+            if !holds(alloc, asked, line)? {
+                return Err(Fail::new(line));
+            }
         }
     }
     Ok(())
 }
 
 #[test]
+fn plans_are_judged_as_counted_by_hand(rt: HostRuntime) -> Result<(), Fail> {
+    all_hold(rt.alloc(), Question::IsJudged)
+}
+
+#[test]
 fn actions_leave_what_dpkg_leaves_or_what_is_named(rt: HostRuntime) -> Result<(), Fail> {
-    for table in TABLES {
-        for line in table.lines() {
-            assert!(rt; is_left(rt.alloc(), &row_of(line)?)?, "{line}");
-        }
-    }
-    Ok(())
+    all_hold(rt.alloc(), Question::IsLeft)
 }
 
 // A row names a decision exactly where dpkg answers otherwise or leaves something else.
 #[test]
 fn each_difference_is_named(rt: HostRuntime) -> Result<(), Fail> {
-    for table in TABLES {
-        for line in table.lines() {
-            let row = row_of(line)?;
-            let is_same = agrees(&row) && row.left_otherwise.is_empty();
-            assert!(rt; is_same == row.decision.is_empty(), "{line}");
-        }
-    }
-    Ok(())
+    all_hold(rt.alloc(), Question::IsNamed)
 }

@@ -1,6 +1,6 @@
 //! Goals of each kind, from the status file on (apt-get(8) has most of them), and what the preferences and the target
 //! release make of them. What is met at the end follows from Debian Policy, chapter 7, and dpkg(1).
-use crate::scenario::{holds_over_start, holds_with_options};
+use crate::scenario::{all_hold_over_start, all_hold_with_options};
 use std::test::Fail;
 
 // An upgrade asks for the candidate, which has to be there.
@@ -53,13 +53,6 @@ Package: foo$Status: install ok installed$Version: 2$Architecture: all$→File: 
 
 #[test]
 fn a_goal_of_each_kind_is_met_or_named(rt: HostRuntime) -> Result<(), Fail> {
-    for table in &[UPGRADES, REMOVALS, SEVERAL] {
-        for row in table.lines() {
-            assert!(rt; holds_over_start(rt.alloc(), row)?, "{row}");
-        }
-    }
-    for row in PREFERRED.lines() {
-        assert!(rt; holds_with_options(rt.alloc(), row)?, "{row}");
-    }
-    Ok(())
+    all_hold_over_start(rt.alloc(), &[UPGRADES, REMOVALS, SEVERAL])?;
+    all_hold_with_options(rt.alloc(), &[PREFERRED])
 }

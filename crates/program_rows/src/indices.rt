@@ -1,5 +1,5 @@
 //! Several indices, and the relation fields of their packages (Debian Policy 7.3 to 7.5, apt_preferences(5)).
-use crate::scenario::{holds_over_one, holds_over_two};
+use crate::scenario::{all_hold_over_one, all_hold_over_two};
 use std::test::Fail;
 
 // The mail is provided by `x` without a version and by `y` as 2, and `z` is of another architecture.
@@ -31,13 +31,6 @@ Package: a$Version: 1$Architecture: all$Depends: b$$Package: b$Version: 1$Archit
 
 #[test]
 fn packages_of_all_indices_count_with_every_relation_field(rt: HostRuntime) -> Result<(), Fail> {
-    for table in &[PROVIDES, PRIORITIES] {
-        for row in table.lines() {
-            assert!(rt; holds_over_two(rt.alloc(), row)?, "{row}");
-        }
-    }
-    for row in FIELDS.lines() {
-        assert!(rt; holds_over_one(rt.alloc(), row)?, "{row}");
-    }
-    Ok(())
+    all_hold_over_two(rt.alloc(), &[PROVIDES, PRIORITIES])?;
+    all_hold_over_one(rt.alloc(), &[FIELDS])
 }

@@ -3,11 +3,12 @@ ghost use Rattle.std.specs.Prelude.{None, Some, bytes_eq, if◌then◌else◌};
 
 use crate::memory::Memory;
 use cli::{
-    Arguments, Exit, Fault, Host, Options, Outcome, Place, Query, ReadError, candidate_line,
-    check_plan, exit_of_candidate, exit_of_refusal, exit_of_verdict, find_candidate,
-    outcome_of_answer, outcome_of_candidate, verdict_line,
+    Arguments, Exit, Fault, Host, Options, Outcome, Place, Query, ReadError, Refusal,
+    candidate_line, check_plan, exit_of_candidate, exit_of_refusal, exit_of_verdict,
+    find_candidate, outcome_of_answer, outcome_of_candidate, verdict_line,
 };
-use std::alloc::Global;
+use rules::Verdict;
+use std::alloc::{AllocError, Global};
 use std::test::Fail;
 
 /// A host that has one file, which a contract knows.
@@ -96,18 +97,25 @@ fn a_candidate_is_printed_as_an_answer(rt: HostRuntime) -> Result<(), Fail> {
     Ok(())
 }
 
+fn are_sources_unread(refusal: &Refusal) -> bool {
+    refusal.place == Place::Sources
+        && matches!(refusal.fault, Fault::Read)
+        && exit_of_refusal(refusal) == Exit::Device
+}
+
+fn is_complaint(alloc: Global, answer: &Result<Verdict, Refusal>) -> Result<bool, AllocError> {
+    let outcome = outcome_of_answer(alloc, answer)?;
+    Ok(matches!(&outcome, Outcome::Complaint(_, Exit::Device)))
+}
+
 #[test]
 fn a_refusal_is_printed_as_a_complaint(rt: HostRuntime) -> Result<(), Fail> {
-    let alloc = rt.alloc();
     let mut host = OneFile {
         path: b"status",
         text: b"",
     };
-    let answer = check_plan(alloc, &mut host, &PATHS);
-    let outcome = outcome_of_answer(alloc, &answer)?;
-    let refusal = answer.err().ok_or("a refusal")?;
-    assert!(rt; refusal.place == Place::Sources && matches!(refusal.fault, Fault::Read));
-    assert!(rt; exit_of_refusal(&refusal) == Exit::Device);
-    assert!(rt; matches!(&outcome, Outcome::Complaint(_, Exit::Device)));
+    let answer = check_plan(rt.alloc(), &mut host, &PATHS);
+    assert!(rt; matches!(&answer, Err(refusal) if are_sources_unread(refusal)));
+    assert!(rt; is_complaint(rt.alloc(), &answer)?);
     Ok(())
 }

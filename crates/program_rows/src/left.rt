@@ -1,4 +1,5 @@
 //! What the steps of a plan leave of a status file.
+use debversion::Version;
 use plantext::read_plan;
 use rows::unescaped;
 use rules::{State, Step};
@@ -34,16 +35,8 @@ fn take<'a>(db: &mut Database<'a>, index: &'a [u8], step: &Step) -> Result<(), F
     }
 }
 
-// Takes so many steps of a plan.
-fn take_first<'a>(
-    alloc: Global,
-    db: &mut Database<'a>,
-    index: &'a [u8],
-    plan: &[u8],
-    count: usize,
-) -> Result<(), Fail> {
-    let steps = read_plan(alloc, plan)?;
-    for step in steps.iter().take(count) {
+fn take_all<'a>(db: &mut Database<'a>, index: &'a [u8], steps: &[Step]) -> Result<(), Fail> {
+    for step in steps {
         take(db, index, step)?;
     }
     Ok(())
@@ -61,23 +54,28 @@ fn word_of(state: State) -> &'static str {
     }
 }
 
+fn push_version(shown: &mut String, mark: &str, version: &Option<Version<'_>>) -> Result<(), Fail> {
+    if let Some(version) = version {
+        write!(shown, " {mark}{}", str::from_utf8(version.text())?)?;
+    }
+    Ok(())
+}
+
 // A record as a row has it. An installed package is configured in its version, and so no other one is written.
 fn shown(alloc: Global, record: &Record<'_>) -> Result<String, Fail> {
-    let mut shown = String::from_str(alloc, str::from_utf8(record.name())?)?;
-    write!(shown, " {}", word_of(record.state()))?;
-    if let Some(version) = record.version() {
-        write!(shown, " {}", str::from_utf8(version.text())?)?;
-    }
-    if let (false, Some(version)) = (record.is_installed(), record.config_version()) {
-        write!(shown, " config {}", str::from_utf8(version.text())?)?;
+    let name = str::from_utf8(record.name())?;
+    let mut shown = format!(in alloc; "{name} {}", word_of(record.state()))?;
+    push_version(&mut shown, "", record.version())?;
+    if !record.is_installed() {
+        push_version(&mut shown, "config ", record.config_version())?;
     }
     Ok(shown)
 }
 
 // The records of the names that are there.
-fn shown_of(alloc: Global, db: &Database<'_>) -> Result<Vec<String>, Fail> {
+fn shown_of(alloc: Global, records: &[&Record<'_>]) -> Result<Vec<String>, Fail> {
     let mut there = Vec::new(alloc);
-    for record in db.records(alloc)? {
+    for record in records {
         if !matches!(record.state(), State::NotInstalled) {
             there.push(shown(alloc, record)?)?;
         }
@@ -85,45 +83,61 @@ fn shown_of(alloc: Global, db: &Database<'_>) -> Result<Vec<String>, Fail> {
     Ok(there)
 }
 
-// Whether these are the records of the names that are there, in whichever order, with commas between them.
+// Whether these are the items of a list with commas between them, in whichever order.
+fn are_listed(there: &[String], list: &str) -> bool {
+    let count = list.split(", ").count();
+    count == there.len()
+        && list
+            .split(", ")
+            .all(|item| there.iter().any(|record| record.as_str() == item))
+}
+
+// Whether these are the records of the names that are there.
 fn is_left(alloc: Global, db: &Database<'_>, left: &str) -> Result<bool, Fail> {
-    let there = shown_of(alloc, db)?;
+    let records = db.records(alloc)?;
+    let there = shown_of(alloc, records.as_slice())?;
     if left == "nothing" {
         return Ok(there.is_empty());
     }
-    let mut listed = Vec::new(alloc);
-    for item in left.split(", ") {
-        if !there.iter().any(|record| record.as_str() == item) {
-            return Ok(false);
-        }
-        listed.push(item)?;
-    }
-    Ok(listed.len() == there.len())
+    Ok(are_listed(there.as_slice(), left))
 }
 
-/// Whether this is what the first steps of a plan leave of a status file.
-pub(crate) fn is_left_by(
-    alloc: Global,
-    texts: (&str, &str, &str),
-    count: usize,
-    left: &str,
-) -> Result<bool, Fail> {
-    let (status, index, plan) = texts;
-    let status = unescaped(alloc, status)?;
-    let index = unescaped(alloc, index)?;
-    let plan = unescaped(alloc, plan)?;
-    let texts = (status.as_slice(), index.as_slice(), plan.as_slice());
-    is_left_by_texts(alloc, texts, count, left)
+/// The first steps of a plan from a status file on, with the index that they unpack from. `$` stands for a newline.
+#[derive(Drop)]
+pub(crate) struct Sequence<'r> {
+    pub(crate) status: &'r str,
+    pub(crate) index: &'r str,
+    pub(crate) plan: &'r str,
+    pub(crate) count: usize,
 }
 
-fn is_left_by_texts(
+/// Whether this is what a sequence leaves.
+pub(crate) fn is_left_by(alloc: Global, sequence: &Sequence<'_>, left: &str) -> Result<bool, Fail> {
+    let plan = unescaped(alloc, sequence.plan)?;
+    let steps = read_plan(alloc, plan.as_slice())?;
+    let count = sequence.count.min(steps.len());
+    is_left_by_steps(alloc, sequence, steps.as_slice().split_at(count).0, left)
+}
+
+fn is_left_by_steps(
     alloc: Global,
-    texts: (&[u8], &[u8], &[u8]),
-    count: usize,
+    sequence: &Sequence<'_>,
+    steps: &[Step],
     left: &str,
 ) -> Result<bool, Fail> {
-    let (status, index, plan) = texts;
+    let status = unescaped(alloc, sequence.status)?;
+    let index = unescaped(alloc, sequence.index)?;
+    is_left_of(alloc, status.as_slice(), index.as_slice(), steps, left)
+}
+
+fn is_left_of(
+    alloc: Global,
+    status: &[u8],
+    index: &[u8],
+    steps: &[Step],
+    left: &str,
+) -> Result<bool, Fail> {
     let mut db = Database::read(alloc, status, ARCH)?;
-    take_first(alloc, &mut db, index, plan, count)?;
+    take_all(&mut db, index, steps)?;
     is_left(alloc, &db, left)
 }

@@ -1,6 +1,6 @@
 //! Which packages satisfy an atom (Debian Policy 7.1 and 7.5): those of its name whose version meets the restriction, and
 //! those that provide the name, where there is a restriction in a version that meets it.
-use crate::scenario::holds_over_one;
+use crate::scenario::all_hold_over_one;
 use std::test::Fail;
 
 // `bar (>= 1.0)` is satisfied by what provides `bar` as 1.0, whatever its own version, and neither by what provides it
@@ -41,10 +41,5 @@ Package: t$Version: 1$Architecture: all$Depends: v (= 2)$$Package: u$Version: 1$
 
 #[test]
 fn an_atom_is_satisfied_by_name_or_by_what_is_provided(rt: HostRuntime) -> Result<(), Fail> {
-    for table in &[PROVIDED, RESTRICTIONS] {
-        for row in table.lines() {
-            assert!(rt; holds_over_one(rt.alloc(), row)?, "{row}");
-        }
-    }
-    Ok(())
+    all_hold_over_one(rt.alloc(), &[PROVIDED, RESTRICTIONS])
 }

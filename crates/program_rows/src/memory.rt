@@ -106,13 +106,22 @@ pub(crate) struct Printed {
 
 impl Printed {
     /// Whether this was printed: the exit status, standard output, a bar, and standard error.
-    pub(crate) fn is(&self, alloc: Global, wanted: &str) -> Result<bool, Fail> {
-        let mut shown = Vec::new(alloc);
-        shown.extend_from_slice(format!(in alloc; "{} ", self.status)?.as_bytes())?;
-        shown.extend_from_slice(self.out.as_slice())?;
-        shown.push(b'|')?;
-        shown.extend_from_slice(self.err.as_slice())?;
-        Ok(shown.as_slice() == unescaped(alloc, wanted)?.as_slice())
+    pub(crate) fn is(&self, alloc: Global, wanted: &str) -> Result<bool, AllocError> {
+        let wanted = unescaped(alloc, wanted)?;
+        Ok(self.is_spelled(wanted.as_slice()))
+    }
+
+    // An exit status has one digit.
+    fn is_spelled(&self, wanted: &[u8]) -> bool {
+        let [digit, b' ', written @ ..] = wanted else {
+            return false;
+        };
+        match written.strip_prefix(self.out.as_slice()) {
+            Some([b'|', refused @ ..]) => {
+                self.status.checked_add(b'0') == Some(*digit) && refused == self.err.as_slice()
+            }
+            _ => false,
+        }
     }
 }
 

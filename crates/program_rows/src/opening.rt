@@ -1,7 +1,7 @@
 //! In which order files are opened, and what is refused where one can't be read.
-use crate::memory::{Memory, run_line};
-use crate::scenario::{CANDIDATE, CHECK_PLAN, next_column};
-use std::alloc::Global;
+use crate::memory::Memory;
+use crate::scenario::{CANDIDATE, CHECK_PLAN, is_answered, next_column};
+use std::alloc::{AllocError, Global};
 use std::test::Fail;
 
 // The files of every run, but for one that may be missing, and one whose text may be refused at its first line.
@@ -79,36 +79,55 @@ fn host_of<'a>(
     Ok(host)
 }
 
-// Whether a row holds of the command with this behind it.
-fn holds(alloc: Global, command: &str, rest_of_line: &str, row: &str) -> Result<bool, Fail> {
+// Whether the command line opens these files and prints this.
+fn is_run(
+    alloc: Global,
+    host: &mut Memory<'_>,
+    line: &str,
+    opened: &str,
+    answer: &str,
+) -> Result<bool, AllocError> {
+    let is_printed = is_answered(alloc, line, host, answer)?;
+    Ok(is_printed && host.opened() == opened.as_bytes())
+}
+
+// Whether a row holds of this command line.
+fn holds(alloc: Global, line: &str, row: &str) -> Result<bool, Fail> {
     let mut rest = row;
     let missing = next_column(&mut rest)?;
     let refused = next_column(&mut rest)?;
     let opened = next_column(&mut rest)?;
     let mut host = host_of(alloc, FILES, missing, refused)?;
+    Ok(is_run(alloc, &mut host, line, opened, rest)?)
+}
+
+// Fails with the first row that doesn't hold of the command with this behind it.
+fn all_hold(alloc: Global, command: &str, rest_of_line: &str, rows: &str) -> Result<(), Fail> {
     let line = format!(in alloc; "{command}{rest_of_line}")?;
-    let printed = run_line(alloc, line.as_str(), &mut host)?;
-    Ok(host.opened() == opened.as_bytes() && printed.is(alloc, rest)?)
+    for row in rows.lines() {
+        if !holds(alloc, line.as_str(), row)? {
+            return Err(Fail::new(row));
+        }
+    }
+    Ok(())
 }
 
 #[test]
 fn files_are_opened_at_their_turn_and_indices_once_more_where_one_is_refused(
     rt: HostRuntime,
 ) -> Result<(), Fail> {
-    for row in RUNS.lines() {
-        assert!(rt; holds(rt.alloc(), CHECK_PLAN, "", row)?, "{row}");
-    }
-    for row in PREFERRED_RUNS.lines() {
-        assert!(rt;
-            holds(rt.alloc(), CHECK_PLAN, " --preferences preferences", row)?,
-            "{row}"
-        );
-    }
-    for row in CANDIDATE_RUNS.lines() {
-        assert!(rt;
-            holds(rt.alloc(), CANDIDATE, " --preferences preferences a", row)?,
-            "{row}"
-        );
-    }
-    Ok(())
+    let alloc = rt.alloc();
+    all_hold(alloc, CHECK_PLAN, "", RUNS)?;
+    all_hold(
+        alloc,
+        CHECK_PLAN,
+        " --preferences preferences",
+        PREFERRED_RUNS,
+    )?;
+    all_hold(
+        alloc,
+        CANDIDATE,
+        " --preferences preferences a",
+        CANDIDATE_RUNS,
+    )
 }

@@ -1,5 +1,5 @@
 //! Plans that are judged. The verdicts follow from the rules of actions in Debian Policy, chapter 7.
-use crate::scenario::{holds_over_one, holds_over_two};
+use crate::scenario::{all_hold_over_one, all_hold_over_two};
 use std::test::Fail;
 
 const STEPS: &str = "\
@@ -30,13 +30,6 @@ File: index1$#c$explanation: x$Explanation: y$→Package: a$Version: 1$Architect
 
 #[test]
 fn a_plan_is_judged_step_by_step_and_at_its_end(rt: HostRuntime) -> Result<(), Fail> {
-    for table in &[STEPS, GOALS, TEXTS] {
-        for row in table.lines() {
-            assert!(rt; holds_over_one(rt.alloc(), row)?, "{row}");
-        }
-    }
-    for row in REMARKS.lines() {
-        assert!(rt; holds_over_two(rt.alloc(), row)?, "{row}");
-    }
-    Ok(())
+    all_hold_over_one(rt.alloc(), &[STEPS, GOALS, TEXTS])?;
+    all_hold_over_two(rt.alloc(), &[REMARKS])
 }

@@ -1,5 +1,5 @@
 //! Texts that are refused: one line on standard error, and the exit status. Lines and offsets were counted in the row.
-use crate::scenario::{holds_over_one, holds_over_start, holds_over_two};
+use crate::scenario::{all_hold_over_one, all_hold_over_start, all_hold_over_two};
 use std::test::Fail;
 
 // A version that is none is named by its line and kind (deb-version(7)).
@@ -71,16 +71,7 @@ Package: x$Status: install ok installed$Version: 1$Architecture: all$Breaks: y |
 
 #[test]
 fn the_first_fault_of_a_text_is_named(rt: HostRuntime) -> Result<(), Fail> {
-    for table in &[VERSIONS, INDICES, REQUESTS, PLANS] {
-        for row in table.lines() {
-            assert!(rt; holds_over_one(rt.alloc(), row)?, "{row}");
-        }
-    }
-    for row in PLACES.lines() {
-        assert!(rt; holds_over_two(rt.alloc(), row)?, "{row}");
-    }
-    for row in STATUSES.lines() {
-        assert!(rt; holds_over_start(rt.alloc(), row)?, "{row}");
-    }
-    Ok(())
+    all_hold_over_one(rt.alloc(), &[VERSIONS, INDICES, REQUESTS, PLANS])?;
+    all_hold_over_two(rt.alloc(), &[PLACES])?;
+    all_hold_over_start(rt.alloc(), &[STATUSES])
 }

@@ -1,6 +1,6 @@
 //! Plans from a status file on. The verdicts follow from the rules of actions in Debian Policy, chapter 7, and the states
 //! in dpkg(1).
-use crate::scenario::holds_over_start;
+use crate::scenario::all_hold_over_start;
 use std::test::Fail;
 
 // An unpacked package satisfies Pre-Depends by its version and by the one that was configured last, or by what it
@@ -43,10 +43,5 @@ Package: a$Status: install ok installed$Version: 2$Architecture: all$→Package:
 
 #[test]
 fn a_plan_is_judged_from_the_status_file_on(rt: HostRuntime) -> Result<(), Fail> {
-    for table in &[PRE_DEPENDS, HOLDS, CONFLICTS, ENDS] {
-        for row in table.lines() {
-            assert!(rt; holds_over_start(rt.alloc(), row)?, "{row}");
-        }
-    }
-    Ok(())
+    all_hold_over_start(rt.alloc(), &[PRE_DEPENDS, HOLDS, CONFLICTS, ENDS])
 }

@@ -68,18 +68,25 @@ fn status_of<O: Write, E: Write>(
 fn an_answer_that_cannot_be_written_is_a_failure_of_the_device(
     rt: HostRuntime,
 ) -> Result<(), Fail> {
-    let alloc = rt.alloc();
-    let refusal = b"debplan: output: E26 Write\n".as_slice();
-    for room in &[0, 3] {
-        let mut err = Vec::new(alloc);
-        let status = status_of(alloc, "plan 1$", &mut Narrow { room: *room }, &mut err)?;
-        assert!(rt; status == 5 && err.as_slice() == refusal, "{room}");
+    for room in [0, 3] {
+        assert!(rt; is_failure(rt.alloc(), &mut Narrow { room })?, "{room}");
     }
+    assert!(rt; is_failure(rt.alloc(), &mut Unflushed)?);
+    Ok(())
+}
+
+// Whether the answer `yes` to this writer ends with the status of a device, and with the refusal of it.
+fn is_failure<O: Write>(alloc: Global, out: &mut O) -> Result<bool, Fail> {
     let mut err = Vec::new(alloc);
-    assert!(rt; status_of(alloc, "plan 1$", &mut Narrow { room: 4 }, &mut err)? == 0);
-    assert!(rt; err.is_empty());
-    assert!(rt; status_of(alloc, "plan 1$", &mut Unflushed, &mut err)? == 5);
-    assert!(rt; err.as_slice() == refusal);
+    let status = status_of(alloc, "plan 1$", out, &mut err)?;
+    Ok(status == 5 && err.as_slice() == b"debplan: output: E26 Write\n".as_slice())
+}
+
+#[test]
+fn an_answer_that_fits_is_written(rt: HostRuntime) -> Result<(), Fail> {
+    let mut err = Vec::new(rt.alloc());
+    let status = status_of(rt.alloc(), "plan 1$", &mut Narrow { room: 4 }, &mut err)?;
+    assert!(rt; status == 0 && err.is_empty());
     Ok(())
 }
 

@@ -1,5 +1,6 @@
 //! The words of the command line.
 use crate::memory::{Memory, Printed, run_line, run_on};
+use std::alloc::{AllocError, Global};
 use std::test::Fail;
 
 // Words that are wrong.
@@ -73,31 +74,50 @@ fn is_help(printed: &Printed) -> bool {
     printed.status == 0 && printed.err.is_empty() && !printed.out.is_empty()
 }
 
+fn print(alloc: Global, line: &str) -> Result<Printed, AllocError> {
+    run_line(alloc, line, &mut Memory::new(alloc))
+}
+
 #[test]
 fn words_that_are_wrong_are_a_usage_fault(rt: HostRuntime) -> Result<(), Fail> {
     for table in &[FAULTS, UNKNOWN] {
         for line in table.lines() {
-            let printed = run_line(rt.alloc(), line, &mut Memory::new(rt.alloc()))?;
-            assert!(rt; is_fault(&printed), "{line}");
+            if !is_fault(&print(rt.alloc(), line)?) {
+                return Err(Fail::new(line));
+            }
+        }
+    }
+    Ok(())
+}
+
+// Whether the words are taken: the first file that they name isn't there.
+fn is_taken(alloc: Global, line: &str) -> Result<bool, AllocError> {
+    print(alloc, line)?.is(alloc, "5 |debplan: status: E5 Read$")
+}
+
+#[test]
+fn words_that_are_right_are_obeyed(rt: HostRuntime) -> Result<(), Fail> {
+    for line in TAKEN.lines() {
+        if !is_taken(rt.alloc(), line)? {
+            return Err(Fail::new(line));
         }
     }
     Ok(())
 }
 
 #[test]
-fn words_that_are_right_are_obeyed(rt: HostRuntime) -> Result<(), Fail> {
-    for line in TAKEN.lines() {
-        let printed = run_line(rt.alloc(), line, &mut Memory::new(rt.alloc()))?;
-        assert!(rt;
-            printed.is(rt.alloc(), "5 |debplan: status: E5 Read$")?,
-            "{line}"
-        );
-    }
+fn help_is_printed(rt: HostRuntime) -> Result<(), Fail> {
     for line in HELP.lines() {
-        let printed = run_line(rt.alloc(), line, &mut Memory::new(rt.alloc()))?;
-        assert!(rt; is_help(&printed), "{line}");
+        if !is_help(&print(rt.alloc(), line)?) {
+            return Err(Fail::new(line));
+        }
     }
     Ok(())
+}
+
+fn is_fault_on(alloc: Global, words: &[Vec<u8>]) -> Result<bool, AllocError> {
+    let printed = run_on(alloc, words, &mut Memory::new(alloc))?;
+    Ok(is_fault(&printed))
 }
 
 // No words at all, and a word that isn't UTF-8.
@@ -105,12 +125,10 @@ fn words_that_are_right_are_obeyed(rt: HostRuntime) -> Result<(), Fail> {
 fn words_that_are_no_text_are_usage_faults(rt: HostRuntime) -> Result<(), Fail> {
     let alloc = rt.alloc();
     let mut words = Vec::new(alloc);
-    let none = run_on(alloc, words.as_slice(), &mut Memory::new(alloc))?;
-    assert!(rt; is_fault(&none));
+    assert!(rt; is_fault_on(alloc, words.as_slice())?);
     for word in &[b"debplan".as_slice(), b"compare", b"1", b"lt", b"\xff"] {
         words.push(word.to_vec(alloc)?)?;
     }
-    let printed = run_on(alloc, words.as_slice(), &mut Memory::new(alloc))?;
-    assert!(rt; is_fault(&printed));
+    assert!(rt; is_fault_on(alloc, words.as_slice())?);
     Ok(())
 }

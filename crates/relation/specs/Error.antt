@@ -5,19 +5,10 @@ use Rattle.relation.specs.declared.error.RelationError.TheVariants as error
 use Rattle.relation.specs.declared.error.RequiredField.{RequiredField}
 use Rattle.relation.specs.declared.error.RequiredField.TheVariants as required
 use Rattle.relation_text.specs.declared.error.RelationFault.{RelationFault}
-use Rattle.relation_text.specs.declared.error.RelationFault.TheVariants.{BadRelation, BadName, TooLarge}
-
--- a refusal as an error
-abbrev pub error_of : RelationFault → RelationError
-error_of (BadRelation offset) = error.BadRelation offset
-error_of (BadName offset) = error.BadName offset
-error_of TooLarge = error.TooLarge
 
 -- the error is the refusal of this reading, or want of memory
 abbrev pub IsFault : {A : Type 0} → RelationError → Result A RelationFault → Type 0
-IsFault (error.BadRelation offset) read = read ≡ Err (BadRelation offset)
-IsFault (error.BadName offset) read = read ≡ Err (BadName offset)
-IsFault error.TooLarge read = read ≡ Err TooLarge
+IsFault (error.Refused fault) read = read ≡ Err fault
 IsFault error.OutOfMemory read = ⊤
 
 -- the name of a field without which there is no package, as it is printed

@@ -118,19 +118,7 @@ read_fields arch fields = unless_fault (pkg_fault fields) (pkg_of arch fields)
 abbrev pub read_pkg : List ℕ → StanzaText → Result Pkg PkgFault
 read_pkg arch stanza = read_fields arch (fields_of stanza)
 
--- a refusal as an error
-abbrev pub pkg_error_of : PkgFault → PkgError
-pkg_error_of (MissingField line field) = error.MissingField line field
-pkg_error_of (BadVersion line kind) = error.BadVersion line kind
-pkg_error_of (BadRelation line offset) = error.BadRelation line offset
-pkg_error_of (BadName line offset) = error.BadName line offset
-pkg_error_of TooLarge = error.TooLarge
-
 -- the error is the refusal of this reading, or want of memory
 abbrev pub IsPkgFault : {A : Type 0} → PkgError → Result A PkgFault → Type 0
-IsPkgFault (error.MissingField line field) read = read ≡ Err (MissingField line field)
-IsPkgFault (error.BadVersion line kind) read = read ≡ Err (BadVersion line kind)
-IsPkgFault (error.BadRelation line offset) read = read ≡ Err (BadRelation line offset)
-IsPkgFault (error.BadName line offset) read = read ≡ Err (BadName line offset)
-IsPkgFault error.TooLarge read = read ≡ Err TooLarge
+IsPkgFault (error.Refused fault) read = read ≡ Err fault
 IsPkgFault error.OutOfMemory read = ⊤

@@ -1,7 +1,5 @@
 //! Why a value or a package wasn't read.
-ghost use Rattle.relation.specs.declared.error.RelationError.TheVariants.{OutOfMemory};
-ghost use Rattle.relation.specs.Error.{error_of};
-ghost use Rattle.relation.specs.PkgText.{pkg_error_of};
+ghost use Rattle.relation.specs.declared.error.RelationError.TheVariants as error;
 ghost use Rattle.relation.specs.declared.error.PkgError.TheVariants as pkg_error;
 ghost use Rattle.std.specs.Prelude.{◌≡◌};
 
@@ -14,34 +12,24 @@ use thiserror::Error;
 /// Why a value wasn't read.
 #[derive(Clone, Copy, Debug, PartialEq, Eq, Error)]
 pub enum RelationError {
-    /// No relation field goes on so.
-    #[error("E7 BadRelation {0}")]
-    BadRelation(usize),
-    /// A name or a qualifier could begin here, and none does.
-    #[error("E8 BadName {0}")]
-    BadName(usize),
-    /// An atom beyond the 65,535th.
-    #[error("E10 TooLarge")]
-    TooLarge,
+    /// The value is refused.
+    #[error("{0}")]
+    Refused(RelationFault),
     /// A growth was refused.
     #[error("E1 OutOfMemory")]
     OutOfMemory,
 }
 
 impl From<RelationFault> for RelationError {
-    ghost from_gives = { λ fault e. e ≡ error_of fault };
+    ghost from_gives = { λ fault e. e ≡ error.Refused fault };
 
     fn from(fault: RelationFault) -> RelationError {
-        match fault {
-            RelationFault::BadRelation(offset) => RelationError::BadRelation(offset),
-            RelationFault::BadName(offset) => RelationError::BadName(offset),
-            RelationFault::TooLarge => RelationError::TooLarge,
-        }
+        RelationError::Refused(fault)
     }
 }
 
 impl From<AllocError> for RelationError {
-    ghost from_gives = { λ _ e. e ≡ OutOfMemory };
+    ghost from_gives = { λ _ e. e ≡ error.OutOfMemory };
 
     fn from(_e: AllocError) -> RelationError {
         RelationError::OutOfMemory
@@ -49,7 +37,7 @@ impl From<AllocError> for RelationError {
 }
 
 impl<T: Drop> From<AllocFailed<T>> for RelationError {
-    ghost from_gives = { λ _ e. e ≡ OutOfMemory };
+    ghost from_gives = { λ _ e. e ≡ error.OutOfMemory };
 
     fn from(_e: AllocFailed<T>) -> RelationError {
         RelationError::OutOfMemory
@@ -102,37 +90,19 @@ pub enum PkgFault {
 /// Why the package of a stanza wasn't read.
 #[derive(Clone, Copy, Debug, PartialEq, Eq, Error)]
 pub enum PkgError {
-    /// A required field isn't there.
-    #[error("E9 MissingField {0} {1}")]
-    MissingField(usize, RequiredField),
-    /// The value of Version is no version.
-    #[error("E6 BadVersion {0} {1}")]
-    BadVersion(usize, BadVersion),
-    /// The line and the offset at which a relation field's value is refused.
-    #[error("E7 BadRelation {0} {1}")]
-    BadRelation(usize, usize),
-    /// The line and the offset of a byte with which no name goes on.
-    #[error("E8 BadName {0} {1}")]
-    BadName(usize, usize),
-    /// An atom beyond the 65,535th.
-    #[error("E10 TooLarge")]
-    TooLarge,
+    /// The stanza is refused.
+    #[error("{0}")]
+    Refused(PkgFault),
     /// A growth was refused.
     #[error("E1 OutOfMemory")]
     OutOfMemory,
 }
 
 impl From<PkgFault> for PkgError {
-    ghost from_gives = { λ fault e. e ≡ pkg_error_of fault };
+    ghost from_gives = { λ fault e. e ≡ pkg_error.Refused fault };
 
     fn from(fault: PkgFault) -> PkgError {
-        match fault {
-            PkgFault::MissingField(line, field) => PkgError::MissingField(line, field),
-            PkgFault::BadVersion(line, kind) => PkgError::BadVersion(line, kind),
-            PkgFault::BadRelation(line, offset) => PkgError::BadRelation(line, offset),
-            PkgFault::BadName(line, offset) => PkgError::BadName(line, offset),
-            PkgFault::TooLarge => PkgError::TooLarge,
-        }
+        PkgError::Refused(fault)
     }
 }
 

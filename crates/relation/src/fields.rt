@@ -30,7 +30,7 @@ fn note<'a>(name: &[u8], place: &mut Option<Field<'a>>, field: &Field<'a>)
     ensures { place.new ≡ first_named name.now place.old field.now }
 {
     if place.is_none() && same_name(field.name(), name) {
-        *place = field.clone().ok();
+        *place = Some(field.again());
     }
 }
 

@@ -1,51 +1,74 @@
 //! Values of relation fields: what they spell, and that a parser refuses what the check refuses.
-use crate::shown::{shown_atoms, shown_clauses, shown_items};
+use crate::shown::{is_printed, write_atoms, write_clauses, write_items, write_printed};
 use relation::{Form, check, parse_atoms, parse_clauses, parse_provides};
 use rows::unescaped;
-use std::alloc::Global;
+use std::alloc::{AllocError, Global};
 use std::process::Abort;
-use std::test::Fail;
 
 const ARCH: &[u8] = b"amd64";
 
-/// What a value spells, or its refusal as it is printed.
-fn shown(alloc: Global, form: Form, value: &[u8]) -> Result<String, Fail> {
-    let error = match form {
-        Form::Clauses => match parse_clauses(alloc, value, ARCH) {
-            Ok(clauses) => return shown_clauses(alloc, clauses.as_slice()),
-            Err(error) => error,
-        },
-        Form::Atoms => match parse_atoms(alloc, value, ARCH) {
-            Ok(atoms) => return shown_atoms(alloc, atoms.as_slice()),
-            Err(error) => error,
-        },
-        Form::Provides => match parse_provides(alloc, value, ARCH) {
-            Ok(items) => return shown_items(alloc, items.as_slice()),
-            Err(error) => error,
-        },
-    };
-    Ok(format!(in alloc; "{error}")?)
-}
-
-// Whether the refusal of the check, if there is one, is printed so.
-fn is_checked(alloc: Global, form: Form, value: &[u8], wanted: &str) -> Result<bool, Fail> {
-    match check(form, value) {
-        Ok(()) => Ok(true),
-        Err(fault) => Ok(format!(in alloc; "{fault}")?.as_str() == wanted),
+fn write_as_clauses(alloc: Global, shown: &mut Vec<u8>, value: &[u8]) -> Result<(), AllocError> {
+    match parse_clauses(alloc, value, ARCH) {
+        Ok(clauses) => write_clauses(shown, clauses.as_slice()),
+        Err(error) => write_printed(alloc, shown, &error),
     }
 }
 
+fn write_as_atoms(alloc: Global, shown: &mut Vec<u8>, value: &[u8]) -> Result<(), AllocError> {
+    match parse_atoms(alloc, value, ARCH) {
+        Ok(atoms) => write_atoms(shown, atoms.as_slice()),
+        Err(error) => write_printed(alloc, shown, &error),
+    }
+}
+
+fn write_as_items(alloc: Global, shown: &mut Vec<u8>, value: &[u8]) -> Result<(), AllocError> {
+    match parse_provides(alloc, value, ARCH) {
+        Ok(items) => write_items(shown, items.as_slice()),
+        Err(error) => write_printed(alloc, shown, &error),
+    }
+}
+
+// What a value spells, or its refusal as it is printed.
+fn write_value(
+    alloc: Global,
+    shown: &mut Vec<u8>,
+    form: Form,
+    value: &[u8],
+) -> Result<(), AllocError> {
+    match form {
+        Form::Clauses => write_as_clauses(alloc, shown, value),
+        Form::Atoms => write_as_atoms(alloc, shown, value),
+        Form::Provides => write_as_items(alloc, shown, value),
+    }
+}
+
+fn is_parsed(alloc: Global, form: Form, value: &[u8], wanted: &str) -> Result<bool, AllocError> {
+    let mut shown = Vec::new(alloc);
+    write_value(alloc, &mut shown, form, value)?;
+    Ok(shown.as_slice() == wanted.as_bytes())
+}
+
+// Whether the refusal of the check, if there is one, is printed so.
+fn is_checked(alloc: Global, form: Form, value: &[u8], wanted: &str) -> Result<bool, AllocError> {
+    match check(form, value) {
+        Ok(()) => Ok(true),
+        Err(fault) => is_printed(alloc, &fault, wanted),
+    }
+}
+
+fn is_value(alloc: Global, form: Form, value: &[u8], wanted: &str) -> Result<bool, AllocError> {
+    Ok(is_parsed(alloc, form, value, wanted)? && is_checked(alloc, form, value, wanted)?)
+}
+
 // The value before the arrow spells what is behind it, or is refused so, by the parser and by the check alike.
-fn is_read(alloc: Global, form: Form, row: &str) -> Result<bool, Fail> {
+fn is_read(alloc: Global, form: Form, row: &str) -> Result<bool, AllocError> {
     let Some((text, wanted)) = row.split_once('→') else {
         return Ok(false);
     };
-    let value = unescaped(alloc, text)?;
-    let shown = shown(alloc, form, value.as_slice())?;
-    Ok(shown.as_str() == wanted && is_checked(alloc, form, value.as_slice(), wanted)?)
+    is_value(alloc, form, unescaped(alloc, text)?.as_slice(), wanted)
 }
 
-fn assert_rows<R: Abort + AllocGlobal>(rt: &R, form: Form, rows: &str) -> Result<(), Fail> {
+fn assert_rows<R: Abort + AllocGlobal>(rt: &R, form: Form, rows: &str) -> Result<(), AllocError> {
     for row in rows.lines() {
         assert!(rt; is_read(rt.alloc(), form, row)?, "{row}");
     }
@@ -84,7 +107,9 @@ a:Any→[a!]
 ";
 
 #[test]
-fn clauses_are_what_commas_part_and_bars_part_their_atoms(rt: HostRuntime) -> Result<(), Fail> {
+fn clauses_are_what_commas_part_and_bars_part_their_atoms(
+    rt: HostRuntime,
+) -> Result<(), AllocError> {
     assert_rows(&rt, Form::Clauses, CLAUSES)
 }
 
@@ -99,7 +124,7 @@ a (= -), b_→E7 BadRelation 5
 ";
 
 #[test]
-fn a_value_is_refused_at_its_least_offset(rt: HostRuntime) -> Result<(), Fail> {
+fn a_value_is_refused_at_its_least_offset(rt: HostRuntime) -> Result<(), AllocError> {
     assert_rows(&rt, Form::Clauses, REFUSED)
 }
 
@@ -110,7 +135,7 @@ a | b→E7 BadRelation 2
 ";
 
 #[test]
-fn atoms_have_no_alternatives(rt: HostRuntime) -> Result<(), Fail> {
+fn atoms_have_no_alternatives(rt: HostRuntime) -> Result<(), AllocError> {
     assert_rows(&rt, Form::Atoms, ATOMS)
 }
 
@@ -120,33 +145,40 @@ a (>= 1)→E7 BadRelation 3
 ";
 
 #[test]
-fn provides_takes_one_operator(rt: HostRuntime) -> Result<(), Fail> {
+fn provides_takes_one_operator(rt: HostRuntime) -> Result<(), AllocError> {
     assert_rows(&rt, Form::Provides, PROVIDES)
 }
 
-/// So many atoms of one byte, each with a comma behind it.
-fn many_atoms(alloc: Global, count: usize) -> Result<Vec<u8>, Fail> {
-    let mut value = Vec::new(alloc);
+// So many atoms of one byte, each with a comma behind it.
+fn write_many(value: &mut Vec<u8>, count: usize) -> Result<(), AllocError> {
     for _ in 0..count {
         value.extend_from_slice(b"a,")?;
     }
-    Ok(value)
+    Ok(())
 }
 
-/// How many atoms so many are read as, or the refusal as it is printed.
-fn counted(alloc: Global, count: usize) -> Result<String, Fail> {
-    let value = many_atoms(alloc, count)?;
-    match parse_atoms(alloc, value.as_slice(), ARCH) {
-        Ok(atoms) => Ok(format!(in alloc; "{}", atoms.len())?),
-        Err(error) => Ok(format!(in alloc; "{error}")?),
+fn are_counted(alloc: Global, value: &[u8], wanted: &str) -> Result<bool, AllocError> {
+    match parse_atoms(alloc, value, ARCH) {
+        Ok(atoms) => is_printed(alloc, &atoms.len(), wanted),
+        Err(error) => is_printed(alloc, &error, wanted),
     }
 }
 
-fn is_counted(alloc: Global, row: &str) -> Result<bool, Fail> {
+// Whether so many atoms are read as this number of them, or the refusal is printed so.
+fn is_number(alloc: Global, count: usize, wanted: &str) -> Result<bool, AllocError> {
+    let mut value = Vec::new(alloc);
+    write_many(&mut value, count)?;
+    are_counted(alloc, value.as_slice(), wanted)
+}
+
+fn is_counted(alloc: Global, row: &str) -> Result<bool, AllocError> {
     let Some((count, wanted)) = row.split_once('→') else {
         return Ok(false);
     };
-    Ok(counted(alloc, count.parse::<usize>()?)?.as_str() == wanted)
+    match count.parse::<usize>() {
+        Ok(count) => is_number(alloc, count, wanted),
+        Err(_) => Ok(false),
+    }
 }
 
 const MANY: &str = "\
@@ -155,7 +187,7 @@ const MANY: &str = "\
 ";
 
 #[test]
-fn a_field_has_65535_atoms_at_most(rt: HostRuntime) -> Result<(), Fail> {
+fn a_field_has_65535_atoms_at_most(rt: HostRuntime) -> Result<(), AllocError> {
     for row in MANY.lines() {
         assert!(rt; is_counted(rt.alloc(), row)?, "{row}");
     }

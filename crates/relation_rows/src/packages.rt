@@ -1,57 +1,83 @@
 //! Packages of stanzas, their refusals, and which package matches which atom.
-use crate::shown::{shown_atoms, shown_clauses, shown_items};
-use relation::{
-    Atom, Pkg, PkgError, PkgFields, RelationError, parse_atoms, parse_clauses, parse_provides,
+use crate::shown::{
+    is_printed, write_atoms, write_clauses, write_items, write_part, write_printed,
 };
+use relation::{
+    Atom, Pkg, PkgError, PkgFault, PkgFields, RelationError, parse_atoms, parse_clauses,
+    parse_provides,
+};
+use relation_text::RelationFault;
 use rows::unescaped;
-use stanza::Stanzas;
-use std::alloc::Global;
-use std::str;
-use std::test::Fail;
+use stanza::{Stanza, Stanzas};
+use std::alloc::{AllocError, Global};
 
 const ARCH: &[u8] = b"amd64";
 
-/// The package of the last stanza of a text, or its refusal as it is printed.
-fn shown(alloc: Global, text: &[u8]) -> Result<String, Fail> {
-    let mut shown = String::new(alloc);
-    for item in Stanzas::new(text) {
-        let stanza = item?;
-        shown.clear();
-        match Pkg::from_stanza(alloc, &stanza, ARCH) {
-            Ok(pkg) => write_pkg(alloc, &mut shown, &pkg)?,
-            Err(error) => write!(shown, "{error}")?,
-        }
-        if let Err(fault) = PkgFields::in_stanza(&stanza).check_relations() {
-            write!(shown, " {fault}")?;
-        }
-    }
-    Ok(shown)
-}
-
-fn write_part(shown: &mut String, mark: &str, part: &str) -> Result<(), Fail> {
-    shown.push_str(mark)?;
-    shown.push_str(part)?;
-    Ok(())
-}
-
-// The clauses that a package needs, behind its name and its version.
-fn write_needs(alloc: Global, shown: &mut String, pkg: &Pkg<'_>) -> Result<(), Fail> {
-    write_part(shown, " ", &shown_clauses(alloc, pkg.pre_depends())?)?;
-    write_part(shown, "/", &shown_clauses(alloc, pkg.depends())?)
+// The clauses that a package needs.
+fn write_needs(shown: &mut Vec<u8>, pkg: &Pkg<'_>) -> Result<(), AllocError> {
+    write_clauses(shown, pkg.pre_depends())?;
+    shown.extend_from_slice(b"/")?;
+    write_clauses(shown, pkg.depends())
 }
 
 // The atoms of a package, and the items that it provides.
-fn write_others(alloc: Global, shown: &mut String, pkg: &Pkg<'_>) -> Result<(), Fail> {
-    write_part(shown, "/", &shown_atoms(alloc, pkg.conflicts())?)?;
-    write_part(shown, "/", &shown_atoms(alloc, pkg.breaks())?)?;
-    write_part(shown, "/", &shown_items(alloc, pkg.provides())?)
+fn write_others(shown: &mut Vec<u8>, pkg: &Pkg<'_>) -> Result<(), AllocError> {
+    shown.extend_from_slice(b"/")?;
+    write_atoms(shown, pkg.conflicts())?;
+    shown.extend_from_slice(b"/")?;
+    write_atoms(shown, pkg.breaks())?;
+    shown.extend_from_slice(b"/")?;
+    write_items(shown, pkg.provides())
 }
 
-fn write_pkg(alloc: Global, shown: &mut String, pkg: &Pkg<'_>) -> Result<(), Fail> {
-    shown.push_str(str::from_utf8(pkg.name())?)?;
-    write_part(shown, " ", str::from_utf8(pkg.version().text())?)?;
-    write_needs(alloc, shown, pkg)?;
-    write_others(alloc, shown, pkg)
+fn write_pkg(shown: &mut Vec<u8>, pkg: &Pkg<'_>) -> Result<(), AllocError> {
+    write_part(shown, pkg.name(), b" ")?;
+    write_part(shown, pkg.version().text(), b" ")?;
+    write_needs(shown, pkg)?;
+    write_others(shown, pkg)
+}
+
+fn write_read(alloc: Global, shown: &mut Vec<u8>, stanza: &Stanza<'_>) -> Result<(), AllocError> {
+    match Pkg::from_stanza(alloc, stanza, ARCH) {
+        Ok(pkg) => write_pkg(shown, &pkg),
+        Err(error) => write_printed(alloc, shown, &error),
+    }
+}
+
+// What the check of the relation fields refuses.
+fn write_checked(
+    alloc: Global,
+    shown: &mut Vec<u8>,
+    stanza: &Stanza<'_>,
+) -> Result<(), AllocError> {
+    match PkgFields::in_stanza(stanza).check_relations() {
+        Ok(()) => Ok(()),
+        Err(fault) => {
+            shown.extend_from_slice(b" ")?;
+            write_printed(alloc, shown, &fault)
+        }
+    }
+}
+
+// The package of the last stanza of a text, or its refusal as it is printed.
+fn write_last(alloc: Global, shown: &mut Vec<u8>, text: &[u8]) -> Result<(), AllocError> {
+    for item in Stanzas::new(text) {
+        shown.clear();
+        match item {
+            Ok(stanza) => {
+                write_read(alloc, shown, &stanza)?;
+                write_checked(alloc, shown, &stanza)?;
+            }
+            Err(fault) => write_printed(alloc, shown, &fault)?,
+        }
+    }
+    Ok(())
+}
+
+fn is_last(alloc: Global, text: &[u8], wanted: &str) -> Result<bool, AllocError> {
+    let mut shown = Vec::new(alloc);
+    write_last(alloc, &mut shown, text)?;
+    Ok(shown.as_slice() == wanted.as_bytes())
 }
 
 // `$` stands for a newline.
@@ -78,15 +104,15 @@ Provides: b (>= 1)$Breaks: b (= 1-)$Package: a$Version: 1$→E7 BadRelation 2 5 
 Provides: b (>= 1)$Package: a$Version: 1$→E7 BadRelation 1 3 E7 BadRelation 1 3
 ";
 
-fn is_shown(alloc: Global, row: &str) -> Result<bool, Fail> {
+fn is_shown(alloc: Global, row: &str) -> Result<bool, AllocError> {
     let Some((text, wanted)) = row.split_once('→') else {
         return Ok(false);
     };
-    Ok(shown(alloc, unescaped(alloc, text)?.as_slice())?.as_str() == wanted)
+    is_last(alloc, unescaped(alloc, text)?.as_slice(), wanted)
 }
 
 #[test]
-fn a_package_is_read_from_its_fields(rt: HostRuntime) -> Result<(), Fail> {
+fn a_package_is_read_from_its_fields(rt: HostRuntime) -> Result<(), AllocError> {
     for row in PACKAGES.lines() {
         assert!(rt; is_shown(rt.alloc(), row)?, "{row}");
     }
@@ -95,17 +121,34 @@ fn a_package_is_read_from_its_fields(rt: HostRuntime) -> Result<(), Fail> {
 
 // Whether the package matches one of the atoms.
 fn matches_one(pkg: &Pkg<'_>, atoms: &[Atom<'_>]) -> bool {
-    atoms.iter().any(|atom| atom.matched_by(pkg))
+    for atom in atoms {
+        if atom.matched_by(pkg) {
+            return true;
+        }
+    }
+    false
 }
 
-// Whether the package of the stanza matches the atom of a text.
-fn is_matched(alloc: Global, atom: &[u8], text: &[u8]) -> Result<bool, Fail> {
-    let atoms = parse_atoms(alloc, atom, ARCH)?;
-    let Some(item) = Stanzas::new(text).next() else {
-        return Err("no stanza".into());
-    };
-    let pkg = Pkg::from_stanza(alloc, &item?, ARCH)?;
-    Ok(matches_one(&pkg, atoms.as_slice()))
+fn is_pkg_so(alloc: Global, atoms: &[Atom<'_>], stanza: &Stanza<'_>, wanted: bool) -> bool {
+    match Pkg::from_stanza(alloc, stanza, ARCH) {
+        Ok(pkg) => matches_one(&pkg, atoms) == wanted,
+        Err(_) => false,
+    }
+}
+
+fn is_first_so(alloc: Global, atoms: &[Atom<'_>], text: &[u8], wanted: bool) -> bool {
+    match Stanzas::new(text).next() {
+        Some(Ok(stanza)) => is_pkg_so(alloc, atoms, &stanza, wanted),
+        _ => false,
+    }
+}
+
+// Whether the package of the stanza matches the atom just as is wanted.
+fn is_matched_so(alloc: Global, atom: &[u8], text: &[u8], wanted: bool) -> bool {
+    match parse_atoms(alloc, atom, ARCH) {
+        Ok(atoms) => is_first_so(alloc, atoms.as_slice(), text, wanted),
+        Err(_) => false,
+    }
 }
 
 // `$` stands for a newline.
@@ -135,19 +178,23 @@ bar→Package: z$Version: 1$Provides: bar:i386$→not
 bar (= 2)→Package: bar$Version: 1$Provides: bar (= 2), bar (= 3)$→matched
 ";
 
-fn matches_as_said(alloc: Global, row: &str) -> Result<bool, Fail> {
-    let Some((atom, rest)) = row.split_once('→') else {
-        return Ok(false);
-    };
+fn is_atom_so(alloc: Global, atom: &str, rest: &str) -> Result<bool, AllocError> {
     let Some((text, wanted)) = rest.split_once('→') else {
         return Ok(false);
     };
-    let stanza = unescaped(alloc, text)?;
-    Ok(is_matched(alloc, atom.as_bytes(), stanza.as_slice())? == (wanted == "matched"))
+    let text = unescaped(alloc, text)?;
+    Ok(is_matched_so(alloc, atom.as_bytes(), text.as_slice(), wanted == "matched"))
+}
+
+fn matches_as_said(alloc: Global, row: &str) -> Result<bool, AllocError> {
+    match row.split_once('→') {
+        Some((atom, rest)) => is_atom_so(alloc, atom, rest),
+        None => Ok(false),
+    }
 }
 
 #[test]
-fn an_atom_is_matched_by_name_or_by_what_is_provided(rt: HostRuntime) -> Result<(), Fail> {
+fn an_atom_is_matched_by_name_or_by_what_is_provided(rt: HostRuntime) -> Result<(), AllocError> {
     for row in MATCHES.lines() {
         assert!(rt; matches_as_said(rt.alloc(), row)?, "{row}");
     }
@@ -155,11 +202,17 @@ fn an_atom_is_matched_by_name_or_by_what_is_provided(rt: HostRuntime) -> Result<
 }
 
 #[test]
-fn want_of_memory_is_printed_by_its_code(rt: HostRuntime) -> Result<(), Fail> {
-    let relation = format!(in rt.alloc(); "{}", RelationError::OutOfMemory)?;
-    assert_eq!(rt; relation.as_str(), "E1 OutOfMemory");
-    let pkg = format!(in rt.alloc(); "{} / {}", PkgError::OutOfMemory, PkgError::TooLarge)?;
-    assert_eq!(rt; pkg.as_str(), "E1 OutOfMemory / E10 TooLarge");
+fn want_of_memory_is_printed_by_its_code(rt: HostRuntime) -> Result<(), AllocError> {
+    let alloc = rt.alloc();
+    assert!(rt; is_printed(alloc, &RelationError::OutOfMemory, "E1 OutOfMemory")?);
+    assert!(rt; is_printed(alloc, &PkgError::OutOfMemory, "E1 OutOfMemory")?);
+    assert!(rt;
+        is_printed(
+            alloc,
+            &PkgError::Refused(PkgFault::TooLarge),
+            "E10 TooLarge"
+        )?
+    );
     Ok(())
 }
 
@@ -181,21 +234,22 @@ fn are_items_or_no_memory(alloc: Global) -> bool {
 fn is_refused_alone(alloc: Global) -> bool {
     match parse_atoms(alloc, b"a, b, c (= )", ARCH) {
         Ok(_) => false,
-        Err(error) => error == RelationError::BadRelation(11),
+        Err(error) => error == RelationError::Refused(RelationFault::BadRelation(11)),
+    }
+}
+
+fn is_read_or_no_memory(alloc: Global, stanza: &Stanza<'_>) -> bool {
+    match Pkg::from_stanza(alloc, stanza, ARCH) {
+        Ok(pkg) => pkg.provides().len() == 2,
+        Err(error) => error == PkgError::OutOfMemory,
     }
 }
 
 fn is_pkg_or_no_memory(alloc: Global, text: &[u8]) -> bool {
-    for item in Stanzas::new(text) {
-        let Ok(stanza) = item else {
-            return false;
-        };
-        return match Pkg::from_stanza(alloc, &stanza, ARCH) {
-            Ok(pkg) => pkg.provides().len() == 2,
-            Err(error) => error == PkgError::OutOfMemory,
-        };
+    match Stanzas::new(text).next() {
+        Some(Ok(stanza)) => is_read_or_no_memory(alloc, &stanza),
+        _ => false,
     }
-    false
 }
 
 /// Run with each allocation refused in turn (`rt try --test --fail-alloc N`): the answer is the same or want of memory.

@@ -1,22 +1,26 @@
 //! Rows of refused values, from Policy 7.1 and by hand: what the clauses do not say. Offsets were counted in the row's text.
+use crate::shown::is_printed;
 use relation_text::{Form, RelationFault, check};
 use rows::unescaped;
-use std::alloc::Global;
+use std::alloc::{AllocError, Global};
 use std::process::Abort;
-use std::test::Fail;
 
 // The value before the arrow is refused as is printed behind it.
-fn is_refused(alloc: Global, form: Form, row: &str) -> Result<bool, Fail> {
+fn is_refused(alloc: Global, form: Form, row: &str) -> Result<bool, AllocError> {
     let Some((value, wanted)) = row.split_once('→') else {
         return Ok(false);
     };
     match check(form, value.as_bytes()) {
         Ok(()) => Ok(false),
-        Err(fault) => Ok(format!(in alloc; "{fault}")?.as_str() == wanted),
+        Err(fault) => is_printed(alloc, &fault, wanted),
     }
 }
 
-fn assert_refused<R: Abort + AllocGlobal>(rt: &R, form: Form, rows: &str) -> Result<(), Fail> {
+fn assert_refused<R: Abort + AllocGlobal>(
+    rt: &R,
+    form: Form,
+    rows: &str,
+) -> Result<(), AllocError> {
     for row in rows.lines() {
         assert!(rt; is_refused(rt.alloc(), form, row)?, "{row}");
     }
@@ -24,25 +28,25 @@ fn assert_refused<R: Abort + AllocGlobal>(rt: &R, form: Form, rows: &str) -> Res
 }
 
 #[test]
-fn the_readme_example(rt: HostRuntime) -> Result<(), Fail> {
-    check(
-        Form::Clauses,
-        b"python3:any (>= 3.5), a | b (<< 2), c (> 1)",
-    )?;
-    assert_eq!(rt;
-        check(Form::Provides, b"a, b (>= 1)"),
-        Err(RelationFault::BadRelation(6))
-    );
-    Ok(())
+fn the_readme_example(rt: HostRuntime) {
+    let clauses = b"python3:any (>= 3.5), a | b (<< 2), c (> 1)";
+    assert!(rt; check(Form::Clauses, clauses).is_ok());
+    let fault = RelationFault::BadRelation(6);
+    assert!(rt; check(Form::Provides, b"a, b (>= 1)") == Err(fault));
 }
 
 // `$` stands for a newline.
-fn assert_accepted<R: Abort + AllocGlobal>(rt: &R, form: Form, rows: &str) -> Result<(), Fail> {
+fn is_accepted(alloc: Global, form: Form, row: &str) -> Result<bool, AllocError> {
+    Ok(check(form, unescaped(alloc, row)?.as_slice()).is_ok())
+}
+
+fn assert_accepted<R: Abort + AllocGlobal>(
+    rt: &R,
+    form: Form,
+    rows: &str,
+) -> Result<(), AllocError> {
     for row in rows.lines() {
-        assert!(rt;
-            check(form, unescaped(rt.alloc(), row)?.as_slice()).is_ok(),
-            "{row}"
-        );
+        assert!(rt; is_accepted(rt.alloc(), form, row)?, "{row}");
     }
     Ok(())
 }
@@ -63,7 +67,7 @@ a, b (= 1.0) , c:any(=2), d:i386 (= 3)
 ";
 
 #[test]
-fn what_has_the_shape_is_accepted(rt: HostRuntime) -> Result<(), Fail> {
+fn what_has_the_shape_is_accepted(rt: HostRuntime) -> Result<(), AllocError> {
     assert_accepted(&rt, Form::Clauses, CLAUSES)?;
     assert_accepted(&rt, Form::Atoms, ATOMS)?;
     assert_accepted(&rt, Form::Provides, PROVIDES)
@@ -135,7 +139,7 @@ a, b | c, d | _→E8 BadName 14
 ";
 
 #[test]
-fn a_value_is_refused_at_its_least_offset(rt: HostRuntime) -> Result<(), Fail> {
+fn a_value_is_refused_at_its_least_offset(rt: HostRuntime) -> Result<(), AllocError> {
     assert_refused(&rt, Form::Clauses, REFUSED_CLAUSES)
 }
 
@@ -148,7 +152,7 @@ a (= 1-), b→E7 BadRelation 5
 ";
 
 #[test]
-fn atoms_have_no_alternatives(rt: HostRuntime) -> Result<(), Fail> {
+fn atoms_have_no_alternatives(rt: HostRuntime) -> Result<(), AllocError> {
     assert_refused(&rt, Form::Atoms, REFUSED_ATOMS)
 }
 
@@ -166,52 +170,73 @@ a (>= 1), b (= 1-)→E7 BadRelation 3
 ";
 
 #[test]
-fn provides_takes_one_operator(rt: HostRuntime) -> Result<(), Fail> {
+fn provides_takes_one_operator(rt: HostRuntime) -> Result<(), AllocError> {
     assert_refused(&rt, Form::Provides, REFUSED_PROVIDES)
 }
 
-/// So many atoms of one byte, each with the separator behind it, and then the end.
-fn many_atoms(alloc: Global, count: usize, separator: &[u8], end: &[u8]) -> Result<Vec<u8>, Fail> {
-    let mut value = Vec::new(alloc);
+// So many atoms of one byte, each with the separator behind it, and then the end.
+fn write_many(
+    value: &mut Vec<u8>,
+    count: usize,
+    separator: &[u8],
+    end: &[u8],
+) -> Result<(), AllocError> {
     for _ in 0..count {
         value.extend_from_slice(b"a")?;
         value.extend_from_slice(separator)?;
     }
-    value.extend_from_slice(end)?;
-    Ok(value)
+    value.extend_from_slice(end)
 }
 
-/// The refusal of the clauses, or that they are accepted.
-fn answer(alloc: Global, value: &[u8]) -> Result<String, Fail> {
+// Whether the clauses are accepted, or refused as is printed.
+fn is_answer(alloc: Global, value: &[u8], wanted: &str) -> Result<bool, AllocError> {
     match check(Form::Clauses, value) {
-        Ok(()) => Ok(format!(in alloc; "accepted")?),
-        Err(fault) => Ok(format!(in alloc; "{fault}")?),
+        Ok(()) => Ok(wanted == "accepted"),
+        Err(fault) => is_printed(alloc, &fault, wanted),
     }
 }
 
-/// The same of a row's atoms: how many there are, their separator, and the end.
-fn answer_of(alloc: Global, atoms: &str) -> Result<String, Fail> {
-    let Some((count, rest)) = atoms.split_once(' ') else {
-        return Err("no count".into());
-    };
-    let Some((separator, end)) = rest.split_once('→') else {
-        return Err("no separator".into());
-    };
-    let end = unescaped(alloc, end)?;
-    let value = many_atoms(
-        alloc,
-        count.parse::<usize>()?,
-        separator.as_bytes(),
-        end.as_slice(),
-    )?;
-    answer(alloc, value.as_slice())
+fn are_answered(
+    alloc: Global,
+    count: usize,
+    separator: &str,
+    end: &[u8],
+    wanted: &str,
+) -> Result<bool, AllocError> {
+    let mut value = Vec::new(alloc);
+    write_many(&mut value, count, separator.as_bytes(), end)?;
+    is_answer(alloc, value.as_slice(), wanted)
 }
 
-fn is_counted(alloc: Global, row: &str) -> Result<bool, Fail> {
-    let Some((atoms, wanted)) = row.split_once('⇒') else {
+// The same of so many atoms, with their separator and the end.
+fn are_counted(alloc: Global, count: usize, rest: &str, wanted: &str) -> Result<bool, AllocError> {
+    let Some((separator, end)) = rest.split_once('→') else {
         return Ok(false);
     };
-    Ok(answer_of(alloc, atoms)?.as_str() == wanted)
+    are_answered(
+        alloc,
+        count,
+        separator,
+        unescaped(alloc, end)?.as_slice(),
+        wanted,
+    )
+}
+
+fn are_atoms(alloc: Global, atoms: &str, wanted: &str) -> Result<bool, AllocError> {
+    let Some((count, rest)) = atoms.split_once(' ') else {
+        return Ok(false);
+    };
+    match count.parse::<usize>() {
+        Ok(count) => are_counted(alloc, count, rest, wanted),
+        Err(_) => Ok(false),
+    }
+}
+
+fn is_counted(alloc: Global, row: &str) -> Result<bool, AllocError> {
+    match row.split_once('⇒') {
+        Some((atoms, wanted)) => are_atoms(alloc, atoms, wanted),
+        None => Ok(false),
+    }
 }
 
 // The place of the atom too many is where it begins, before all that is wrong in it and behind it. `$` stands for a
@@ -228,7 +253,7 @@ const MANY: &str = "\
 ";
 
 #[test]
-fn a_field_has_65535_atoms_at_most(rt: HostRuntime) -> Result<(), Fail> {
+fn a_field_has_65535_atoms_at_most(rt: HostRuntime) -> Result<(), AllocError> {
     for row in MANY.lines() {
         assert!(rt; is_counted(rt.alloc(), row)?, "{row}");
     }

@@ -1,69 +1,98 @@
 //! Atoms, clauses and items as a row spells them.
 use relation::{Atom, Clause, Op, Provided};
-use std::alloc::Global;
-use std::str;
-use std::test::Fail;
+use std::alloc::{AllocError, Global};
+use std::fmt::Display;
 
-fn op_text(op: Op) -> &'static str {
+/// Writes two texts, one after another.
+pub(crate) fn write_part(
+    shown: &mut Vec<u8>,
+    first: &[u8],
+    second: &[u8],
+) -> Result<(), AllocError> {
+    shown.extend_from_slice(first)?;
+    shown.extend_from_slice(second)
+}
+
+/// Writes the value as it is printed.
+pub(crate) fn write_printed<T: Display>(
+    alloc: Global,
+    shown: &mut Vec<u8>,
+    value: &T,
+) -> Result<(), AllocError> {
+    let printed = format!(in alloc; "{value}")?;
+    shown.extend_from_slice(printed.as_bytes())
+}
+
+/// Whether the value is printed so.
+pub(crate) fn is_printed<T: Display>(
+    alloc: Global,
+    value: &T,
+    wanted: &str,
+) -> Result<bool, AllocError> {
+    let printed = format!(in alloc; "{value}")?;
+    Ok(printed.as_str() == wanted)
+}
+
+fn op_text(op: Op) -> &'static [u8] {
     match op {
-        Op::StrictlyEarlier => "<<",
-        Op::EarlierOrEqual => "<=",
-        Op::ExactlyEqual => "=",
-        Op::LaterOrEqual => ">=",
-        Op::StrictlyLater => ">>",
+        Op::StrictlyEarlier => b"<<",
+        Op::EarlierOrEqual => b"<=",
+        Op::ExactlyEqual => b"=",
+        Op::LaterOrEqual => b">=",
+        Op::StrictlyLater => b">>",
     }
 }
 
-fn write_atom(shown: &mut String, atom: &Atom<'_>) -> Result<(), Fail> {
-    shown.push_str(str::from_utf8(atom.name())?)?;
-    if atom.is_foreign() {
-        shown.push_str("!")?;
+// The name, and a `!` where it is foreign.
+fn write_name(shown: &mut Vec<u8>, name: &[u8], is_foreign: bool) -> Result<(), AllocError> {
+    let mark: &[u8] = if is_foreign { b"!" } else { b"" };
+    write_part(shown, name, mark)
+}
+
+fn write_atom(shown: &mut Vec<u8>, atom: &Atom<'_>) -> Result<(), AllocError> {
+    write_name(shown, atom.name(), atom.is_foreign())?;
+    match atom.restriction() {
+        Some((op, version)) => write_part(shown, op_text(op), version.text()),
+        None => Ok(()),
     }
-    if let Some((op, version)) = atom.restriction() {
-        shown.push_str(op_text(op))?;
-        shown.push_str(str::from_utf8(version.text())?)?;
+}
+
+/// Writes the atoms, each as its name, a `!` where it is foreign, and its restriction; a comma stands between them.
+pub(crate) fn write_atoms(shown: &mut Vec<u8>, atoms: &[Atom<'_>]) -> Result<(), AllocError> {
+    for (place, atom) in atoms.iter().enumerate() {
+        if place > 0 {
+            shown.extend_from_slice(b",")?;
+        }
+        write_atom(shown, atom)?;
     }
     Ok(())
 }
 
-/// The atoms, each as its name, a `!` where it is foreign, and its restriction; a comma stands between them.
-pub(crate) fn shown_atoms(alloc: Global, atoms: &[Atom<'_>]) -> Result<String, Fail> {
-    let mut shown = String::new(alloc);
-    for atom in atoms {
-        if !shown.is_empty() {
-            shown.push_str(",")?;
-        }
-        write_atom(&mut shown, atom)?;
-    }
-    Ok(shown)
-}
-
-/// The clauses, each in brackets.
-pub(crate) fn shown_clauses(alloc: Global, clauses: &[Clause<'_>]) -> Result<String, Fail> {
-    let mut shown = String::new(alloc);
+/// Writes the clauses, each in brackets.
+pub(crate) fn write_clauses(shown: &mut Vec<u8>, clauses: &[Clause<'_>]) -> Result<(), AllocError> {
     for clause in clauses {
-        shown.push_str("[")?;
-        shown.push_str(shown_atoms(alloc, clause.as_slice())?.as_str())?;
-        shown.push_str("]")?;
+        shown.extend_from_slice(b"[")?;
+        write_atoms(shown, clause.as_slice())?;
+        shown.extend_from_slice(b"]")?;
     }
-    Ok(shown)
+    Ok(())
 }
 
-/// The items, each as its name, a `!` where it is foreign, and its version behind a `=`.
-pub(crate) fn shown_items(alloc: Global, items: &[Provided<'_>]) -> Result<String, Fail> {
-    let mut shown = String::new(alloc);
-    for item in items {
-        if !shown.is_empty() {
-            shown.push_str(",")?;
-        }
-        shown.push_str(str::from_utf8(item.name())?)?;
-        if item.is_foreign() {
-            shown.push_str("!")?;
-        }
-        if let Some(version) = item.version() {
-            shown.push_str("=")?;
-            shown.push_str(str::from_utf8(version.text())?)?;
-        }
+fn write_item(shown: &mut Vec<u8>, item: &Provided<'_>) -> Result<(), AllocError> {
+    write_name(shown, item.name(), item.is_foreign())?;
+    match item.version() {
+        Some(version) => write_part(shown, b"=", version.text()),
+        None => Ok(()),
     }
-    Ok(shown)
+}
+
+/// Writes the items, each as its name, a `!` where it is foreign, and its version behind a `=`.
+pub(crate) fn write_items(shown: &mut Vec<u8>, items: &[Provided<'_>]) -> Result<(), AllocError> {
+    for (place, item) in items.iter().enumerate() {
+        if place > 0 {
+            shown.extend_from_slice(b",")?;
+        }
+        write_item(shown, item)?;
+    }
+    Ok(())
 }

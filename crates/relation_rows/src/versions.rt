@@ -3,6 +3,7 @@
 use debversion::{BadVersion, Op, Version};
 use std::alloc::{AllocError, Global};
 use std::cmp::Ordering;
+use std::process::Abort;
 
 // From deb-version(7) and Policy 5.6.12, but for the last: nothing doesn't sort before a tilde.
 const STANDARDS: &str = "\
@@ -144,13 +145,17 @@ fn row_holds(line: &str) -> bool {
     }
 }
 
+fn assert_rows<R: Abort>(rt: &R, rows: &str) {
+    for row in rows.lines() {
+        assert!(rt; row_holds(row), "{row}");
+    }
+}
+
 #[test]
 fn versions_are_ordered(rt: HostRuntime) {
-    for table in &[STANDARDS, RULES, ARCHIVE] {
-        for line in table.lines() {
-            assert!(rt; row_holds(line), "{line}");
-        }
-    }
+    assert_rows(&rt, STANDARDS);
+    assert_rows(&rt, RULES);
+    assert_rows(&rt, ARCHIVE);
 }
 
 #[test]
@@ -215,9 +220,9 @@ fn refusals_name_the_first_fault(rt: HostRuntime) {
 
 #[test]
 fn no_text_and_white_space_are_refused(rt: HostRuntime) {
-    assert_eq!(rt; first_fault(""), Some(BadVersion::Empty));
-    assert_eq!(rt; first_fault("1.0 "), Some(BadVersion::BadByte));
-    assert_eq!(rt; first_fault("1.0\n"), Some(BadVersion::BadByte));
+    assert!(rt; first_fault("") == Some(BadVersion::Empty));
+    assert!(rt; first_fault("1.0 ") == Some(BadVersion::BadByte));
+    assert!(rt; first_fault("1.0\n") == Some(BadVersion::BadByte));
 }
 
 fn is_kept(text: &str) -> bool {

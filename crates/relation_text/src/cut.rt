@@ -15,7 +15,7 @@ use debversion::Version;
 use rules::{Op, is_name_byte};
 
 /// The bytes that part a value.
-#[derive(Clone, Copy, Debug, PartialEq, Eq)]
+#[derive(Clone, Copy, PartialEq, Eq)]
 pub enum Separator {
     /// `,`
     Comma,

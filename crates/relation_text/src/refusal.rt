@@ -16,7 +16,7 @@ use crate::error::RelationFault;
 use crate::shape::{Form, Place, awaits_name, is_dead, is_end, next};
 
 /// A refusal, with the offset by which the least is found.
-#[derive(Clone, Copy, Debug, PartialEq, Eq)]
+#[derive(Clone, Copy, PartialEq, Eq)]
 pub struct Refusal {
     pub offset: usize,
     pub fault: RelationFault,

@@ -10,7 +10,7 @@ ghost use Rattle.relation_text.specs.declared.shape.Place.TheVariants.{Between, 
 use rules::is_name_byte;
 
 /// The kind of a relation field.
-#[derive(Clone, Copy, Debug, PartialEq, Eq)]
+#[derive(Clone, Copy, PartialEq, Eq)]
 pub enum Form {
     /// Clauses separated by commas, each of alternatives separated by `|`: Pre-Depends and Depends.
     Clauses,
@@ -21,7 +21,7 @@ pub enum Form {
 }
 
 /// What the bytes of a value that have been read end in.
-#[derive(Clone, Copy, Debug, PartialEq, Eq)]
+#[derive(Clone, Copy, PartialEq, Eq)]
 pub enum Place {
     /// At the value's beginning or behind a comma, and white space behind these.
     Between,

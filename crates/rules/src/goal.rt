@@ -5,7 +5,7 @@ use crate::op::Op;
 use crate::version_text::VersionText;
 
 /// A restriction to some versions (Policy 7.1).
-#[derive(Debug, Drop)]
+#[derive(Drop)]
 pub struct Restriction {
     /// How a version is compared with the one of the restriction.
     pub op: Op,
@@ -14,7 +14,7 @@ pub struct Restriction {
 }
 
 /// A goal of a request.
-#[derive(Debug, Drop)]
+#[derive(Drop)]
 pub enum Goal {
     /// A package of this very name, of a version that meets the restriction, is installed.
     Install(Name, Option<Restriction>),
@@ -31,7 +31,7 @@ pub enum Goal {
 }
 
 /// A goal with its line of the request, counted from 1.
-#[derive(Debug, Drop)]
+#[derive(Drop)]
 pub struct GoalLine {
     /// The line.
     pub line: usize,

@@ -72,7 +72,7 @@ impl Name {
 }
 
 /// The names of a group: at least one, ascending by bytes and distinct.
-#[derive(Debug, Drop)]
+#[derive(Drop)]
 pub struct Names {
     names: Vec<Name>,
 }

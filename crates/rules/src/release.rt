@@ -6,7 +6,7 @@ use crate::text::{Items, Text};
 use crate::version_text::VersionText;
 
 /// The release keys of an index. A key that is absent is matched by no release pin.
-#[derive(Debug, Drop)]
+#[derive(Drop)]
 pub struct Release {
     /// `Archive`
     pub archive: Option<Text>,
@@ -62,7 +62,7 @@ impl Release {
 }
 
 /// A key of a release pin.
-#[derive(Clone, Copy, Debug, Eq, PartialEq)]
+#[derive(Clone, Copy, Eq, PartialEq)]
 pub enum ReleaseKey {
     /// `a`: the archive or the suite.
     Archive,
@@ -79,7 +79,7 @@ pub enum ReleaseKey {
 }
 
 /// One `key=value` of a release pin.
-#[derive(Debug, Drop)]
+#[derive(Drop)]
 pub struct ReleaseItem {
     /// The key that is compared.
     pub key: ReleaseKey,
@@ -88,7 +88,7 @@ pub struct ReleaseItem {
 }
 
 /// What the versions of a preferences record have in common.
-#[derive(Debug, Drop)]
+#[derive(Drop)]
 pub enum Pin {
     /// `version W*`: the text of the version begins so.
     VersionBeginning(Text),
@@ -101,7 +101,7 @@ pub enum Pin {
 }
 
 /// The names that a preferences record speaks of.
-#[derive(Debug, Drop)]
+#[derive(Drop)]
 pub enum PinnedNames {
     /// `*`: every name that no record decides by itself.
     Every,
@@ -110,7 +110,7 @@ pub enum PinnedNames {
 }
 
 /// A record of the preferences file.
-#[derive(Debug, Drop)]
+#[derive(Drop)]
 pub struct Preference {
     /// The names that it speaks of.
     pub names: PinnedNames,

@@ -8,7 +8,7 @@ use crate::version_text::VersionText;
 use std::alloc::{AllocError, Global};
 
 /// A step of a plan: one action of dpkg on a package, or the configuring of a group at once.
-#[derive(Debug, Drop)]
+#[derive(Drop)]
 pub enum Step {
     /// Unpack this version of the package.
     Unpack(Name, VersionText),
@@ -40,7 +40,7 @@ impl Step {
 }
 
 /// A rule that a plan is judged by. The printed code of each is behind it.
-#[derive(Clone, Copy, Debug, Eq, PartialEq)]
+#[derive(Clone, Copy, Eq, PartialEq)]
 pub enum Rule {
     /// F0: no two packages conflict at the start.
     StartConflict,
@@ -69,7 +69,7 @@ pub enum Rule {
 }
 
 /// Why the end of a plan isn't good (F11): the first of these, and of names the first by bytes.
-#[derive(Debug, Drop)]
+#[derive(Drop)]
 pub enum Reason {
     /// The package is half-installed, unpacked, half-configured or to be installed again.
     Unfinished(Text),
@@ -82,7 +82,7 @@ pub enum Reason {
 }
 
 /// What is answered of a plan.
-#[derive(Debug, Drop)]
+#[derive(Drop)]
 pub enum Verdict {
     /// Every step is legal when its turn comes, and the end is good.
     Yes,

@@ -36,7 +36,7 @@ impl Text {
 }
 
 /// A list that a contract sees as its items.
-#[derive(Debug, Drop)]
+#[derive(Drop)]
 pub struct Items<T> {
     items: Vec<T>,
 }

@@ -7,7 +7,7 @@ use std::alloc::{AllocError, Global};
 use std::marker::Model;
 
 /// The text of a version (Policy 5.6.12), which owns its bytes.
-#[derive(Debug, Drop)]
+#[derive(Drop)]
 pub struct VersionText {
     bytes: Vec<u8>,
 }

@@ -10,7 +10,7 @@ use crate::values::{name_of, value_of};
 use std::marker::Model;
 
 /// One field. Its name and value are bytes of the text.
-#[derive(Clone, Drop)]
+#[derive(Drop)]
 pub struct Field<'a> {
     name: &'a [u8],
     value: &'a [u8],
@@ -47,10 +47,21 @@ impl<'a> Field<'a> {
     {
         self.line
     }
+
+    /// The same field once more.
+    pub fn again(&self) -> Field<'a>
+        ensures { result ≡ self.now }
+    {
+        Field {
+            name: self.name,
+            value: self.value,
+            line: self.line,
+        }
+    }
 }
 
 /// The fields of a stanza, from the first on.
-#[derive(Clone, Drop)]
+#[derive(Drop)]
 pub struct Fields<'a> {
     rest: &'a [u8],
     before: usize,

@@ -10,7 +10,7 @@ use crate::names::same_name;
 use std::marker::Model;
 
 /// A stanza of a text that was read without a fault up to its end. It borrows the text.
-#[derive(Clone, Drop)]
+#[derive(Drop)]
 pub struct Stanza<'a> {
     raw: &'a [u8],
     before: usize,

@@ -12,7 +12,7 @@ use crate::view::Stanza;
 use std::marker::Model;
 
 /// The stanzas of a text, and its first fault, after which nothing comes.
-#[derive(Clone, Drop)]
+#[derive(Drop)]
 pub struct Stanzas<'a> {
     rest: &'a [u8],
     before: usize,

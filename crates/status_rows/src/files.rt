@@ -1,90 +1,84 @@
 //! What the clauses do not say: printed refusals, worked texts and their readings, and that the calls succeed. Lines and
 //! offsets were counted in the row's text; the words are those of dpkg(1), and the architecture is amd64.
+use crate::marks::{has_mark, has_versions};
 use rows::unescaped;
 use status_text::{Slot, StatusError, StatusRecord, read_status};
-use std::alloc::Global;
-use std::str;
+use std::alloc::{AllocError, Global};
 use std::test::Fail;
 
 const ARCH: &[u8] = b"amd64";
 
-fn write_record(shown: &mut String, record: &StatusRecord<'_>) -> Result<(), Fail> {
-    shown.push_str(str::from_utf8(record.name())?)?;
-    write!(
-        shown,
-        " {:?} {:?} {:?}",
-        record.want(),
-        record.flag(),
-        record.state()
-    )?;
-    if let Some(version) = record.version() {
-        write!(shown, " {}", str::from_utf8(version.text())?)?;
-    }
-    if let Some(version) = record.config_version() {
-        write!(shown, " config {}", str::from_utf8(version.text())?)?;
-    }
-    if record.is_essential() {
-        shown.push_str(" essential")?;
-    }
-    shown.push_str(";")?;
-    Ok(())
+fn is_record(record: &StatusRecord<'_>, wanted: &str) -> bool {
+    let (name, words) = wanted.split_once(' ').unwrap_or((wanted, ""));
+    record.name() == name.as_bytes()
+        && has_mark(words, record.want(), record.flag(), record.state())
+        && has_versions(
+            words,
+            record.version(),
+            record.config_version(),
+            record.is_essential(),
+        )
 }
 
-fn write_slot(shown: &mut String, slot: &Slot<'_, StatusRecord<'_>>) -> Result<(), Fail> {
+fn is_slot(slot: &Slot<'_, StatusRecord<'_>>, wanted: &str) -> bool {
     match slot {
-        Slot::Recorded(record) => write_record(shown, record),
-        Slot::Foreign(stanza) => {
-            write!(shown, "foreign at {};", stanza.line())?;
-            Ok(())
-        }
+        Slot::Recorded(record) => is_record(record, wanted),
+        Slot::Foreign(stanza) => match wanted.strip_prefix("foreign at ") {
+            Some(line) => line.parse::<usize>() == Ok(stanza.line()),
+            None => false,
+        },
     }
 }
 
-/// The slots, or the refusal as it is printed.
-fn shown(alloc: Global, text: &str) -> Result<String, Fail> {
-    let mut shown = String::new(alloc);
-    match read_status(alloc, text.as_bytes(), ARCH) {
-        Ok(slots) => {
-            for slot in &slots {
-                write_slot(&mut shown, slot)?;
-            }
+// Each slot has a `;` behind it.
+fn are_slots(slots: &[Slot<'_, StatusRecord<'_>>], wanted: &str) -> bool {
+    let mut parts = wanted.split(';');
+    for slot in slots {
+        if !is_slot(slot, parts.next().unwrap_or("")) {
+            return false;
         }
-        Err(error) => write!(shown, "{error}")?,
     }
-    Ok(shown)
+    parts.next() == Some("") && parts.next().is_none()
+}
+
+// Whether these are the slots of the text, or its refusal as it is printed.
+fn is_read_as(alloc: Global, text: &[u8], wanted: &str) -> Result<bool, Fail> {
+    match read_status(alloc, text, ARCH) {
+        Ok(slots) => Ok(are_slots(slots.as_slice(), wanted)),
+        Err(error) => is_printed(alloc, &error, wanted),
+    }
+}
+
+fn is_printed(alloc: Global, error: &StatusError<'_>, wanted: &str) -> Result<bool, Fail> {
+    Ok(error.to_string(alloc)?.as_str() == wanted)
+}
+
+fn is_shown(alloc: Global, row: &str) -> Result<bool, Fail> {
+    let Some((text, wanted)) = row.split_once('→') else {
+        return Ok(false);
+    };
+    let text = unescaped(alloc, text)?;
+    is_read_as(alloc, text.as_slice(), wanted)
 }
 
 // dpkg(1), "Package states", "Package selection states" and "Package flags"; `ok` is the flag of none, and words are parted by
 // spaces and tabs. `$` stands for a newline.
 const WORDS: &str = "\
-unknown ok not-installed→Unknown Sound NotInstalled
-install ok config-files→Install Sound ConfigFiles
-deinstall \t ok config-files→Deinstall Sound ConfigFiles
-purge reinstreq config-files→Purge ReinstallRequired ConfigFiles
-hold\tok not-installed→Hold Sound NotInstalled
-hold\treinstreq half-installed$Version: 1$Architecture: all→Hold ReinstallRequired HalfInstalled 1
-deinstall \t ok unpacked$Version: 1$Architecture: all→Deinstall Sound Unpacked 1
-purge ok half-configured$Version: 1$Architecture: all→Purge Sound HalfConfigured 1
-install ok installed$Version: 1$Architecture: all→Install Sound Installed 1 config 1
+Package: a$Status: unknown ok not-installed→a Unknown Sound NotInstalled;
+Package: a$Status: install ok config-files→a Install Sound ConfigFiles;
+Package: a$Status: deinstall \t ok config-files→a Deinstall Sound ConfigFiles;
+Package: a$Status: purge reinstreq config-files→a Purge ReinstallRequired ConfigFiles;
+Package: a$Status: hold\tok not-installed→a Hold Sound NotInstalled;
+Package: a$Status: hold\treinstreq half-installed$Version: 1$Architecture: all→a Hold ReinstallRequired HalfInstalled 1;
+Package: a$Status: deinstall \t ok unpacked$Version: 1$Architecture: all→a Deinstall Sound Unpacked 1;
+Package: a$Status: purge ok half-configured$Version: 1$Architecture: all→a Purge Sound HalfConfigured 1;
+Package: a$Status: install ok installed$Version: 1$Architecture: all→a Install Sound Installed 1 config 1;
 ";
-
-// The stanza of `a` with this Status, with its other fields behind it, has this record.
-fn is_said(alloc: Global, row: &str) -> Result<bool, Fail> {
-    let Some((status, wanted)) = row.split_once('→') else {
-        return Ok(false);
-    };
-    let mut text = unescaped(alloc, "Package: a$Status: ")?;
-    text.extend_from_slice(unescaped(alloc, status)?.as_slice())?;
-    let mut record = String::from_str(alloc, "a ")?;
-    record.push_str(wanted)?;
-    record.push_str(";")?;
-    Ok(shown(alloc, str::from_utf8(text.as_slice())?)? == record)
-}
 
 #[test]
 fn three_words_of_the_lists_are_read(rt: HostRuntime) -> Result<(), Fail> {
     for row in WORDS.lines() {
-        assert!(rt; is_said(rt.alloc(), row)?, "{row}");
+        assert!(rt; is_shown(rt.alloc(), row)?, "{row}");
     }
     Ok(())
 }
@@ -132,14 +126,6 @@ Package: x$$Package$→E9 MissingField 1 Status
 Package: x$Package$→E2 BadLine 2
 ";
 
-fn is_shown(alloc: Global, row: &str) -> Result<bool, Fail> {
-    let Some((text, wanted)) = row.split_once('→') else {
-        return Ok(false);
-    };
-    let text = unescaped(alloc, text)?;
-    Ok(shown(alloc, str::from_utf8(text.as_slice())?)?.as_str() == wanted)
-}
-
 #[test]
 fn the_first_refusal_is_printed(rt: HostRuntime) -> Result<(), Fail> {
     for row in REFUSED.lines() {
@@ -148,32 +134,54 @@ fn the_first_refusal_is_printed(rt: HostRuntime) -> Result<(), Fail> {
     Ok(())
 }
 
-#[test]
-fn a_record_has_its_package_and_stanza(rt: HostRuntime) -> Result<(), Fail> {
-    let text =
-        "\nPackage: x\nStatus: hold ok installed\nArchitecture: all\nVersion: 1\nDepends: y, z\n\n";
-    let slots = read_status(rt.alloc(), text.as_bytes(), ARCH)?;
-    assert_eq!(rt; slots.len(), 1);
-    for slot in &slots {
-        let Slot::Recorded(record) = slot else {
-            continue;
-        };
-        assert!(rt; record.stands() && record.is_installed() && record.is_held());
-        assert_eq!(rt; record.stanza().line(), 2);
-        if record.is_present() {
-            assert_eq!(rt; record.pkg(rt.alloc())?.depends().len(), 2);
-        }
+const HELD: &[u8] =
+    b"\nPackage: x\nStatus: hold ok installed\nArchitecture: all\nVersion: 1\nDepends: y, z\n\n";
+
+fn has_two_dependencies(alloc: Global, record: &StatusRecord<'_>) -> Result<bool, AllocError> {
+    if !record.is_present() {
+        return Ok(false);
     }
-    Ok(())
+    let pkg = record.pkg(alloc)?;
+    Ok(pkg.depends().len() == 2)
+}
+
+fn is_held_at(alloc: Global, slot: &Slot<'_, StatusRecord<'_>>) -> Result<bool, AllocError> {
+    match slot {
+        Slot::Recorded(record) => Ok(
+            record.stands()
+                && record.is_installed()
+                && record.is_held()
+                && record.stanza().line() == 2
+                && has_two_dependencies(alloc, record)?,
+        ),
+        Slot::Foreign(_) => Ok(false),
+    }
+}
+
+fn is_held_in(alloc: Global, text: &[u8]) -> Result<bool, Fail> {
+    let slots = read_status(alloc, text, ARCH)?;
+    match slots.as_slice() {
+        [slot] => Ok(is_held_at(alloc, slot)?),
+        _ => Ok(false),
+    }
 }
 
 #[test]
-fn a_refused_growth_is_want_of_memory(rt: HostRuntime) -> Result<(), Fail> {
+fn a_record_has_its_package_and_stanza(rt: HostRuntime) -> Result<(), Fail> {
+    assert!(rt; is_held_in(rt.alloc(), HELD)?);
+    Ok(())
+}
+
+fn are_two_or_wanting(alloc: Global, text: &[u8]) -> bool {
+    match read_status(alloc, text, ARCH) {
+        Ok(slots) => slots.len() == 2,
+        Err(error) => matches!(error, StatusError::OutOfMemory),
+    }
+}
+
+#[test]
+fn a_refused_growth_is_want_of_memory(rt: HostRuntime) {
     let text =
         b"Package: x\nStatus: install ok not-installed\n\nPackage: y\nStatus: install ok not-installed\n";
-    match read_status(rt.alloc(), text, ARCH) {
-        Ok(slots) => assert_eq!(rt; slots.len(), 2),
-        Err(error) => assert!(rt; matches!(error, StatusError::OutOfMemory)),
-    }
-    Ok(())
+    assert!(rt; are_two_or_wanting(rt.alloc(), text));
 }

@@ -7,6 +7,8 @@ mod files;
 #[cfg(test)]
 mod lookups;
 #[cfg(test)]
+mod marks;
+#[cfg(test)]
 mod records;
 #[cfg(test)]
 mod spelling;

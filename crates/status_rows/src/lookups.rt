@@ -5,23 +5,21 @@ ghost use Rattle.std.specs.List.{All};
 ghost use Rattle.rules.specs.Database.{HasDistinctNames, IsPresent};
 ghost use Rattle.rules.specs.Step.{is_among, is_named};
 
-use index::Listed;
+use index::{Entry, Listed, read_alone};
 use relation::Pkg;
 use rules::{Flag, Name, State, Want, is_name};
-use stanza::Stanzas;
 use status::{PackageRecord, Records};
-use std::alloc::Global;
-use std::str;
+use std::alloc::{AllocError, Global};
 use std::test::Fail;
 
 // The packages that are unpacked, by the words of the rows: the item of `c` is of another architecture.
-const A: &[u8] = b"Package: a\nVersion: 1\nProvides: v\n";
+const A: &[u8] = b"Package: a\nVersion: 1\nArchitecture: all\nProvides: v\n";
 
-const B: &[u8] = b"Package: b\nVersion: 1\nProvides: v (= 2), w\n";
+const B: &[u8] = b"Package: b\nVersion: 1\nArchitecture: all\nProvides: v (= 2), w\n";
 
-const B2: &[u8] = b"Package: b\nVersion: 2\nProvides: x\n";
+const B2: &[u8] = b"Package: b\nVersion: 2\nArchitecture: all\nProvides: x\n";
 
-const C: &[u8] = b"Package: c\nVersion: 1\nProvides: w:i386\n";
+const C: &[u8] = b"Package: c\nVersion: 1\nArchitecture: all\nProvides: w:i386\n";
 
 // Steps, what they leave of `a`, which is installed, and of `o`, of which configuration files are left, and who then has
 // or provides `v`, `w`, `x` and `b`.
@@ -40,30 +38,27 @@ unpack b, remove a, purge a, unpack a→o=config-files b=unpacked a=unpacked→b
 unpack a, unpack c, configure a c→a=installed o=config-files c=installed→a→→→
 ";
 
-fn listed<'a>(alloc: Global, text: &'a [u8]) -> Result<Listed<'a>, Fail> {
-    for item in Stanzas::new(text) {
-        let stanza = item?;
-        let pkg = Pkg::from_stanza(alloc, &stanza, b"amd64")?;
-        return Ok(Listed::new(pkg, false, stanza));
-    }
-    Err("no stanza".into())
+fn listed<'a>(alloc: Global, entry: &Entry<'a>) -> Result<Listed<'a>, AllocError> {
+    Ok(Listed::new(entry.pkg(alloc)?, false, entry.stanza().again()))
 }
 
-fn name_of(alloc: Global, text: &str) -> Result<Name, Fail> {
-    let bytes = text.as_bytes();
-    if !is_name(bytes) {
-        return Err("not a name".into());
+fn index_of<'a>(alloc: Global) -> Result<Vec<Listed<'a>>, AllocError> {
+    let mut index = Vec::new(alloc);
+    for text in [A, B, B2, C] {
+        if let Some(entry) = read_alone(text, b"amd64") {
+            index.push(listed(alloc, &entry)?)?;
+        }
     }
-    match Name::copied_from(alloc, bytes) {
-        Ok(name) => Ok(name),
-        Err(refused) => Err(refused.into()),
-    }
+    Ok(index)
 }
 
-fn names_of(alloc: Global, words: &str) -> Result<Vec<Name>, Fail> {
+// The names among the words.
+fn names_of(alloc: Global, words: &str) -> Result<Vec<Name>, AllocError> {
     let mut names = Vec::new(alloc);
     for word in words.split(' ') {
-        names.push(name_of(alloc, word)?)?;
+        if is_name(word.as_bytes()) {
+            names.push(Name::copied_from(alloc, word.as_bytes())?)?;
+        }
     }
     Ok(names)
 }
@@ -115,21 +110,28 @@ fn are_present(records: &[PackageRecord<'_, '_>], names: &[Name]) -> bool
         .all(|found| is_not_among_or_present(names, found))
 }
 
-// Takes the step on packages that are present, where it is one.
-fn act(alloc: Global, db: &mut Records<'_, '_>, verb: &str, words: &str) -> Result<(), Fail>
+// Configures packages that are present, and nothing where one isn't.
+fn configure(alloc: Global, db: &mut Records<'_, '_>, words: &str) -> Result<(), AllocError>
     requires { HasDistinctNames db.old }
 {
     let names = names_of(alloc, words)?;
-    if verb == "configure" && are_present(db.as_slice(), names.as_slice()) {
+    if are_present(db.as_slice(), names.as_slice()) {
         db.configure(names.as_slice());
-    } else if verb == "deconfigure" && is_present(db.as_slice(), words.as_bytes()) {
-        db.deconfigure(words.as_bytes());
-    } else if verb == "remove" && is_present(db.as_slice(), words.as_bytes()) {
-        db.remove(words.as_bytes());
-    } else if verb == "purge" {
-        db.purge(words.as_bytes());
     }
     Ok(())
+}
+
+// Takes the step on a package that is present, where it is one.
+fn act(db: &mut Records<'_, '_>, verb: &str, name: &[u8])
+    requires { HasDistinctNames db.old }
+{
+    if verb == "purge" {
+        db.purge(name);
+    } else if is_present(db.as_slice(), name) && verb == "remove" {
+        db.remove(name);
+    } else if is_present(db.as_slice(), name) && verb == "deconfigure" {
+        db.deconfigure(name);
+    }
 }
 
 fn listed_as<'p, 'a>(index: &'p [Listed<'a>], word: &str) -> Option<&'p Listed<'a>> {
@@ -142,24 +144,37 @@ fn listed_as<'p, 'a>(index: &'p [Listed<'a>], word: &str) -> Option<&'p Listed<'
     }
 }
 
+fn unpack<'p, 'a>(
+    db: &mut Records<'p, 'a>,
+    index: &'p [Listed<'a>],
+    word: &str,
+) -> Result<(), AllocError>
+    requires { HasDistinctNames db.old }
+{
+    match listed_as(index, word) {
+        Some(listed) => db.unpack(listed),
+        None => Ok(()),
+    }
+}
+
+// Takes no step where names aren't distinct, which they always are.
 fn step<'p, 'a>(
     alloc: Global,
     db: &mut Records<'p, 'a>,
     index: &'p [Listed<'a>],
     text: &str,
-) -> Result<(), Fail> {
+) -> Result<(), AllocError> {
+    let (verb, words) = text.split_once(' ').unwrap_or((text, ""));
     if !are_distinct(db.as_slice()) {
-        return Err("names that aren't distinct".into());
-    }
-    let Some((verb, words)) = text.split_once(' ') else {
         return Ok(());
-    };
-    if verb != "unpack" {
-        return act(alloc, db, verb, words);
     }
-    match listed_as(index, words) {
-        Some(listed) => Ok(db.unpack(listed)?),
-        None => Ok(()),
+    match verb {
+        "unpack" => unpack(db, index, words),
+        "configure" => configure(alloc, db, words),
+        _ => {
+            act(db, verb, words.as_bytes());
+            Ok(())
+        }
     }
 }
 
@@ -174,18 +189,24 @@ fn state_word(state: State) -> &'static str {
     }
 }
 
-// The names with their states.
-fn states(alloc: Global, records: &[PackageRecord<'_, '_>]) -> Result<String, Fail> {
-    let mut text = String::new(alloc);
-    for found in records {
-        if !text.is_empty() {
-            text.push(' ')?;
+fn is_left(found: &PackageRecord<'_, '_>, wanted: Option<&str>) -> bool {
+    match wanted.unwrap_or("").split_once('=') {
+        Some((name, state)) => {
+            found.name() == name.as_bytes() && state_word(found.state()) == state
         }
-        text.push_str(str::from_utf8(found.name())?)?;
-        text.push('=')?;
-        text.push_str(state_word(found.state()))?;
+        None => false,
     }
-    Ok(text)
+}
+
+// Whether these are the names with their states.
+fn are_left(records: &[PackageRecord<'_, '_>], wanted: Option<&str>) -> bool {
+    let mut words = wanted.unwrap_or("").split_whitespace();
+    for found in records {
+        if !is_left(found, words.next()) {
+            return false;
+        }
+    }
+    words.next().is_none()
 }
 
 fn holds(found: &PackageRecord<'_, '_>, name: &[u8]) -> bool {
@@ -201,39 +222,19 @@ fn is_found(db: &Records<'_, '_>, own: &[u8], name: &[u8]) -> bool {
         .any(|found| found.name() == own && holds(found, name))
 }
 
-// The names of those that have or provide the name: of all that are found by it, or of all that a scan finds.
-fn holders(
-    alloc: Global,
-    db: &Records<'_, '_>,
-    name: &[u8],
-    is_scanned: bool,
-) -> Result<String, Fail> {
-    let mut text = String::new(alloc);
+// Whether those of these names, and no others, have or provide the name, both of all that are found by it and of all that
+// a scan finds.
+fn are_found(db: &Records<'_, '_>, name: &[u8], wanted: Option<&str>) -> bool {
+    let mut words = wanted.unwrap_or(".").split_whitespace();
     for found in db.as_slice() {
-        let is_one = if is_scanned {
-            holds(found, name)
-        } else {
-            is_found(db, found.name(), name)
-        };
-        if is_one && !text.is_empty() {
-            text.push(' ')?;
+        if holds(found, name) != is_found(db, found.name(), name) {
+            return false;
         }
-        if is_one {
-            text.push_str(str::from_utf8(found.name())?)?;
+        if holds(found, name) && words.next().unwrap_or("").as_bytes() != found.name() {
+            return false;
         }
     }
-    Ok(text)
-}
-
-fn are_found(
-    alloc: Global,
-    db: &Records<'_, '_>,
-    name: &[u8],
-    wanted: Option<&str>,
-) -> Result<bool, Fail> {
-    let found = holders(alloc, db, name, false)?;
-    let scanned = holders(alloc, db, name, true)?;
-    Ok(Some(found.as_str()) == wanted && Some(scanned.as_str()) == wanted)
+    words.next().is_none()
 }
 
 // The record of `a`, which is installed.
@@ -261,55 +262,60 @@ fn removed<'p, 'a>() -> PackageRecord<'p, 'a> {
     )
 }
 
-fn start<'p, 'a>(alloc: Global, a: &'p Pkg<'a>) -> Result<Records<'p, 'a>, Fail> {
-    let mut records = Vec::new(alloc);
-    records.push(installed(a))?;
-    records.push(removed())?;
-    Ok(Records::new(alloc, records)?)
+fn start<'p, 'a>(alloc: Global, a: &'p Pkg<'a>) -> Result<Records<'p, 'a>, AllocError> {
+    Records::new(alloc, vec![in alloc; installed(a), removed()]?)
 }
 
-fn row_holds(alloc: Global, index: &[Listed<'_>], row: &str) -> Result<bool, Fail> {
-    let Some(a) = index.first() else {
-        return Ok(false);
-    };
-    let mut db = start(alloc, a.pkg())?;
-    takes_row(alloc, &mut db, index, row)
+fn takes<'p, 'a>(
+    alloc: Global,
+    db: &mut Records<'p, 'a>,
+    index: &'p [Listed<'a>],
+    steps: &str,
+) -> Result<(), AllocError> {
+    for text in steps.split(", ") {
+        step(alloc, db, index, text)?;
+    }
+    Ok(())
 }
 
-fn takes_row<'p, 'a>(
+// Whether the records are left so, and are found so.
+fn is_so(db: &Records<'_, '_>, wanted: &str) -> bool {
+    let mut parts = wanted.split('→');
+    are_left(db.as_slice(), parts.next())
+        && are_found(db, b"v", parts.next())
+        && are_found(db, b"w", parts.next())
+        && are_found(db, b"x", parts.next())
+        && are_found(db, b"b", parts.next())
+}
+
+fn leaves<'p, 'a>(
     alloc: Global,
     db: &mut Records<'p, 'a>,
     index: &'p [Listed<'a>],
     row: &str,
-) -> Result<bool, Fail> {
-    let mut parts = row.split('→');
-    let steps = parts.next().unwrap_or("");
-    for text in steps.split(", ") {
-        step(alloc, db, index, text)?;
-    }
-    Ok(
-        are_left(alloc, db, parts.next())?
-            && are_found(alloc, db, b"v", parts.next())?
-            && are_found(alloc, db, b"w", parts.next())?
-            && are_found(alloc, db, b"x", parts.next())?
-            && are_found(alloc, db, b"b", parts.next())?,
-    )
+) -> Result<bool, AllocError> {
+    let (steps, wanted) = row.split_once('→').unwrap_or((row, ""));
+    takes(alloc, db, index, steps)?;
+    Ok(is_so(db, wanted))
 }
 
-fn are_left(alloc: Global, db: &Records<'_, '_>, wanted: Option<&str>) -> Result<bool, Fail> {
-    let left = states(alloc, db.as_slice())?;
-    Ok(Some(left.as_str()) == wanted)
+fn holds_over(alloc: Global, index: &[Listed<'_>], row: &str) -> Result<bool, AllocError> {
+    let Some(a) = index.first() else {
+        return Ok(false);
+    };
+    let mut db = start(alloc, a.pkg())?;
+    leaves(alloc, &mut db, index, row)
+}
+
+fn row_holds(alloc: Global, row: &str) -> Result<bool, AllocError> {
+    let index = index_of(alloc)?;
+    holds_over(alloc, index.as_slice(), row)
 }
 
 #[test]
 fn records_are_found_by_what_they_have_and_provide(rt: HostRuntime) -> Result<(), Fail> {
-    let alloc = rt.alloc();
-    let mut index = Vec::new(alloc);
-    for text in [A, B, B2, C] {
-        index.push(listed(alloc, text)?)?;
-    }
     for row in ROWS.lines() {
-        assert!(rt; row_holds(alloc, index.as_slice(), row)?, "{row}");
+        assert!(rt; row_holds(rt.alloc(), row)?, "{row}");
     }
     Ok(())
 }

@@ -1,11 +1,11 @@
 //! What the clauses do not say: that the calls succeed, and worked stanzas. The rows were written by hand: the words are
 //! those of dpkg(1), the architecture is amd64, and `$` stands for a newline.
+use crate::marks::{has_mark, has_versions};
 use index::{Entry, read_alone};
 use rows::unescaped;
 use status_record::Record;
-use status_text::{Slot, read_status};
-use std::alloc::Global;
-use std::str;
+use status_text::{Slot, StatusError, read_status};
+use std::alloc::{AllocError, Global};
 use std::test::Fail;
 
 const ARCH: &[u8] = b"amd64";
@@ -24,37 +24,79 @@ fn after<'a>(record: &Record<'a>, entry: &Entry<'a>, action: u8) -> Record<'a> {
     }
 }
 
-// The stanza that the actions leave of the only record of the text.
-fn written(alloc: Global, text: &[u8], actions: &str) -> Result<Vec<u8>, Fail> {
-    let mut out = Vec::new(alloc);
-    let Some(entry) = read_alone(UNPACKED, ARCH) else {
-        return Err("no package".into());
-    };
-    for slot in read_status(alloc, text, ARCH)? {
-        let Slot::Recorded(found) = slot else {
-            return Err("no record".into());
-        };
-        let mut record = Record::read(found);
-        for action in actions.as_bytes() {
-            record = after(&record, &entry, *action);
-        }
-        record.write(&mut out)?;
+// The last record of the text.
+fn record_of(alloc: Global, text: &[u8]) -> Result<Option<Record<'_>>, StatusError<'_>> {
+    let mut slots = read_status(alloc, text, ARCH)?;
+    match slots.pop() {
+        Some(Slot::Recorded(found)) => Ok(Some(Record::read(found))),
+        _ => Ok(None),
     }
-    Ok(out)
 }
 
-fn is_written(alloc: Global, row: &str) -> Result<bool, Fail> {
-    let Some((text, rest)) = row.split_once('→') else {
-        return Ok(false);
-    };
-    let Some((actions, wanted)) = rest.split_once('→') else {
-        return Ok(false);
-    };
-    let text = unescaped(alloc, text)?;
+// What the actions leave of the record.
+fn left_of<'a>(record: &Record<'a>, actions: &str) -> Option<Record<'a>> {
+    let entry = read_alone(UNPACKED, ARCH)?;
+    let mut left = record.again();
+    for action in actions.as_bytes() {
+        left = after(&left, &entry, *action);
+    }
+    Some(left)
+}
+
+// Whether the record is written so, or what is written is read as the record of these words.
+fn is_written_so(alloc: Global, record: &Record<'_>, wanted: &str) -> Result<bool, Fail> {
+    let mut out = Vec::new(alloc);
+    record.write(&mut out)?;
+    if wanted.contains(':') {
+        return is_spelled(alloc, out.as_slice(), wanted);
+    }
+    is_read_as(alloc, out.as_slice(), wanted)
+}
+
+fn is_spelled(alloc: Global, text: &[u8], wanted: &str) -> Result<bool, Fail> {
     let wanted = unescaped(alloc, wanted)?;
-    Ok(written(alloc, text.as_slice(), actions)?.as_slice() == wanted.as_slice())
+    Ok(wanted.as_slice() == text)
 }
 
+fn is_read_as(alloc: Global, text: &[u8], wanted: &str) -> Result<bool, Fail> {
+    match record_of(alloc, text)? {
+        Some(record) => Ok(is_shown(&record, wanted)),
+        None => Ok(false),
+    }
+}
+
+fn is_shown(record: &Record<'_>, wanted: &str) -> bool {
+    has_mark(wanted, record.want(), record.flag(), record.state())
+        && has_versions(
+            wanted,
+            record.version(),
+            record.config_version(),
+            record.is_essential(),
+        )
+}
+
+fn is_left(alloc: Global, record: &Record<'_>, actions: &str, wanted: &str) -> Result<bool, Fail> {
+    match left_of(record, actions) {
+        Some(left) => is_written_so(alloc, &left, wanted),
+        None => Ok(false),
+    }
+}
+
+fn leaves(alloc: Global, text: &[u8], actions: &str, wanted: &str) -> Result<bool, Fail> {
+    match record_of(alloc, text)? {
+        Some(record) => is_left(alloc, &record, actions, wanted),
+        None => Ok(false),
+    }
+}
+
+fn holds(alloc: Global, row: &str) -> Result<bool, Fail> {
+    let (text, rest) = row.split_once('→').unwrap_or((row, ""));
+    let (actions, wanted) = rest.split_once('→').unwrap_or((rest, ""));
+    let text = unescaped(alloc, text)?;
+    leaves(alloc, text.as_slice(), actions, wanted)
+}
+
+// The text of a record, actions, and the text that is written of what they leave.
 const WRITTEN: &str = "\
 Status:install  ok installed$package:  x$Version:1$Architecture: all→→Status:install  ok installed$package:  x$Version:1$Architecture: all$
 Status: hold ok installed$Version:1$package: x$Architecture: all→d→package: x$Status: hold ok half-configured$Version: 1$Config-Version: 1$Architecture: all$
@@ -67,52 +109,12 @@ Package: x$Status: install ok installed$Architecture: all$Version: 1$Conffiles:$
 #[test]
 fn stanzas_are_written_as_actions_leave_them(rt: HostRuntime) -> Result<(), Fail> {
     for row in WRITTEN.lines() {
-        assert!(rt; is_written(rt.alloc(), row)?, "{row}");
+        assert!(rt; holds(rt.alloc(), row)?, "{row}");
     }
     Ok(())
 }
 
-// What a record is, in the words of its text.
-fn shown(record: &Record<'_>, alloc: Global) -> Result<String, Fail> {
-    let mut shown = String::new(alloc);
-    write!(
-        shown,
-        "{:?} {:?} {:?}",
-        record.want(),
-        record.flag(),
-        record.state()
-    )?;
-    if let Some(version) = record.version() {
-        write!(shown, " {}", str::from_utf8(version.text())?)?;
-    }
-    if let Some(version) = record.config_version() {
-        write!(shown, " config {}", str::from_utf8(version.text())?)?;
-    }
-    if record.is_essential() {
-        shown.push_str(" essential")?;
-    }
-    Ok(shown)
-}
-
-// What the written stanza is read as is shown so.
-fn is_read_back(alloc: Global, row: &str) -> Result<bool, Fail> {
-    let Some((text, rest)) = row.split_once('→') else {
-        return Ok(false);
-    };
-    let Some((actions, wanted)) = rest.split_once('→') else {
-        return Ok(false);
-    };
-    let text = unescaped(alloc, text)?;
-    let out = written(alloc, text.as_slice(), actions)?;
-    for slot in read_status(alloc, out.as_slice(), ARCH)? {
-        let Slot::Recorded(found) = slot else {
-            return Ok(false);
-        };
-        return Ok(shown(&Record::read(found), alloc)?.as_str() == wanted);
-    }
-    Ok(false)
-}
-
+// The same, with the words of the record that the text is read as.
 const READ_BACK: &str = "\
 Package: x$Status: hold reinstreq half-installed$Architecture: all$Version: 1$Config-Version: 0$→→Hold ReinstallRequired HalfInstalled 1 config 0
 Package: x$Status: hold reinstreq installed$Architecture: all$Version: 1$Essential: yes$→d→Hold ReinstallRequired HalfConfigured 1 config 1 essential
@@ -126,37 +128,55 @@ Package: x$Status: install ok installed$Architecture: amd64$Version: 1$→ucur�
 #[test]
 fn what_is_written_reads_as_the_record(rt: HostRuntime) -> Result<(), Fail> {
     for row in READ_BACK.lines() {
-        assert!(rt; is_read_back(rt.alloc(), row)?, "{row}");
+        assert!(rt; holds(rt.alloc(), row)?, "{row}");
     }
     Ok(())
+}
+
+fn is_unpacked(record: &Record<'_>) -> bool {
+    record.stands()
+        && !record.is_installed()
+        && !record.is_held()
+        && !record.is_essential()
+        && record.name() == b"x".as_slice()
+        && record.version().is_some()
+        && record.config_version().is_none()
+}
+
+fn has_two_dependencies(alloc: Global, record: &Record<'_>) -> Result<bool, AllocError> {
+    if !record.is_present() {
+        return Ok(false);
+    }
+    let pkg = record.pkg(alloc)?;
+    Ok(pkg.depends().len() == 2)
+}
+
+fn has_its_package(alloc: Global, text: &[u8]) -> Result<bool, AllocError> {
+    let Some(entry) = read_alone(text, ARCH) else {
+        return Ok(false);
+    };
+    let record = Record::unpacked(&entry);
+    Ok(is_unpacked(&record) && has_two_dependencies(alloc, &record)?)
 }
 
 #[test]
 fn an_unpacked_record_has_its_package(rt: HostRuntime) -> Result<(), Fail> {
-    let Some(entry) = read_alone(UNPACKED, ARCH) else {
-        return Err("no package".into());
-    };
-    let record = Record::unpacked(&entry);
-    assert!(rt;
-        record.stands() && !record.is_installed() && !record.is_held() && !record.is_essential()
-    );
-    assert_eq!(rt; record.name(), b"x".as_slice());
-    assert!(rt; record.version().is_some() && record.config_version().is_none());
-    if record.is_present() {
-        assert_eq!(rt; record.pkg(rt.alloc())?.depends().len(), 2);
-    }
+    assert!(rt; has_its_package(rt.alloc(), UNPACKED)?);
     Ok(())
 }
 
-#[test]
-fn a_refused_growth_leaves_the_text(rt: HostRuntime) -> Result<(), Fail> {
-    let mut out = Vec::new(rt.alloc());
-    let Some(entry) = read_alone(UNPACKED, ARCH) else {
-        return Err("no package".into());
-    };
-    match Record::unpacked(&entry).write(&mut out) {
-        Ok(()) => assert_eq!(rt; out.len(), 103),
-        Err(_) => assert!(rt; out.is_empty()),
+fn is_written_or_left(alloc: Global, record: &Record<'_>) -> bool {
+    let mut out = Vec::new(alloc);
+    match record.write(&mut out) {
+        Ok(()) => out.len() == 103,
+        Err(_) => out.is_empty(),
     }
-    Ok(())
+}
+
+#[test]
+fn a_refused_growth_leaves_the_text(rt: HostRuntime) {
+    match read_alone(UNPACKED, ARCH) {
+        Some(entry) => assert!(rt; is_written_or_left(rt.alloc(), &Record::unpacked(&entry))),
+        None => assert!(rt; false),
+    }
 }

@@ -9,7 +9,7 @@ use std::marker::Model;
 use thiserror::Error;
 
 /// A name of a step (Policy 5.6.1). It borrows the step.
-#[derive(Clone, Debug, Drop)]
+#[derive(Debug, Drop)]
 pub struct StepName<'s> {
     name: &'s Name,
 }
@@ -49,7 +49,7 @@ impl fmt::Display for StepName<'_> {
 }
 
 /// Why a step wasn't taken.
-#[derive(Clone, Debug, Drop, Error)]
+#[derive(Debug, Drop, Error)]
 pub enum ApplyError<'s> {
     /// The package isn't in a state from which the action starts, or its stanza isn't handed in.
     #[error("E24 NotApplicable {0}")]

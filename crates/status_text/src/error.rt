@@ -34,7 +34,7 @@ impl fmt::Display for RequiredField {
 }
 
 /// A refusal of a status file.
-#[derive(Clone, Debug, Drop, Error)]
+#[derive(Debug, Drop, Error)]
 pub enum StatusFault<'a> {
     /// No control text goes on so.
     #[error("{0}")]
@@ -63,7 +63,7 @@ pub enum StatusFault<'a> {
 }
 
 /// Why a status file wasn't read.
-#[derive(Clone, Debug, Drop, Error)]
+#[derive(Debug, Drop, Error)]
 pub enum StatusError<'a> {
     /// The text is refused.
     #[error("{0}")]

@@ -14,7 +14,7 @@ use rules::{Flag, State, Want};
 use stanza::{Field, Stanza};
 
 /// What a stanza's field Status says of its package.
-#[derive(Clone, Copy, Debug, PartialEq, Eq)]
+#[derive(Clone, Copy, PartialEq, Eq)]
 pub struct Mark {
     /// What is wanted of the package.
     pub want: Want,

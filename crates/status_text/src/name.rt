@@ -5,7 +5,7 @@ use std::fmt;
 use std::marker::Model;
 
 /// The name of a package (Policy 5.6.1). It borrows the text.
-#[derive(Clone, Debug, Drop)]
+#[derive(Debug, Drop)]
 pub struct PackageName<'a> {
     bytes: &'a [u8],
 }

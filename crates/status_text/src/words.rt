@@ -8,7 +8,7 @@ ghost use Rattle.status_text.specs.Words.{words_of};
 use rules::{Flag, State, Want};
 
 /// What the third word of `Status` says.
-#[derive(Clone, Copy, Debug, PartialEq, Eq)]
+#[derive(Clone, Copy, PartialEq, Eq)]
 pub enum StateWord {
     /// A state that plans know.
     Plain(State),
@@ -17,7 +17,7 @@ pub enum StateWord {
 }
 
 /// What the three words of `Status` say.
-#[derive(Clone, Copy, Debug, PartialEq, Eq)]
+#[derive(Clone, Copy, PartialEq, Eq)]
 pub struct StatusWords {
     /// What is wanted of the package.
     pub want: Want,

@@ -5,20 +5,15 @@ ghost use Rattle.stanza.specs.Collect.{values_in};
 
 use stanza::{StanzaError, Stanzas};
 use std::alloc::{AllocError, AllocFailed, Global};
-use std::test::Fail;
 
-#[derive(Debug, Drop)]
-pub enum CollectError {
+#[derive(Drop)]
+enum CollectError {
     Memory,
     Fault(StanzaError),
 }
 
-/// The values of the field of this name in all stanzas of a text.
-pub fn values_of<'a>(
-    alloc: Global,
-    text: &'a [u8],
-    name: &[u8],
-) -> Result<Vec<&'a [u8]>, CollectError>
+// The values of the field of this name in all stanzas of a text.
+fn values_of<'a>(alloc: Global, text: &'a [u8], name: &[u8]) -> Result<Vec<&'a [u8]>, CollectError>
     ensures ok { IfOk result (λ values. values_in name.now (items_of false text.now) ≡ Ok (map (λ value. value.now) values.items)) }
     ensures fault { (fault : StanzaError) → result ≡ Err (CollectError.Fault fault) → values_in name.now (items_of false text.now) ≡ Err fault }
 {
@@ -37,11 +32,16 @@ pub fn values_of<'a>(
     Ok(values)
 }
 
+fn are_three(collected: Result<Vec<&[u8]>, CollectError>) -> bool {
+    match collected {
+        Ok(values) => values.len() == 3,
+        Err(_) => false,
+    }
+}
+
 #[test]
-fn values_are_collected(rt: HostRuntime) -> Result<(), Fail> {
-    let text = b"Package: a\nSize: 1\n\nPackage: b\n\npackage: c\n";
-    let values = values_of(rt.alloc(), text, b"PACKAGE")?;
-    assert_eq!(rt; values.len(), 3);
+fn values_are_collected(rt: HostRuntime) {
+    let text = "Package: a\nSize: 1\n\nPackage: b\n\npackage: c\n";
+    assert!(rt; are_three(values_of(rt.alloc(), text.as_bytes(), b"PACKAGE")));
     assert!(rt; values_of(rt.alloc(), b"A", b"A").is_err());
-    Ok(())
 }

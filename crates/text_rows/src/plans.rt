@@ -1,72 +1,90 @@
 //! Texts of plans, each with what it is to be read as. The format is this project's own; lines were counted by hand.
-use crate::texts::{is_printed, write_named};
-use plantext::{PlanError, PlanFault, read_plan, read_step, write_plan, write_step};
+use crate::texts::{is_printed, write_part};
+use crate::written::{is_line_again, is_plan_again};
+use plantext::{PlanError, PlanFault, read_plan};
 use rows::unescaped;
-use rules::Step;
+use rules::{Name, Step};
 use std::alloc::{AllocError, Global};
 use std::process::Abort;
-use std::test::Fail;
 
-/// Writes a step as a letter and its words.
-pub(crate) fn show_step(shown: &mut String, step: &Step) -> Result<(), Fail> {
-    match step {
-        Step::Unpack(name, version) => {
-            write_named(shown, "U:", name.as_bytes())?;
-            write_named(shown, "=", version.as_bytes())?;
-        }
-        Step::Deconfigure(name) => write_named(shown, "D:", name.as_bytes())?,
-        Step::Configure(names) => {
-            shown.push_str("C")?;
-            for name in names.as_slice() {
-                write_named(shown, ":", name.as_bytes())?;
-            }
-        }
-        Step::Remove(name) => write_named(shown, "R:", name.as_bytes())?,
-        Step::Purge(name) => write_named(shown, "P:", name.as_bytes())?,
+fn write_names(shown: &mut Vec<u8>, names: &[Name]) -> Result<(), AllocError> {
+    for name in names {
+        write_part(shown, b":", name.as_bytes())?;
     }
     Ok(())
 }
 
-/// The steps, each as a letter and its words with a `;` behind it, or the refusal as it is printed.
-fn shown(alloc: Global, text: &[u8]) -> Result<String, Fail> {
-    let mut shown = String::new(alloc);
-    match read_plan(alloc, text) {
-        Ok(steps) => {
-            for step in &steps {
-                show_step(&mut shown, step)?;
-                shown.push_str(";")?;
-            }
-            Ok(shown)
+/// Writes a step as a letter and its words.
+pub(crate) fn write_step_shown(shown: &mut Vec<u8>, step: &Step) -> Result<(), AllocError> {
+    match step {
+        Step::Unpack(name, version) => {
+            write_part(shown, b"U:", name.as_bytes())?;
+            write_part(shown, b"=", version.as_bytes())
         }
-        Err(error) => Ok(format!(in alloc; "{error}")?),
+        Step::Deconfigure(name) => write_part(shown, b"D:", name.as_bytes()),
+        Step::Configure(names) => {
+            shown.extend_from_slice(b"C")?;
+            write_names(shown, names.as_slice())
+        }
+        Step::Remove(name) => write_part(shown, b"R:", name.as_bytes()),
+        Step::Purge(name) => write_part(shown, b"P:", name.as_bytes()),
+    }
+}
+
+// The steps, each as a letter and its words with a `;` behind it.
+fn write_steps(shown: &mut Vec<u8>, steps: &[Step]) -> Result<(), AllocError> {
+    for step in steps {
+        write_step_shown(shown, step)?;
+        shown.extend_from_slice(b";")?;
+    }
+    Ok(())
+}
+
+fn are_steps(alloc: Global, steps: &[Step], wanted: &str) -> Result<bool, AllocError> {
+    let mut shown = Vec::new(alloc);
+    write_steps(&mut shown, steps)?;
+    Ok(shown.as_slice() == wanted.as_bytes())
+}
+
+// Whether these are the steps of the text, or its refusal is printed so.
+fn is_plan(alloc: Global, text: &[u8], wanted: &str) -> Result<bool, AllocError> {
+    match read_plan(alloc, text) {
+        Ok(steps) => are_steps(alloc, steps.as_slice(), wanted),
+        Err(error) => is_printed(alloc, &error, wanted),
     }
 }
 
 // The text before the arrow is read or refused as is said behind it.
-fn is_read(alloc: Global, row: &str) -> Result<bool, Fail> {
+fn is_read(alloc: Global, row: &str) -> Result<bool, AllocError> {
     let Some((text, wanted)) = row.split_once('→') else {
         return Ok(false);
     };
-    Ok(shown(alloc, unescaped(alloc, text)?.as_slice())?.as_str() == wanted)
+    is_plan(alloc, unescaped(alloc, text)?.as_slice(), wanted)
 }
 
-fn assert_rows<R: Abort + AllocGlobal>(rt: &R, rows: &str) -> Result<(), Fail> {
+fn assert_rows<R: Abort + AllocGlobal>(rt: &R, rows: &str) -> Result<(), AllocError> {
     for row in rows.lines() {
         assert!(rt; is_read(rt.alloc(), row)?, "{row}");
     }
     Ok(())
 }
 
+fn is_refused_at(alloc: Global, text: &str, line: usize) -> bool {
+    match read_plan(alloc, text.as_bytes()) {
+        Ok(_) => false,
+        Err(error) => error == PlanError::Refused(PlanFault::BadPlan(line)),
+    }
+}
+
+const EXAMPLE: &str = "plan 1\nunpack foo 1.0\nconfigure bar foo\n";
+
 #[test]
-fn the_readme_example(rt: HostRuntime) -> Result<(), Fail> {
+fn the_readme_example(rt: HostRuntime) -> Result<(), AllocError> {
     let alloc = rt.alloc();
-    let steps = read_plan(alloc, b"plan 1\nunpack foo 1.0\nconfigure bar foo\n")?;
-    assert_eq!(rt; steps.len(), 2);
-    assert!(rt; read_plan(alloc, b"plan 1\nconfigure foo bar\n").is_err());
-    let text = write_plan(alloc, steps.as_slice())?;
-    assert!(rt; text.as_slice() == b"plan 1\nunpack foo 1.0\nconfigure bar foo\n".as_slice());
-    let step = read_step(alloc, b"purge foo\n")?;
-    assert!(rt; write_step(alloc, &step)?.as_slice() == b"purge foo\n".as_slice());
+    assert!(rt; is_plan(alloc, EXAMPLE.as_bytes(), "U:foo=1.0;C:bar:foo;")?);
+    assert!(rt; is_plan_again(alloc, EXAMPLE.as_bytes())?);
+    assert!(rt; is_refused_at(alloc, "plan 1\nconfigure foo bar\n", 2));
+    assert!(rt; is_line_again(alloc, b"purge foo\n")?);
     Ok(())
 }
 
@@ -82,7 +100,7 @@ plan 1$purge a$purge a$→P:a;P:a;
 ";
 
 #[test]
-fn each_kind_of_step_is_read(rt: HostRuntime) -> Result<(), Fail> {
+fn each_kind_of_step_is_read(rt: HostRuntime) -> Result<(), AllocError> {
     assert_rows(&rt, STEPS)
 }
 
@@ -99,7 +117,7 @@ plan 1$configure a b a$→E18 BadPlan 2
 ";
 
 #[test]
-fn a_group_ascends_by_bytes(rt: HostRuntime) -> Result<(), Fail> {
+fn a_group_ascends_by_bytes(rt: HostRuntime) -> Result<(), AllocError> {
     assert_rows(&rt, GROUPS)
 }
 
@@ -121,7 +139,9 @@ purge a$→E18 BadPlan 1
 ";
 
 #[test]
-fn a_text_without_its_header_is_refused_on_its_first_line(rt: HostRuntime) -> Result<(), Fail> {
+fn a_text_without_its_header_is_refused_on_its_first_line(
+    rt: HostRuntime,
+) -> Result<(), AllocError> {
     assert_rows(&rt, HEADERS)
 }
 
@@ -172,20 +192,14 @@ plan 1$purge a$x$purge b→E18 BadPlan 3
 ";
 
 #[test]
-fn a_line_that_is_no_step_is_refused_with_its_number(rt: HostRuntime) -> Result<(), Fail> {
+fn a_line_that_is_no_step_is_refused_with_its_number(rt: HostRuntime) -> Result<(), AllocError> {
     assert_rows(&rt, LINES)
 }
 
 #[test]
 fn a_byte_that_is_no_text_is_refused(rt: HostRuntime) {
-    assert_eq!(rt;
-        read_plan(rt.alloc(), b"plan 1\npurge a\0\n").err(),
-        Some(PlanError::BadPlan(2))
-    );
-    assert_eq!(rt;
-        read_plan(rt.alloc(), b"plan 1\npurge \xc3\xa9\n").err(),
-        Some(PlanError::BadPlan(2))
-    );
+    assert!(rt; is_refused_at(rt.alloc(), "plan 1\npurge a\0\n", 2));
+    assert!(rt; is_refused_at(rt.alloc(), "plan 1\npurge é\n", 2));
 }
 
 #[test]
@@ -198,17 +212,18 @@ fn refusals_are_printed_with_their_codes(rt: HostRuntime) -> Result<(), AllocErr
     Ok(())
 }
 
+fn are_five_or_no_memory(alloc: Global, text: &str) -> bool {
+    match read_plan(alloc, text.as_bytes()) {
+        Ok(steps) => steps.len() == 5,
+        Err(error) => error == PlanError::OutOfMemory,
+    }
+}
+
 /// Run with each allocation refused in turn (`rt try --test --fail-alloc N`): the answer is the same or want of memory.
 #[test]
 fn a_refused_growth_is_answered_as_want_of_memory(rt: HostRuntime) {
-    let text = b"plan 1\nunpack a 1\nunpack b 2\nconfigure a b\nremove c\npurge c\n";
-    match read_plan(rt.alloc(), text) {
-        Ok(steps) => assert_eq!(rt; steps.len(), 5),
-        Err(error) => assert_eq!(rt; error, PlanError::OutOfMemory),
-    }
+    let text = "plan 1\nunpack a 1\nunpack b 2\nconfigure a b\nremove c\npurge c\n";
+    assert!(rt; are_five_or_no_memory(rt.alloc(), text));
     // A line that is no step takes no memory.
-    assert_eq!(rt;
-        read_plan(rt.alloc(), b"plan 1\nconfigure b a\n").err(),
-        Some(PlanError::BadPlan(2))
-    );
+    assert!(rt; is_refused_at(rt.alloc(), "plan 1\nconfigure b a\n", 2));
 }

@@ -1,93 +1,110 @@
 //! Requests, each with what it is to be read as. The format is this project's own, its atoms are those of Policy
 //! 7.1; lines were counted by hand.
-use crate::texts::{is_printed, write_named};
+use crate::texts::{is_printed, write_part, write_printed};
 use rows::unescaped;
 use rules::{Goal, Op, Restriction};
 use std::alloc::{AllocError, Global};
 use std::process::Abort;
-use std::str;
-use std::test::Fail;
 use universe_request::{GoalLine, Request, RequestError, RequestFault};
 
 const ARCH: &[u8] = b"amd64";
 
-fn op_text(op: Op) -> &'static str {
+fn op_text(op: Op) -> &'static [u8] {
     match op {
-        Op::StrictlyEarlier => "<<",
-        Op::EarlierOrEqual => "<=",
-        Op::ExactlyEqual => "=",
-        Op::LaterOrEqual => ">=",
-        Op::StrictlyLater => ">>",
+        Op::StrictlyEarlier => b"<<",
+        Op::EarlierOrEqual => b"<=",
+        Op::ExactlyEqual => b"=",
+        Op::LaterOrEqual => b">=",
+        Op::StrictlyLater => b">>",
     }
 }
 
-fn write_restriction(shown: &mut String, restriction: &Option<Restriction>) -> Result<(), Fail> {
-    if let Some(restriction) = restriction {
-        shown.push_str(op_text(restriction.op))?;
-        shown.push_str(str::from_utf8(restriction.version.as_bytes())?)?;
+fn write_restriction(
+    shown: &mut Vec<u8>,
+    restriction: &Option<Restriction>,
+) -> Result<(), AllocError> {
+    match restriction {
+        Some(restriction) => write_part(
+            shown,
+            op_text(restriction.op),
+            restriction.version.as_bytes(),
+        ),
+        None => Ok(()),
     }
-    Ok(())
 }
 
-fn write_goal(shown: &mut String, goal: &Goal) -> Result<(), Fail> {
+fn write_goal(shown: &mut Vec<u8>, goal: &Goal) -> Result<(), AllocError> {
     match goal {
         Goal::Install(name, restriction) => {
-            write_named(shown, "I:", name.as_bytes())?;
-            write_restriction(shown, restriction)?;
+            write_part(shown, b"I:", name.as_bytes())?;
+            write_restriction(shown, restriction)
         }
-        Goal::Remove(name) => write_named(shown, "R:", name.as_bytes())?,
-        Goal::Purge(name) => write_named(shown, "P:", name.as_bytes())?,
-        Goal::Upgrade(name) => write_named(shown, "U:", name.as_bytes())?,
-        Goal::UpgradeAll => shown.push_str("A")?,
-        Goal::NoRemove => shown.push_str("N")?,
+        Goal::Remove(name) => write_part(shown, b"R:", name.as_bytes()),
+        Goal::Purge(name) => write_part(shown, b"P:", name.as_bytes()),
+        Goal::Upgrade(name) => write_part(shown, b"U:", name.as_bytes()),
+        Goal::UpgradeAll => shown.extend_from_slice(b"A"),
+        Goal::NoRemove => shown.extend_from_slice(b"N"),
+    }
+}
+
+// The goals, each as its line, a letter and what it is about, with a `;` behind it.
+fn write_goals(alloc: Global, shown: &mut Vec<u8>, goals: &[GoalLine]) -> Result<(), AllocError> {
+    for GoalLine { line, goal } in goals {
+        write_printed(alloc, shown, line)?;
+        write_goal(shown, goal)?;
+        shown.extend_from_slice(b";")?;
     }
     Ok(())
 }
 
-/// The goals, each as its line, a letter and what it is about, with a `;` behind it; or the refusal as it is printed.
-fn shown(alloc: Global, text: &[u8]) -> Result<String, Fail> {
-    let request = match Request::read(alloc, text, ARCH) {
-        Ok(request) => request,
-        Err(error) => return Ok(format!(in alloc; "{error}")?),
-    };
-    let mut shown = String::new(alloc);
-    for GoalLine { line, goal } in request.as_slice() {
-        let number = format!(in alloc; "{line}")?;
-        shown.push_str(number.as_str())?;
-        write_goal(&mut shown, goal)?;
-        shown.push_str(";")?;
+fn are_goals(alloc: Global, goals: &[GoalLine], wanted: &str) -> Result<bool, AllocError> {
+    let mut shown = Vec::new(alloc);
+    write_goals(alloc, &mut shown, goals)?;
+    Ok(shown.as_slice() == wanted.as_bytes())
+}
+
+// Whether these are the goals of the text, or its refusal is printed so.
+fn is_request(alloc: Global, text: &[u8], wanted: &str) -> Result<bool, AllocError> {
+    match Request::read(alloc, text, ARCH) {
+        Ok(request) => are_goals(alloc, request.as_slice(), wanted),
+        Err(error) => is_printed(alloc, &error, wanted),
     }
-    Ok(shown)
 }
 
 // The text before the arrow is read or refused as is said behind it.
-fn is_read(alloc: Global, row: &str) -> Result<bool, Fail> {
+fn is_read(alloc: Global, row: &str) -> Result<bool, AllocError> {
     let Some((text, wanted)) = row.split_once('→') else {
         return Ok(false);
     };
-    Ok(shown(alloc, unescaped(alloc, text)?.as_slice())?.as_str() == wanted)
+    is_request(alloc, unescaped(alloc, text)?.as_slice(), wanted)
 }
 
-fn assert_rows<R: Abort + AllocGlobal>(rt: &R, rows: &str) -> Result<(), Fail> {
+fn assert_rows<R: Abort + AllocGlobal>(rt: &R, rows: &str) -> Result<(), AllocError> {
     for row in rows.lines() {
         assert!(rt; is_read(rt.alloc(), row)?, "{row}");
     }
     Ok(())
 }
 
+// Whether there are two goals, of which the second is on the third line.
+fn are_two(goals: &[GoalLine]) -> bool {
+    match goals {
+        [_, second] => second.line == 3,
+        _ => false,
+    }
+}
+
+fn is_example(alloc: Global, text: &str) -> bool {
+    match Request::read(alloc, text.as_bytes(), ARCH) {
+        Ok(request) => are_two(request.as_slice()) && request.into_vec().len() == 2,
+        Err(_) => false,
+    }
+}
+
 #[test]
-fn the_readme_example(rt: HostRuntime) -> Result<(), Fail> {
-    let alloc = rt.alloc();
-    let request = Request::read(
-        alloc,
-        b"# a comment\ninstall foo (>= 2)\nremove bar",
-        b"amd64",
-    )?;
-    assert_eq!(rt; request.as_slice().len(), 2);
-    assert_eq!(rt; request.as_slice()[1].line, 3);
-    let goals = request.into_vec();
-    assert_eq!(rt; goals.len(), 2);
-    Ok(())
+fn the_readme_example(rt: HostRuntime) {
+    let text = "# a comment\ninstall foo (>= 2)\nremove bar";
+    assert!(rt; is_example(rt.alloc(), text));
 }
 
 // `$` stands for a newline.
@@ -101,7 +118,7 @@ install install$remove upgrade-all→1I:install;2R:upgrade-all;
 ";
 
 #[test]
-fn each_kind_of_goal_is_read_with_its_line(rt: HostRuntime) -> Result<(), Fail> {
+fn each_kind_of_goal_is_read_with_its_line(rt: HostRuntime) -> Result<(), AllocError> {
     assert_rows(&rt, GOALS)
 }
 
@@ -138,7 +155,7 @@ install a$(= 1)$→E16 BadRequest 2
 ";
 
 #[test]
-fn an_atom_is_read_as_in_a_relation_field(rt: HostRuntime) -> Result<(), Fail> {
+fn an_atom_is_read_as_in_a_relation_field(rt: HostRuntime) -> Result<(), AllocError> {
     assert_rows(&rt, ATOMS)
 }
 
@@ -160,7 +177,7 @@ remove a #→E16 BadRequest 1
 ";
 
 #[test]
-fn lines_that_ask_for_nothing_count_in_the_numbers(rt: HostRuntime) -> Result<(), Fail> {
+fn lines_that_ask_for_nothing_count_in_the_numbers(rt: HostRuntime) -> Result<(), AllocError> {
     assert_rows(&rt, LINES)
 }
 
@@ -175,7 +192,7 @@ remove\x0ba→E16 BadRequest 1
 ";
 
 #[test]
-fn white_space_parts_words_and_is_ignored_at_the_ends(rt: HostRuntime) -> Result<(), Fail> {
+fn white_space_parts_words_and_is_ignored_at_the_ends(rt: HostRuntime) -> Result<(), AllocError> {
     assert_rows(&rt, WHITE_SPACE)
 }
 
@@ -198,7 +215,7 @@ remove a$foo$bar$→E16 BadRequest 2
 ";
 
 #[test]
-fn every_other_line_is_refused(rt: HostRuntime) -> Result<(), Fail> {
+fn every_other_line_is_refused(rt: HostRuntime) -> Result<(), AllocError> {
     assert_rows(&rt, REFUSED)
 }
 
@@ -218,17 +235,25 @@ fn refusals_are_printed_with_their_codes(rt: HostRuntime) -> Result<(), AllocErr
     Ok(())
 }
 
+fn are_six_or_no_memory(alloc: Global, text: &str) -> bool {
+    match Request::read(alloc, text.as_bytes(), ARCH) {
+        Ok(request) => request.as_slice().len() == 6,
+        Err(error) => error == RequestError::OutOfMemory,
+    }
+}
+
+// A line that is refused by its form takes no memory.
+fn is_refused_alone(alloc: Global) -> bool {
+    match Request::read(alloc, b"install a,", ARCH) {
+        Ok(_) => false,
+        Err(error) => error == RequestError::Refused(RequestFault::BadRequest(1)),
+    }
+}
+
 /// Run with each allocation refused in turn (`rt try --test --fail-alloc N`): the answer is the same or want of memory.
 #[test]
 fn a_refused_growth_is_answered_as_want_of_memory(rt: HostRuntime) {
-    let text = b"install a (>= 1)\nremove b\npurge c\nupgrade d\nupgrade-all\nno-remove\n";
-    match Request::read(rt.alloc(), text, ARCH) {
-        Ok(request) => assert_eq!(rt; request.as_slice().len(), 6),
-        Err(error) => assert_eq!(rt; error, RequestError::OutOfMemory),
-    }
-    // A line that is refused by its form takes no memory.
-    assert_eq!(rt;
-        Request::read(rt.alloc(), b"install a,", ARCH).err(),
-        Some(RequestError::BadRequest(1))
-    );
+    let text = "install a (>= 1)\nremove b\npurge c\nupgrade d\nupgrade-all\nno-remove\n";
+    assert!(rt; are_six_or_no_memory(rt.alloc(), text));
+    assert!(rt; is_refused_alone(rt.alloc()));
 }

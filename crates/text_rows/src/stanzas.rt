@@ -1,63 +1,109 @@
 //! Control texts, each with its stanzas and its fault, after Debian Policy 5.1 and by hand.
+use crate::texts::{write_part, write_printed};
 use rows::unescaped;
-use stanza::Stanzas;
-use std::alloc::Global;
+use stanza::{Field, Stanza, Stanzas};
+use std::alloc::{AllocError, Global};
 use std::process::Abort;
-use std::str;
-use std::test::Fail;
 
-/// The stanzas of a text and the fault after them: `LINE<BYTES>` and its fields as `NAME=VALUE@LINE;`.
-fn shown(alloc: Global, text: &[u8], commented: bool) -> Result<String, Fail> {
-    let mut shown = String::new(alloc);
+// A field as `NAME=VALUE@LINE;`.
+fn write_field(alloc: Global, shown: &mut Vec<u8>, field: &Field<'_>) -> Result<(), AllocError> {
+    write_part(shown, field.name(), b"=")?;
+    write_part(shown, field.value(), b"@")?;
+    write_printed(alloc, shown, &field.line())?;
+    shown.extend_from_slice(b";")
+}
+
+fn write_fields(alloc: Global, shown: &mut Vec<u8>, stanza: &Stanza<'_>) -> Result<(), AllocError> {
+    for field in stanza.fields() {
+        write_field(alloc, shown, &field)?;
+    }
+    Ok(())
+}
+
+// A stanza as `LINE<BYTES>` and its fields.
+fn write_stanza(alloc: Global, shown: &mut Vec<u8>, stanza: &Stanza<'_>) -> Result<(), AllocError> {
+    write_printed(alloc, shown, &stanza.line())?;
+    write_part(shown, b"<", stanza.raw())?;
+    shown.extend_from_slice(b">")?;
+    write_fields(alloc, shown, stanza)
+}
+
+// The stanzas of a text and the fault after them.
+fn write_stanzas(
+    alloc: Global,
+    shown: &mut Vec<u8>,
+    stanzas: Stanzas<'_>,
+) -> Result<(), AllocError> {
+    for item in stanzas {
+        match item {
+            Ok(stanza) => write_stanza(alloc, shown, &stanza)?,
+            Err(fault) => write_printed(alloc, shown, &fault)?,
+        }
+    }
+    Ok(())
+}
+
+fn are_stanzas(
+    alloc: Global,
+    text: &[u8],
+    commented: bool,
+    wanted: &[u8],
+) -> Result<bool, AllocError> {
     let stanzas = if commented {
         Stanzas::with_comments(text)
     } else {
         Stanzas::new(text)
     };
-    for item in stanzas {
-        match item {
-            Ok(stanza) => {
-                let line = stanza.line();
-                let raw = str::from_utf8(stanza.raw())?;
-                write!(shown, "{line}<{raw}>")?;
-                for field in stanza.fields() {
-                    let name = str::from_utf8(field.name())?;
-                    let value = str::from_utf8(field.value())?;
-                    let line = field.line();
-                    write!(shown, "{name}={value}@{line};")?;
-                }
-            }
-            Err(fault) => write!(shown, "{fault}")?,
-        }
-    }
-    Ok(shown)
+    let mut shown = Vec::new(alloc);
+    write_stanzas(alloc, &mut shown, stanzas)?;
+    Ok(shown.as_slice() == wanted)
+}
+
+fn is_shown_as(
+    alloc: Global,
+    text: &[u8],
+    commented: bool,
+    wanted: &str,
+) -> Result<bool, AllocError> {
+    are_stanzas(alloc, text, commented, unescaped(alloc, wanted)?.as_slice())
 }
 
 // The text before the arrow is shown as is said behind it.
-fn is_shown(alloc: Global, commented: bool, row: &str) -> Result<bool, Fail> {
+fn is_shown(alloc: Global, commented: bool, row: &str) -> Result<bool, AllocError> {
     let Some((text, wanted)) = row.split_once('→') else {
         return Ok(false);
     };
-    let text = unescaped(alloc, text)?;
-    let wanted = unescaped(alloc, wanted)?;
-    Ok(shown(alloc, text.as_slice(), commented)?.as_bytes() == wanted.as_slice())
+    is_shown_as(alloc, unescaped(alloc, text)?.as_slice(), commented, wanted)
 }
 
-fn assert_rows<R: Abort + AllocGlobal>(rt: &R, commented: bool, rows: &str) -> Result<(), Fail> {
+fn assert_rows<R: Abort + AllocGlobal>(
+    rt: &R,
+    commented: bool,
+    rows: &str,
+) -> Result<(), AllocError> {
     for row in rows.lines() {
         assert!(rt; is_shown(rt.alloc(), commented, row)?, "{row}");
     }
     Ok(())
 }
 
-#[test]
-fn the_example_of_the_readme(rt: HostRuntime) -> Result<(), Fail> {
-    let text = b"Package: hello\nDepends: libc6\n\nPackage: world\n";
-    for item in Stanzas::new(text) {
-        let stanza = item?;
-        assert!(rt; stanza.get(b"package").is_some());
+fn have_packages(text: &str) -> bool {
+    for item in Stanzas::new(text.as_bytes()) {
+        match item {
+            Ok(stanza) => {
+                if stanza.get(b"package").is_none() {
+                    return false;
+                }
+            }
+            Err(_) => return false,
+        }
     }
-    Ok(())
+    true
+}
+
+#[test]
+fn the_example_of_the_readme(rt: HostRuntime) {
+    assert!(rt; have_packages("Package: hello\nDepends: libc6\n\nPackage: world\n"));
 }
 
 const STANZAS: &str = "\
@@ -69,7 +115,7 @@ $$A:1$$\t$B:2$$→3<A:1$>A=1@3;6<B:2$>B=2@6;
 ";
 
 #[test]
-fn stanzas_are_the_lines_between_separators(rt: HostRuntime) -> Result<(), Fail> {
+fn stanzas_are_the_lines_between_separators(rt: HostRuntime) -> Result<(), AllocError> {
     assert_rows(&rt, false, STANZAS)
 }
 
@@ -87,7 +133,7 @@ A: 1$ # no comment$→1<A: 1$ # no comment$>A=1$ # no comment@1;
 ";
 
 #[test]
-fn a_value_is_trimmed_and_keeps_its_inner_newlines(rt: HostRuntime) -> Result<(), Fail> {
+fn a_value_is_trimmed_and_keeps_its_inner_newlines(rt: HostRuntime) -> Result<(), AllocError> {
     assert_rows(&rt, false, VALUES)?;
     assert_rows(&rt, true, VALUES_COMMENTED)
 }
@@ -114,7 +160,7 @@ Conflicts: a$Conffiles: b$CONFLICTS: c$→E4 DuplicateField 3
 
 // Of the last two rows, the names share a slot of the table by which most names are known to be new.
 #[test]
-fn the_first_bad_line_is_told_and_nothing_follows(rt: HostRuntime) -> Result<(), Fail> {
+fn the_first_bad_line_is_told_and_nothing_follows(rt: HostRuntime) -> Result<(), AllocError> {
     assert_rows(&rt, false, FAULTS)
 }
 
@@ -132,23 +178,31 @@ A: 1$Explanation: x$A: 2$→E4 DuplicateField 3
 ";
 
 #[test]
-fn comments_end_a_field_and_are_in_none(rt: HostRuntime) -> Result<(), Fail> {
+fn comments_end_a_field_and_are_in_none(rt: HostRuntime) -> Result<(), AllocError> {
     assert_rows(&rt, true, COMMENTS)
+}
+
+fn has_value(stanza: &Stanza<'_>, name: &[u8], wanted: &[u8]) -> bool {
+    stanza.get(name) == Some(wanted)
+}
+
+fn has_its_values(stanza: &Stanza<'_>) -> bool {
+    has_value(stanza, b"PACKAGE", b"a")
+        && has_value(stanza, b"Explanation", b"b")
+        && has_value(stanza, b"x", b"\xff\xfe")
+        && stanza.get(b"Version").is_none()
+        && stanza.get(b"").is_none()
+}
+
+fn is_found(text: &[u8]) -> bool {
+    match Stanzas::with_comments(text).next() {
+        Some(Ok(stanza)) => has_its_values(&stanza) && stanza.again().raw() == stanza.raw(),
+        _ => false,
+    }
 }
 
 #[test]
 fn a_name_is_found_in_any_case_and_the_first_counts(rt: HostRuntime) {
     let text = b"Package: a\nExplanation: b\n# c\nexplanation: d\nX: \xff\xfe\n";
-    let mut stanzas = Stanzas::with_comments(text);
-    match stanzas.next() {
-        Some(Ok(stanza)) => {
-            assert_eq!(rt; stanza.get(b"PACKAGE"), Some(b"a".as_slice()));
-            assert_eq!(rt; stanza.get(b"Explanation"), Some(b"b".as_slice()));
-            assert_eq!(rt; stanza.get(b"x"), Some(b"\xff\xfe".as_slice()));
-            assert!(rt; stanza.get(b"Version").is_none());
-            assert!(rt; stanza.get(b"").is_none());
-            assert_eq!(rt; stanza.again().raw(), stanza.raw());
-        }
-        _ => panic!(rt; "there is no stanza"),
-    }
+    assert!(rt; is_found(text));
 }

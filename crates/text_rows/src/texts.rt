@@ -1,14 +1,25 @@
 //! Texts of rows.
 use std::alloc::{AllocError, Global};
 use std::fmt::Display;
-use std::str;
-use std::test::Fail;
 
-/// Writes a word of a step or of a goal, and a name behind it.
-pub(crate) fn write_named(shown: &mut String, word: &str, name: &[u8]) -> Result<(), Fail> {
-    shown.push_str(word)?;
-    shown.push_str(str::from_utf8(name)?)?;
-    Ok(())
+/// Writes two texts, one after another.
+pub(crate) fn write_part(
+    shown: &mut Vec<u8>,
+    first: &[u8],
+    second: &[u8],
+) -> Result<(), AllocError> {
+    shown.extend_from_slice(first)?;
+    shown.extend_from_slice(second)
+}
+
+/// Writes the value as it is printed.
+pub(crate) fn write_printed<T: Display>(
+    alloc: Global,
+    shown: &mut Vec<u8>,
+    value: &T,
+) -> Result<(), AllocError> {
+    let printed = format!(in alloc; "{value}")?;
+    shown.extend_from_slice(printed.as_bytes())
 }
 
 /// Whether the value is printed so.
@@ -17,6 +28,6 @@ pub(crate) fn is_printed<T: Display>(
     value: &T,
     wanted: &str,
 ) -> Result<bool, AllocError> {
-    let shown = format!(in alloc; "{value}")?;
-    Ok(shown.as_str() == wanted)
+    let printed = format!(in alloc; "{value}")?;
+    Ok(printed.as_str() == wanted)
 }

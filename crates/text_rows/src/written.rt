@@ -1,17 +1,25 @@
 //! Plans and steps as they are written, and lines as one step. The format is this project's own.
-use crate::plans::show_step;
+use crate::plans::write_step_shown;
+use crate::texts::is_printed;
 use plantext::{PlanError, read_plan, read_step, write_plan, write_step};
 use rows::unescaped;
 use rules::{Name, Step, is_name};
 use std::alloc::{AllocError, Global};
-use std::process::Abort;
-use std::test::Fail;
 
-// Whether the text is written again of the steps that it is read as.
-fn is_written_again(alloc: Global, row: &str) -> Result<bool, Fail> {
-    let text = unescaped(alloc, row)?;
-    let steps = read_plan(alloc, text.as_slice())?;
-    Ok(write_plan(alloc, steps.as_slice())?.as_slice() == text.as_slice())
+fn is_plan_of(alloc: Global, steps: &[Step], text: &[u8]) -> Result<bool, AllocError> {
+    Ok(write_plan(alloc, steps)?.as_slice() == text)
+}
+
+/// Whether the text is written again of the steps that it is read as.
+pub(crate) fn is_plan_again(alloc: Global, text: &[u8]) -> Result<bool, AllocError> {
+    match read_plan(alloc, text) {
+        Ok(steps) => is_plan_of(alloc, steps.as_slice(), text),
+        Err(_) => Ok(false),
+    }
+}
+
+fn is_written_again(alloc: Global, row: &str) -> Result<bool, AllocError> {
+    is_plan_again(alloc, unescaped(alloc, row)?.as_slice())
 }
 
 // Each action; groups of one and of several, whose order is that of bytes; epochs, tildes, hyphens and colons; names
@@ -28,31 +36,33 @@ plan 1$purge a$purge a$
 ";
 
 #[test]
-fn a_plan_is_written_as_it_was_read(rt: HostRuntime) -> Result<(), Fail> {
+fn a_plan_is_written_as_it_was_read(rt: HostRuntime) -> Result<(), AllocError> {
     for row in PLANS.lines() {
         assert!(rt; is_written_again(rt.alloc(), row)?, "{row}");
     }
     Ok(())
 }
 
-/// The step as a letter and its words, or the refusal as it is printed.
-fn shown(alloc: Global, text: &[u8]) -> Result<String, Fail> {
+fn is_shown(alloc: Global, step: &Step, wanted: &str) -> Result<bool, AllocError> {
+    let mut shown = Vec::new(alloc);
+    write_step_shown(&mut shown, step)?;
+    Ok(shown.as_slice() == wanted.as_bytes())
+}
+
+// Whether this is the step of the text, or its refusal is printed so.
+fn is_step(alloc: Global, text: &[u8], wanted: &str) -> Result<bool, AllocError> {
     match read_step(alloc, text) {
-        Ok(step) => {
-            let mut shown = String::new(alloc);
-            show_step(&mut shown, &step)?;
-            Ok(shown)
-        }
-        Err(error) => Ok(format!(in alloc; "{error}")?),
+        Ok(step) => is_shown(alloc, &step, wanted),
+        Err(error) => is_printed(alloc, &error, wanted),
     }
 }
 
 // The text before the arrow is one step's line, or refused as is said behind it.
-fn is_read(alloc: Global, row: &str) -> Result<bool, Fail> {
+fn is_read(alloc: Global, row: &str) -> Result<bool, AllocError> {
     let Some((text, wanted)) = row.split_once('→') else {
         return Ok(false);
     };
-    Ok(shown(alloc, unescaped(alloc, text)?.as_slice())?.as_str() == wanted)
+    is_step(alloc, unescaped(alloc, text)?.as_slice(), wanted)
 }
 
 // A line of each action; then what isn't one line with its newline, and lines that are no step's.
@@ -82,18 +92,27 @@ remove foo bar$→E18 BadPlan 1
 ";
 
 #[test]
-fn a_line_with_its_newline_is_one_step(rt: HostRuntime) -> Result<(), Fail> {
+fn a_line_with_its_newline_is_one_step(rt: HostRuntime) -> Result<(), AllocError> {
     for row in STEPS.lines() {
         assert!(rt; is_read(rt.alloc(), row)?, "{row}");
     }
     Ok(())
 }
 
-// Whether the line is written again of the step that it is read as.
-fn is_line_again(alloc: Global, row: &str) -> Result<bool, Fail> {
-    let text = unescaped(alloc, row)?;
-    let step = read_step(alloc, text.as_slice())?;
-    Ok(write_step(alloc, &step)?.as_slice() == text.as_slice())
+fn is_line_of(alloc: Global, step: &Step, line: &[u8]) -> Result<bool, AllocError> {
+    Ok(write_step(alloc, step)?.as_slice() == line)
+}
+
+/// Whether the line is written again of the step that it is read as.
+pub(crate) fn is_line_again(alloc: Global, line: &[u8]) -> Result<bool, AllocError> {
+    match read_step(alloc, line) {
+        Ok(step) => is_line_of(alloc, &step, line),
+        Err(_) => Ok(false),
+    }
+}
+
+fn is_row_again(alloc: Global, row: &str) -> Result<bool, AllocError> {
+    is_line_again(alloc, unescaped(alloc, row)?.as_slice())
 }
 
 const LINES: &str = "\
@@ -107,9 +126,9 @@ purge foo$
 ";
 
 #[test]
-fn a_step_is_written_as_its_line(rt: HostRuntime) -> Result<(), Fail> {
+fn a_step_is_written_as_its_line(rt: HostRuntime) -> Result<(), AllocError> {
     for row in LINES.lines() {
-        assert!(rt; is_line_again(rt.alloc(), row)?, "{row}");
+        assert!(rt; is_row_again(rt.alloc(), row)?, "{row}");
     }
     Ok(())
 }
@@ -123,22 +142,42 @@ fn purged(alloc: Global, name: &[u8]) -> Result<Option<Step>, AllocError> {
     }
 }
 
+fn is_line_or_no_memory(alloc: Global, step: &Step) -> bool {
+    match write_step(alloc, step) {
+        Ok(text) => text.as_slice() == b"purge foo\n".as_slice(),
+        Err(AllocError) => true,
+    }
+}
+
+fn is_plan_or_no_memory(alloc: Global, steps: &[Step]) -> bool {
+    match write_plan(alloc, steps) {
+        Ok(text) => text.as_slice() == b"plan 1\npurge foo\n".as_slice(),
+        Err(AllocError) => true,
+    }
+}
+
+fn are_written_or_no_memory(alloc: Global, steps: &[Step; 1]) -> bool {
+    is_line_or_no_memory(alloc, &steps[0]) && is_plan_or_no_memory(alloc, steps.as_slice())
+}
+
+fn is_purge_or_no_memory(alloc: Global) -> bool {
+    match purged(alloc, b"foo") {
+        Ok(Some(step)) => are_written_or_no_memory(alloc, &[step]),
+        Ok(None) => false,
+        Err(AllocError) => true,
+    }
+}
+
+fn is_group_or_no_memory(alloc: Global) -> bool {
+    match read_step(alloc, b"configure a b\n") {
+        Ok(step) => matches!(step, Step::Configure(_)),
+        Err(error) => error == PlanError::OutOfMemory,
+    }
+}
+
 /// Run with each allocation refused in turn (`rt try --test --fail-alloc N`): the answer is the same or want of memory.
 #[test]
-fn a_refused_growth_leaves_nothing_written(rt: HostRuntime) -> Result<(), Fail> {
-    let alloc = rt.alloc();
-    let Ok(Some(step)) = purged(alloc, b"foo") else {
-        return Ok(());
-    };
-    if let Ok(text) = write_step(alloc, &step) {
-        assert!(rt; text.as_slice() == b"purge foo\n".as_slice());
-    }
-    if let Ok(text) = write_plan(alloc, [step].as_slice()) {
-        assert!(rt; text.as_slice() == b"plan 1\npurge foo\n".as_slice());
-    }
-    match read_step(alloc, b"configure a b\n") {
-        Ok(read) => assert!(rt; matches!(read, Step::Configure(_))),
-        Err(error) => assert_eq!(rt; error, PlanError::OutOfMemory),
-    }
-    Ok(())
+fn a_refused_growth_leaves_nothing_written(rt: HostRuntime) {
+    assert!(rt; is_purge_or_no_memory(rt.alloc()));
+    assert!(rt; is_group_or_no_memory(rt.alloc()));
 }

@@ -64,10 +64,12 @@ impl<'p, 'a> Pair<'p, 'a> {
     pub fn name(&self) -> &'a [u8]
         ensures { result.now ≡ self.now.pkg.name }
     {
-        match (&self.standing, self.listed) {
-            (Some(pkg), _) => pkg.name(),
-            (None, Some(listed)) => listed.name(),
-            (None, None) => unreachable!(),
+        match &self.standing {
+            Some(pkg) => pkg.name(),
+            None => match self.listed {
+                Some(listed) => listed.name(),
+                None => unreachable!(),
+            },
         }
     }
 
@@ -75,10 +77,12 @@ impl<'p, 'a> Pair<'p, 'a> {
     pub fn version(&self) -> &Version<'a>
         ensures { result.now ≡ self.now.pkg.version }
     {
-        match (&self.standing, self.listed) {
-            (Some(pkg), _) => pkg.version(),
-            (None, Some(listed)) => listed.version(),
-            (None, None) => unreachable!(),
+        match &self.standing {
+            Some(pkg) => pkg.version(),
+            None => match self.listed {
+                Some(listed) => listed.version(),
+                None => unreachable!(),
+            },
         }
     }
 

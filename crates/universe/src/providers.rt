@@ -10,6 +10,7 @@ ghost use Rattle.universe.specs.Named.{AreOrdered, is_at, item_at, name_at_cmp, 
 
 use crate::name_at::NameAt;
 use crate::pair::Pair;
+use index::Entry;
 use relation::{Pkg, Provided};
 use std::alloc::{AllocError, Global};
 use std::marker::Model;
@@ -78,6 +79,19 @@ fn push_names<'a>(
     Ok(())
 }
 
+// Puts the names of the stanza's package behind the others. Its relations are read for it.
+fn push_listed<'a>(
+    alloc: Global,
+    names: &mut Vec<NameAt<'a>>,
+    place: usize,
+    listed: &Entry<'a>,
+) -> Result<(), AllocError>
+    ensures { OnOk result (names.new.items ≡ names.old.items ++ names_at place listed.now.pkg) }
+{
+    let pkg = listed.pkg(alloc)?;
+    push_names(names, place, &pkg)
+}
+
 // Puts the names of the pair's package behind the others. The relations of one that doesn't stand are read for it.
 fn push_pair<'a>(
     alloc: Global,
@@ -87,13 +101,12 @@ fn push_pair<'a>(
 ) -> Result<(), AllocError>
     ensures { OnOk result (names.new.items ≡ names.old.items ++ names_at place pair.now.pkg) }
 {
-    match (pair.standing_pkg(), pair.listed()) {
-        (Some(pkg), _) => push_names(names, place, pkg),
-        (None, Some(listed)) => {
-            let pkg = listed.pkg(alloc)?;
-            push_names(names, place, &pkg)
-        }
-        (None, None) => unreachable!(),
+    match pair.standing_pkg() {
+        Some(pkg) => push_names(names, place, pkg),
+        None => match pair.listed() {
+            Some(listed) => push_listed(alloc, names, place, listed),
+            None => unreachable!(),
+        },
     }
 }
 

@@ -1,16 +1,19 @@
 // The universe of a request over the records of the start, the indices and the preferences.
 
-ghost use Rattle.std.specs.Prelude.{◌≡◌, IfOk, IfErr, map};
+ghost use Rattle.std.specs.Prelude.{◌≡◌, ◌<◌, ◌≤◌, IfOk, IfErr, List, length, map};
 ghost use Rattle.std.specs.List.Sorted.{IsStrictlySortedBy};
 ghost use Rattle.std.specs.Option.{option_copied};
-ghost use Rattle.rules.specs.Database.{HasDistinctNames};
+ghost use Rattle.pins.specs.Prefs.{Preferences};
+ghost use Rattle.rules.specs.Available.{Index as IndexValue};
+ghost use Rattle.rules.specs.Database.{HasDistinctNames, Record as RecordValue};
 ghost use Rattle.rules.specs.Entry.{records_of};
-ghost use Rattle.rules.specs.Universe.{starts_of};
+ghost use Rattle.rules.specs.Universe.{pair_cmp, starts_of};
 ghost use Rattle.candidates.specs.Offer.{offer_name_cmp};
 ghost use Rattle.candidates.specs.Stanza.{listed_cmp};
-ghost use Rattle.universe_build.specs.Build.{first_unknown, goals_of, indices_of, is_unknown, named_by};
+ghost use Rattle.universe_build.specs.Build.{AreOffered, first_unknown, goals_of, indices_of, is_unknown, named_by, universe_with};
 ghost use Rattle.universe_build.specs.Choice.{candidate_at};
-ghost use Rattle.universe_build.specs.Error.{IsBuilt, IsUniverseFault};
+ghost use Rattle.universe_build.specs.Error.{IsBuilt, IsUniverseFault, most_pairs};
+ghost use Rattle.universe_build.specs.declared.error.UniverseError.TheVariants as error;
 
 use crate::chosen::pairs_of;
 use crate::error::UniverseError;
@@ -20,7 +23,7 @@ use pins::Prefs;
 use rules::{Goal, GoalLine, PAIRS};
 use status_record::Record;
 use std::alloc::{AllocError, Global};
-use universe::{Candidate, Candidates, Pairs, Start, Universe};
+use universe::{Candidate, Candidates, Pair, Pairs, Start, Universe};
 
 fn named_by(goal: &Goal) -> Option<&[u8]>
     ensures { option_copied result ≡ named_by goal.now }
@@ -93,6 +96,65 @@ fn candidates_of<'a>(alloc: Global, best: &[Offer<'a>]) -> Result<Candidates<'a>
     Ok(Candidates::new(listed_candidates(alloc, best)?))
 }
 
+// The pairs, unless they are more than are admitted.
+fn bounded<'p, 'a>(pairs: Vec<Pair<'p, 'a>>) -> Result<Pairs<'p, 'a>, UniverseError>
+    requires { IsStrictlySortedBy pair_cmp pairs.items }
+    ensures ok { IfOk result (λ kept. (kept ≡ pairs.entry.items) × (length pairs.entry.items ≤ most_pairs)) }
+    ensures err { IfErr result (λ e. (e ≡ error.TooLarge) × (most_pairs < length pairs.entry.items)) }
+{
+    if pairs.len() > PAIRS {
+        return Err(UniverseError::TooLarge);
+    }
+    Ok(Pairs::new(pairs))
+}
+
+// The pairs and the candidates of the goals of these lines, where the records, the stanzas and the candidates are those of
+// a start, of indices and of preferences.
+fn chosen_among<'p, 'a>(
+    alloc: Global,
+    known: &Known<'_, 'a>,
+    ordered: Vec<Found<'p, 'a>>,
+    best: &[Offer<'a>],
+    lines: &[GoalLine],
+) -> Result<(Pairs<'p, 'a>, Candidates<'a>), UniverseError>
+    requires ordered { IsStrictlySortedBy listed_cmp ordered.items }
+    requires best { IsStrictlySortedBy offer_name_cmp best.now }
+    ensures ok { (start : List RecordValue) (indices : List IndexValue) (prefs : Preferences)
+        → AreOffered start indices prefs known.now ordered.entry.items best.now
+        → IfOk result (λ chosen. IsBuilt start indices prefs lines.now (universe_with start lines.now chosen.0 chosen.1)) }
+    ensures err { (start : List RecordValue) (indices : List IndexValue) (prefs : Preferences)
+        → AreOffered start indices prefs known.now ordered.entry.items best.now
+        → IfErr result (λ e. IsUniverseFault start indices prefs lines.now e) }
+{
+    if let Some(line) = first_unknown(known, ordered.as_slice(), lines) {
+        return Err(UniverseError::UnknownName(line));
+    }
+    let pairs = bounded(pairs_of(alloc, known, ordered, best, lines)?)?;
+    let candidates = candidates_of(alloc, best)?;
+    Ok((pairs, candidates))
+}
+
+// The pairs and the candidates of the goals of these lines.
+fn chosen<'p, 'a>(
+    alloc: Global,
+    start: Vec<Recorded<'_, 'a>>,
+    indices: &'p [Index<'a>],
+    prefs: &Prefs,
+    lines: &[GoalLine],
+) -> Result<(Pairs<'p, 'a>, Candidates<'a>), UniverseError>
+    requires { HasDistinctNames start.items }
+    ensures ok { IfOk result (λ chosen. IsBuilt start.entry.items (indices_of indices.now) prefs.now lines.now
+        (universe_with start.entry.items lines.now chosen.0 chosen.1)) }
+    ensures err { IfErr result (λ e. IsUniverseFault start.entry.items (indices_of indices.now) prefs.now lines.now e) }
+{
+    let Offered {
+        known,
+        ordered,
+        candidates,
+    } = Offered::find(alloc, start, indices, prefs)?;
+    chosen_among(alloc, &known, ordered, candidates.as_slice(), lines)
+}
+
 /// The universe of the goals over the records of the start and the indices, where these preferences hold
 /// (apt_preferences(5)). Of equal versions the one that stands counts, then the stanza of the earlier index, and then the
 /// earlier stanza. The universe lends the stanzas of the indices, and of no stanza the relations are read here.
@@ -113,19 +175,7 @@ pub fn build<'p, 'a>(
 {
     let recorded = records_in(alloc, start)?;
     let starts = starts_of(alloc, recorded.as_slice())?;
-    let Offered {
-        known,
-        ordered,
-        candidates: best,
-    } = Offered::find(alloc, recorded, indices, prefs)?;
-    if let Some(line) = first_unknown(&known, ordered.as_slice(), goals.as_slice()) {
-        return Err(UniverseError::UnknownName(line));
-    }
-    let pairs = pairs_of(alloc, &known, ordered, best.as_slice(), goals.as_slice())?;
-    if pairs.len() > PAIRS {
-        return Err(UniverseError::TooLarge);
-    }
-    let candidates = candidates_of(alloc, best.as_slice())?;
+    let (pairs, candidates) = chosen(alloc, recorded, indices, prefs, goals.as_slice())?;
     let goals = goals_of(alloc, goals)?;
-    Ok(Universe::new(Pairs::new(pairs), goals, starts, candidates))
+    Ok(Universe::new(pairs, goals, starts, candidates))
 }

@@ -17,8 +17,7 @@ put_goals_more goals goal (Err fault) = refl
 -- the refusal of a line is the refusal of all
 line_refused : (e : RequestError) (goals : List GoalLine) (read : Result GoalLine RequestFault) (later : Result (List GoalLine) RequestFault)
     → IsRequestFault e read → IsRequestFault e (put_goals goals (put_goal read later))
-line_refused (error.BadRequest line) goals read later h = rw h refl
-line_refused error.TooLarge goals read later h = rw h refl
+line_refused (error.Refused fault) goals read later h = rw h refl
 line_refused error.OutOfMemory goals read later h = tt
 
 -- a line that asks for nothing is passed over

@@ -1,7 +1,6 @@
 // Why a request wasn't read.
 
-ghost use Rattle.universe_request.specs.Error.{request_error_of};
-ghost use Rattle.universe_request.specs.declared.error.RequestError.TheVariants.{OutOfMemory};
+ghost use Rattle.universe_request.specs.declared.error.RequestError.TheVariants.{OutOfMemory, Refused};
 ghost use Rattle.std.specs.Prelude.{◌≡◌};
 
 use std::alloc::{AllocError, AllocFailed};
@@ -21,25 +20,19 @@ pub enum RequestFault {
 /// Why a request wasn't read.
 #[derive(Clone, Copy, Debug, PartialEq, Eq, Error)]
 pub enum RequestError {
-    /// The line of this number, counted from 1, asks for nothing that can be asked for.
-    #[error("E16 BadRequest {0}")]
-    BadRequest(usize),
-    /// The text is too long, or has a goal too many.
-    #[error("E10 TooLarge")]
-    TooLarge,
+    /// The text is refused.
+    #[error("{0}")]
+    Refused(RequestFault),
     /// A growth was refused.
     #[error("E1 OutOfMemory")]
     OutOfMemory,
 }
 
 impl From<RequestFault> for RequestError {
-    ghost from_gives = { λ fault e. e ≡ request_error_of fault };
+    ghost from_gives = { λ fault e. e ≡ Refused fault };
 
     fn from(fault: RequestFault) -> RequestError {
-        match fault {
-            RequestFault::BadRequest(line) => RequestError::BadRequest(line),
-            RequestFault::TooLarge => RequestError::TooLarge,
-        }
+        RequestError::Refused(fault)
     }
 }
 

@@ -5,9 +5,10 @@ ghost use Rattle.rules.specs.declared.limits.TheConstants.{GOALS, TEXT_BYTES};
 ghost use Rattle.universe_request.specs.Cut.{lines_of};
 ghost use Rattle.universe_request.specs.Error.{IsRequestFault};
 ghost use Rattle.universe_request.specs.Request.{read_goal, read_lines, read_request};
-ghost use Rattle.universe_request.specs.declared.error.RequestError.TheVariants.{TooLarge};
+ghost use Rattle.universe_request.specs.declared.error.RequestError.TheVariants.{Refused};
+ghost use Rattle.universe_request.specs.declared.error.RequestFault.TheVariants.{TooLarge};
 
-use crate::error::RequestError;
+use crate::error::{RequestError, RequestFault};
 use crate::goal_text::goal_of;
 use crate::words::{cut_line, is_skipped};
 use rules::{GOALS, GoalLine, TEXT_BYTES};
@@ -15,7 +16,7 @@ use std::alloc::Global;
 use std::marker::Model;
 
 /// A request: its goals in order, each with the line that asks for it.
-#[derive(Debug, Drop)]
+#[derive(Drop)]
 pub struct Request {
     goals: Vec<GoalLine>,
 }
@@ -42,10 +43,10 @@ fn read_goal(
     ensures within { OnOk result (number ≤ GOALS) }
 {
     let Some(goal) = goal_of(alloc, text, arch)? else {
-        return Err(RequestError::BadRequest(line));
+        return Err(RequestError::Refused(RequestFault::BadRequest(line)));
     };
     if number > GOALS {
-        return Err(RequestError::TooLarge);
+        return Err(RequestError::Refused(RequestFault::TooLarge));
     }
     Ok(GoalLine { line, goal })
 }
@@ -78,10 +79,10 @@ impl Request {
     pub fn read(alloc: Global, text: &[u8], arch: &[u8]) -> Result<Request, RequestError>
         ensures ok { IfOk result (λ request. read_request arch.now text.now ≡ Ok request) }
         ensures err { IfErr result (λ e. IsRequestFault e (read_request arch.now text.now)) }
-        ensures too_long { TEXT_BYTES < length text.now → result ≡ Err TooLarge }
+        ensures too_long { TEXT_BYTES < length text.now → result ≡ Err (Refused TooLarge) }
     {
         if text.len() > TEXT_BYTES {
-            return Err(RequestError::TooLarge);
+            return Err(RequestError::Refused(RequestFault::TooLarge));
         }
         Ok(Request {
             goals: read_lines(alloc, text, arch)?,

@@ -10,10 +10,10 @@ use Rattle.candidates.proofs.offered.Offered.find.Goals as goal
 pub returns-clause-ordered : goal.returns-clause-ordered
 returns-clause-ordered c = IsOrdered-given (indices_of c.args.indices.now) c.in_ok-places.places.items c.in_ok-ordered.ordered.items
     c.in_ok-places.ensures
-    (subst (λ (places : List Place). IsOrdered (stanzas_of places) c.in_ok-ordered.ordered.items) c.as_slice.ensures.value c.in_ok-ordered.ensures)
+    (subst (λ (places : List Place). IsOrdered (stanzas_of places) c.in_ok-ordered.ordered.items) c.as_slice.ensures.value c.in_ok-ordered.ensures.ordered)
 
 pub returns-clause-candidates : goal.returns-clause-candidates
 returns-clause-candidates c = λ goals. AreCandidates-given c.args.start.items c.in_ok-known.known (indices_of c.args.indices.now)
-    c.args.prefs.now goals c.in_ok-places.places.items c.in_ok-candidates.candidates.items c.requires c.in_ok-known.ensures c.in_ok-places.ensures
-    (subst (λ (places : List Place). AreChosen c.args.prefs.now c.in_ok-known.known places c.in_ok-candidates.candidates.items)
-    c.as_slice-2.ensures.value c.in_ok-candidates.ensures)
+    c.args.prefs.now goals c.in_ok-places.places.items c.in_ok-ordered.candidates.items c.requires c.in_ok-known.ensures c.in_ok-places.ensures
+    (subst (λ (places : List Place). AreChosen c.args.prefs.now c.in_ok-known.known places c.in_ok-ordered.candidates.items)
+    c.as_slice.ensures.value c.in_ok-ordered.ensures.chosen)

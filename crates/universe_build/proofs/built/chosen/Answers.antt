@@ -1,0 +1,31 @@
+-- What is found of the start and the indices is what is offered.
+use Rattle.std.proofs.Common.{List, [], sym, subst}
+use Rattle.std.specs.List.Sorted.{IsStrictlySortedBy}
+use Rattle.rules.specs.declared.goal.Goal.{Goal}
+use Rattle.candidates.specs.Candidates.{AreCandidates}
+use Rattle.candidates.specs.Inputs.{inputs_of}
+use Rattle.candidates.specs.Offer.{Offer, offer_name_cmp}
+use Rattle.universe_build.specs.Build.{indices_of}
+use Rattle.universe_build.proofs.built.chosen.Goals as goal
+
+pub chosen_among-requires-clause-best : goal.chosen_among-requires-clause-best
+chosen_among-requires-clause-best c =
+    subst (IsStrictlySortedBy offer_name_cmp) (sym c.as_slice.ensures.value) (c.in_ok-known.ensures.candidates []).ascending
+
+pub returns-clause-ok : goal.returns-clause-ok
+returns-clause-ok c = c.chosen_among.ensures.ok c.args.start.items (indices_of c.args.indices.now) c.args.prefs.now (record {
+  distinct = c.requires;
+  records = c.in_ok-known.ensures.known;
+  stanzas = c.in_ok-known.ensures.ordered;
+  candidates = subst (λ (best : List Offer). (goals : List Goal) → AreCandidates (inputs_of c.args.start.items (indices_of c.args.indices.now) c.args.prefs.now goals) best)
+      (sym c.as_slice.ensures.value) c.in_ok-known.ensures.candidates;
+})
+
+pub returns-clause-err : goal.returns-clause-err
+returns-clause-err c = c.chosen_among.ensures.err c.args.start.items (indices_of c.args.indices.now) c.args.prefs.now (record {
+  distinct = c.requires;
+  records = c.in_ok-known.ensures.known;
+  stanzas = c.in_ok-known.ensures.ordered;
+  candidates = subst (λ (best : List Offer). (goals : List Goal) → AreCandidates (inputs_of c.args.start.items (indices_of c.args.indices.now) c.args.prefs.now goals) best)
+      (sym c.as_slice.ensures.value) c.in_ok-known.ensures.candidates;
+})
