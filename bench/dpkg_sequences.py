@@ -1,6 +1,6 @@
 #!/usr/bin/env python3
 """dpkg_sequences.py TABLE: has dpkg carry out the steps of each row of the table, and compares its answers with the
-row's. TABLE is a file with rows as crates/program_rows/src/dpkg_rows.rt has them: a line of nine columns with `→`
+row's. TABLE is a file with rows as crates/dpkg_rows/src/sequences.rt has them: a line of nine columns with `→`
 between them, of which it reads the status file, the index, the plan, dpkg's answer, what dpkg leaves, and the decision
 in docs/DECISIONS.md that the row names; `$` is a newline. Other lines are passed over. It prints each difference and
 the counts, and exits with 1 where there is one. dpkg works in a temporary folder alone, on packages that dpkg-deb makes

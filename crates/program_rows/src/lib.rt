@@ -13,15 +13,11 @@ mod choosing;
 #[cfg(test)]
 mod comparing;
 #[cfg(test)]
-mod dpkg_rows;
-#[cfg(test)]
 mod goals;
 #[cfg(test)]
 mod indices;
 #[cfg(test)]
 mod judging;
-#[cfg(test)]
-mod left;
 #[cfg(test)]
 mod matching;
 #[cfg(test)]

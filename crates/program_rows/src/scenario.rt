@@ -20,8 +20,8 @@ pub(crate) fn next_column<'a>(row: &mut &'a str) -> Result<&'a str, Fail> {
     Ok(column)
 }
 
-/// Adds files, whose texts are the next columns of the row.
-pub(crate) fn add_columns<'a>(
+// Adds files, whose texts are the next columns of the row.
+fn add_columns<'a>(
     alloc: Global,
     host: &mut Memory<'a>,
     paths: &[&'a str],
@@ -92,8 +92,8 @@ pub(crate) fn all_hold_over_two(alloc: Global, tables: &[&str]) -> Result<(), Fa
     Ok(())
 }
 
-/// Whether a row holds: a status file, an index, a request, a plan and the answer.
-pub(crate) fn holds_over_start(alloc: Global, row: &str) -> Result<bool, Fail> {
+// Whether a row holds: a status file, an index, a request, a plan and the answer.
+fn holds_over_start(alloc: Global, row: &str) -> Result<bool, Fail> {
     let mut rest = row;
     let mut host = Memory::new(alloc);
     host.add(alloc, "sources", "File: index1$")?;

@@ -1,7 +1,7 @@
 //! What the steps of a plan leave of a status file.
+use crate::archive::Archive;
 use debversion::Version;
 use plantext::read_plan;
-use rows::unescaped;
 use rules::{State, Step};
 use stanza::Stanzas;
 use status_store::{ApplyError, Database, Record};
@@ -102,42 +102,25 @@ fn is_left(alloc: Global, db: &Database<'_>, left: &str) -> Result<bool, Fail> {
     Ok(are_listed(there.as_slice(), left))
 }
 
-/// The first steps of a plan from a status file on, with the index that they unpack from. `$` stands for a newline.
-#[derive(Drop)]
-pub(crate) struct Sequence<'r> {
-    pub(crate) status: &'r str,
-    pub(crate) index: &'r str,
-    pub(crate) plan: &'r str,
-    pub(crate) count: usize,
-}
-
-/// Whether this is what a sequence leaves.
-pub(crate) fn is_left_by(alloc: Global, sequence: &Sequence<'_>, left: &str) -> Result<bool, Fail> {
-    let plan = unescaped(alloc, sequence.plan)?;
-    let steps = read_plan(alloc, plan.as_slice())?;
-    let count = sequence.count.min(steps.len());
-    is_left_by_steps(alloc, sequence, steps.as_slice().split_at(count).0, left)
+/// Whether this is what so many first steps of the plan leave of the status file.
+pub(crate) fn is_left_by(
+    alloc: Global,
+    archive: &Archive<'_>,
+    count: usize,
+    left: &str,
+) -> Result<bool, Fail> {
+    let steps = read_plan(alloc, archive.plan)?;
+    let count = count.min(steps.len());
+    is_left_by_steps(alloc, archive, steps.as_slice().split_at(count).0, left)
 }
 
 fn is_left_by_steps(
     alloc: Global,
-    sequence: &Sequence<'_>,
+    archive: &Archive<'_>,
     steps: &[Step],
     left: &str,
 ) -> Result<bool, Fail> {
-    let status = unescaped(alloc, sequence.status)?;
-    let index = unescaped(alloc, sequence.index)?;
-    is_left_of(alloc, status.as_slice(), index.as_slice(), steps, left)
-}
-
-fn is_left_of(
-    alloc: Global,
-    status: &[u8],
-    index: &[u8],
-    steps: &[Step],
-    left: &str,
-) -> Result<bool, Fail> {
-    let mut db = Database::read(alloc, status, ARCH)?;
-    take_all(&mut db, index, steps)?;
+    let mut db = Database::read(alloc, archive.status, ARCH)?;
+    take_all(&mut db, archive.index, steps)?;
     is_left(alloc, &db, left)
 }

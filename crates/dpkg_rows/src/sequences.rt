@@ -4,9 +4,11 @@
 //! Debian Policy, chapter 7, dpkg(1) and docs/DECISIONS.md; then what our actions leave of the steps that dpkg carried
 //! out, where it is something else; and last, where the two differ, the decision in docs/DECISIONS.md that says why.
 //! dpkg knows no request and no end of a plan, so `no end` is no difference.
-use crate::left::{Sequence, is_left_by};
-use crate::scenario::{holds_over_start, next_column};
+use crate::archive::{Archive, is_judged};
+use crate::left::is_left_by;
+use rows::unescaped;
 use std::alloc::Global;
+use std::str;
 use std::test::Fail;
 
 // What a package depends on is installed before it is configured (Policy 7.2), by its version or by what it provides (7.5).
@@ -236,16 +238,8 @@ const TABLES: [&str; 10] = [
 ];
 
 #[derive(Drop)]
-struct Texts<'r> {
-    status: &'r str,
-    index: &'r str,
-    request: &'r str,
-    plan: &'r str,
-}
-
-#[derive(Drop)]
 struct Row<'r> {
-    texts: Texts<'r>,
+    archive: Archive<'r>,
     by_dpkg: &'r str,
     left_by_dpkg: &'r str,
     verdict: &'r str,
@@ -253,39 +247,34 @@ struct Row<'r> {
     decision: &'r str,
 }
 
-fn texts_of<'r>(rest: &mut &'r str) -> Result<Texts<'r>, Fail> {
-    Ok(Texts {
-        status: next_column(rest)?,
-        index: next_column(rest)?,
-        request: next_column(rest)?,
-        plan: next_column(rest)?,
+// The next column of a row that has more behind it.
+fn next_column<'r>(rest: &mut &'r str) -> Result<&'r str, Fail> {
+    let Some((column, behind)) = rest.split_once('→') else {
+        return Err("a column is missing".into());
+    };
+    *rest = behind;
+    Ok(column)
+}
+
+fn archive_of<'r>(rest: &mut &'r str) -> Result<Archive<'r>, Fail> {
+    Ok(Archive {
+        status: next_column(rest)?.as_bytes(),
+        index: next_column(rest)?.as_bytes(),
+        request: next_column(rest)?.as_bytes(),
+        plan: next_column(rest)?.as_bytes(),
     })
 }
 
-fn row_of(line: &str) -> Result<Row<'_>, Fail> {
-    let mut rest = line;
+fn row_of(text: &str) -> Result<Row<'_>, Fail> {
+    let mut rest = text;
     Ok(Row {
-        texts: texts_of(&mut rest)?,
+        archive: archive_of(&mut rest)?,
         by_dpkg: next_column(&mut rest)?,
         left_by_dpkg: next_column(&mut rest)?,
         verdict: next_column(&mut rest)?,
         left_otherwise: next_column(&mut rest)?,
         decision: rest,
     })
-}
-
-// Whether the plan is judged so.
-fn is_judged(alloc: Global, row: &Row<'_>) -> Result<bool, Fail> {
-    let exit = if row.verdict == "yes" { "0" } else { "1" };
-    let Texts {
-        status,
-        index,
-        request,
-        plan,
-    } = &row.texts;
-    let verdict = row.verdict;
-    let scenario = format!(in alloc; "{status}→{index}→{request}→{plan}→{exit} {verdict}$|")?;
-    holds_over_start(alloc, scenario.as_str())
 }
 
 // How many steps dpkg carried out: all, or those before the one that it refused.
@@ -303,14 +292,7 @@ fn is_left(alloc: Global, row: &Row<'_>) -> Result<bool, Fail> {
     } else {
         row.left_otherwise
     };
-    let texts = &row.texts;
-    let sequence = Sequence {
-        status: texts.status,
-        index: texts.index,
-        plan: texts.plan,
-        count: count_of_carried_out(row)?,
-    };
-    is_left_by(alloc, &sequence, left)
+    is_left_by(alloc, &row.archive, count_of_carried_out(row)?, left)
 }
 
 // Whether the verdict on the steps is dpkg's.
@@ -338,13 +320,18 @@ enum Question {
     IsNamed,
 }
 
-fn holds(alloc: Global, asked: Question, line: &str) -> Result<bool, Fail> {
-    let row = row_of(line)?;
+fn is_so(alloc: Global, asked: Question, row: &Row<'_>) -> Result<bool, Fail> {
     match asked {
-        Question::IsJudged => is_judged(alloc, &row),
-        Question::IsLeft => is_left(alloc, &row),
-        Question::IsNamed => Ok(is_named(&row)),
+        Question::IsJudged => Ok(is_judged(alloc, &row.archive, row.verdict)?),
+        Question::IsLeft => is_left(alloc, row),
+        Question::IsNamed => Ok(is_named(row)),
     }
+}
+
+// Whether it holds of a row, in which `$` stands for a newline.
+fn holds(alloc: Global, asked: Question, line: &str) -> Result<bool, Fail> {
+    let text = unescaped(alloc, line)?;
+    is_so(alloc, asked, &row_of(str::from_utf8(text.as_slice())?)?)
 }
 
 // Fails with the first row of which it doesn't hold.
