@@ -2,8 +2,9 @@
 ghost use Rattle.std.specs.Prelude.{None, Some, bytes_eq, if◌then◌else◌};
 
 use crate::memory::Memory;
+use crate::scenario::add_plan;
 use cli::{
-    Arguments, Exit, Fault, Host, Options, Outcome, Place, Query, ReadError, Refusal,
+    Arguments, Candidate, Exit, Fault, Host, Options, Outcome, Place, Query, ReadError, Refusal,
     candidate_line, check_plan, exit_of_candidate, exit_of_refusal, exit_of_verdict,
     find_candidate, outcome_of_answer, outcome_of_candidate, verdict_line,
 };
@@ -55,45 +56,94 @@ const PATHS: Arguments<'static> = Arguments {
     plan: "plan",
 };
 
-#[test]
-fn a_verdict_is_printed_as_an_answer(rt: HostRuntime) -> Result<(), Fail> {
-    let alloc = rt.alloc();
-    let mut host = Memory::new(alloc);
-    for path in &["status", "sources", "request"] {
-        host.add(alloc, path, "")?;
+// Whether the outcome is this line on standard output, with the status of an answer that is yes.
+fn is_line(outcome: &Outcome, line: &[u8]) -> bool {
+    matches!(outcome, Outcome::Answer(printed, Exit::Success) if printed.as_slice() == line)
+}
+
+fn is_yes(alloc: Global, verdict: &Verdict) -> Result<bool, AllocError> {
+    let line = verdict_line(alloc, verdict)?;
+    Ok(line.as_slice() == b"yes\n".as_slice() && exit_of_verdict(verdict) == Exit::Success)
+}
+
+fn answers_yes(alloc: Global, answer: &Result<Verdict, Refusal>) -> Result<bool, AllocError> {
+    match answer {
+        Ok(verdict) => is_yes(alloc, verdict),
+        Err(_) => Ok(false),
     }
-    host.add(alloc, "plan", "plan 1$")?;
-    let answer = check_plan(alloc, &mut host, &PATHS);
-    let outcome = outcome_of_answer(alloc, &answer)?;
-    let verdict = answer.ok().ok_or("a verdict")?;
-    assert!(rt; exit_of_verdict(&verdict) == Exit::Success && Exit::Success.code() == 0);
-    assert!(rt; verdict_line(alloc, &verdict)?.as_slice() == b"yes\n".as_slice());
-    assert!(rt;
-        matches!(&outcome, Outcome::Answer(line, Exit::Success) if line.as_slice() == b"yes\n".as_slice())
-    );
-    Ok(())
+}
+
+fn prints_yes(alloc: Global, answer: &Result<Verdict, Refusal>) -> Result<bool, AllocError> {
+    let outcome = outcome_of_answer(alloc, answer)?;
+    Ok(is_line(&outcome, b"yes\n"))
+}
+
+fn answer_of_plan(alloc: Global) -> Result<Result<Verdict, Refusal>, Fail> {
+    let mut host = Memory::new(alloc);
+    add_plan(alloc, &mut host, "plan 1$")?;
+    Ok(check_plan(alloc, &mut host, &PATHS))
 }
 
 #[test]
-fn a_candidate_is_printed_as_an_answer(rt: HostRuntime) -> Result<(), Fail> {
-    let alloc = rt.alloc();
+fn a_verdict_is_printed_as_an_answer(rt: HostRuntime) -> Result<(), Fail> {
+    let answer = answer_of_plan(rt.alloc())?;
+    assert!(rt; answers_yes(rt.alloc(), &answer)?);
+    assert!(rt; prints_yes(rt.alloc(), &answer)?);
+    assert!(rt; Exit::Success.code() == 0);
+    Ok(())
+}
+
+const FOO: &str = "Package: foo$Status: install ok installed$Version: 1$Architecture: all$";
+
+fn has_parts_of_foo(found: &Candidate) -> bool {
+    found.version() == b"1".as_slice()
+        && found.priority() == 100
+        && exit_of_candidate(Some(found)) == Exit::Success
+}
+
+fn is_foo(alloc: Global, found: &Candidate) -> Result<bool, AllocError> {
+    let line = candidate_line(alloc, b"foo", Some(found))?;
+    Ok(line.as_slice() == b"foo 1 100\n".as_slice() && has_parts_of_foo(found))
+}
+
+fn answers_foo(
+    alloc: Global,
+    answer: &Result<Option<Candidate>, Refusal>,
+) -> Result<bool, AllocError> {
+    match answer {
+        Ok(Some(found)) => is_foo(alloc, found),
+        _ => Ok(false),
+    }
+}
+
+fn prints_foo(
+    alloc: Global,
+    answer: &Result<Option<Candidate>, Refusal>,
+) -> Result<bool, AllocError> {
+    let outcome = outcome_of_candidate(alloc, b"foo", answer)?;
+    Ok(is_line(&outcome, b"foo 1 100\n"))
+}
+
+fn add_foo(alloc: Global, host: &mut Memory<'_>) -> Result<(), Fail> {
+    host.add(alloc, "status", FOO)?;
+    host.add(alloc, "sources", "")
+}
+
+fn answer_of_foo(alloc: Global) -> Result<Result<Option<Candidate>, Refusal>, Fail> {
     let mut host = Memory::new(alloc);
-    let status = "Package: foo$Status: install ok installed$Version: 1$Architecture: all$";
-    host.add(alloc, "status", status)?;
-    host.add(alloc, "sources", "")?;
+    add_foo(alloc, &mut host)?;
     let query = Query {
         options: OPTIONS,
         name: "foo",
     };
-    let answer = find_candidate(alloc, &mut host, &query);
-    let outcome = outcome_of_candidate(alloc, b"foo", &answer)?;
-    let found = answer.ok().flatten().ok_or("a candidate")?;
-    assert!(rt; found.version() == b"1".as_slice() && found.priority() == 100);
-    assert!(rt; exit_of_candidate(Some(&found)) == Exit::Success);
-    assert!(rt;
-        candidate_line(alloc, b"foo", Some(&found))?.as_slice() == b"foo 1 100\n".as_slice()
-    );
-    assert!(rt; matches!(&outcome, Outcome::Answer(_, Exit::Success)));
+    Ok(find_candidate(alloc, &mut host, &query))
+}
+
+#[test]
+fn a_candidate_is_printed_as_an_answer(rt: HostRuntime) -> Result<(), Fail> {
+    let answer = answer_of_foo(rt.alloc())?;
+    assert!(rt; answers_foo(rt.alloc(), &answer)?);
+    assert!(rt; prints_foo(rt.alloc(), &answer)?);
     Ok(())
 }
 

@@ -59,24 +59,36 @@ preferences→index2→status sources index1 index2 index1 index2 →3 |debplan:
 index2→preferences→status sources index1 index2 index1 index2 →5 |debplan: index 2: E5 Read$
 ";
 
-// The files without the missing one, and with the refused one.
-fn host_of<'a>(
+// Adds a file, if it's not the missing one.
+fn add_file<'a>(
     alloc: Global,
-    files: &'a str,
+    host: &mut Memory<'a>,
+    file: &'a str,
     missing: &str,
     refused: &str,
-) -> Result<Memory<'a>, Fail> {
-    let mut host = Memory::new(alloc);
-    for file in files.lines() {
-        let mut text = file;
-        let path = next_column(&mut text)?;
-        if path == refused {
-            host.add(alloc, path, "x$")?;
-        } else if path != missing {
-            host.add(alloc, path, text)?;
-        }
+) -> Result<(), Fail> {
+    let mut text = file;
+    let path = next_column(&mut text)?;
+    if path == refused {
+        host.add(alloc, path, "x$")
+    } else if path == missing {
+        Ok(())
+    } else {
+        host.add(alloc, path, text)
     }
-    Ok(host)
+}
+
+// Adds the files without the missing one, and with the refused one.
+fn add_files(
+    alloc: Global,
+    host: &mut Memory<'_>,
+    missing: &str,
+    refused: &str,
+) -> Result<(), Fail> {
+    for file in FILES.lines() {
+        add_file(alloc, host, file, missing, refused)?;
+    }
+    Ok(())
 }
 
 // Whether the command line opens these files and prints this.
@@ -97,7 +109,8 @@ fn holds(alloc: Global, line: &str, row: &str) -> Result<bool, Fail> {
     let missing = next_column(&mut rest)?;
     let refused = next_column(&mut rest)?;
     let opened = next_column(&mut rest)?;
-    let mut host = host_of(alloc, FILES, missing, refused)?;
+    let mut host = Memory::new(alloc);
+    add_files(alloc, &mut host, missing, refused)?;
     Ok(is_run(alloc, &mut host, line, opened, rest)?)
 }
 

@@ -33,6 +33,14 @@ fn add_columns<'a>(
     Ok(())
 }
 
+/// Adds a plan, in which `$` stands for a newline, beside an empty status file, no sources and an empty request.
+pub(crate) fn add_plan(alloc: Global, host: &mut Memory<'_>, plan: &str) -> Result<(), Fail> {
+    for path in ["status", "sources", "request"] {
+        host.add(alloc, path, "")?;
+    }
+    host.add(alloc, "plan", plan)
+}
+
 /// Whether the command line prints this over these files.
 pub(crate) fn is_answered(
     alloc: Global,

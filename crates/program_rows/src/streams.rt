@@ -1,6 +1,6 @@
 //! Failures to write, and failures to read for want of memory.
 use crate::memory::{Memory, words_in};
-use crate::scenario::CHECK_PLAN;
+use crate::scenario::{CHECK_PLAN, add_plan};
 use cli::{Host, ReadError, refuse_for_memory, run};
 use std::alloc::Global;
 use std::io;
@@ -42,14 +42,16 @@ impl Write for Unflushed {
     }
 }
 
-// The files of a run with this plan, in which `$` stands for a newline.
-fn host_with<'a>(alloc: Global, plan: &str) -> Result<Memory<'a>, Fail> {
+fn status_on<O: Write, E: Write>(
+    alloc: Global,
+    words: &[Vec<u8>],
+    plan: &str,
+    out: &mut O,
+    err: &mut E,
+) -> Result<u8, Fail> {
     let mut host = Memory::new(alloc);
-    host.add(alloc, "status", "")?;
-    host.add(alloc, "sources", "")?;
-    host.add(alloc, "request", "")?;
-    host.add(alloc, "plan", plan)?;
-    Ok(host)
+    add_plan(alloc, &mut host, plan)?;
+    Ok(run(alloc, words, &mut host, out, err))
 }
 
 // The exit status of a run with this plan over these writers.
@@ -60,8 +62,7 @@ fn status_of<O: Write, E: Write>(
     err: &mut E,
 ) -> Result<u8, Fail> {
     let words = words_in(alloc, CHECK_PLAN)?;
-    let mut host = host_with(alloc, plan)?;
-    Ok(run(alloc, words.as_slice(), &mut host, out, err))
+    status_on(alloc, words.as_slice(), plan, out, err)
 }
 
 #[test]
