@@ -1,6 +1,6 @@
 #!/usr/bin/env python3
 """apt_candidates.py TABLE: asks `apt-cache policy` for the candidate of each row of the table, and compares its answer
-with the row's. TABLE is a file with rows as crates/program_rows/src/candidate_rows.rt has them: a line of eight columns
+with the row's. TABLE is a file with rows as crates/candidate_rows/src/answers.rt has them: a line of eight columns
 with `→` between them, which are the status file, the sources, two indices, the preferences, the target release, the
 name and the answer; `$` is a newline. Other lines are passed over. It prints each difference and the counts, and exits
 with 1 where there is one. apt reads files of a temporary folder alone, and downloads nothing."""

@@ -7,8 +7,6 @@
 #[cfg(test)]
 mod actions;
 #[cfg(test)]
-mod candidate_rows;
-#[cfg(test)]
 mod choosing;
 #[cfg(test)]
 mod comparing;

@@ -1,9 +1,10 @@
 //! Candidates. A row has the status file, the sources, two indices, the preferences, the target release, the name, and
 //! the line that is printed; where the preferences or the target are empty, their option isn't given. Wanted values are
 //! those of `apt-cache policy` (apt 2.6), which bench/apt_candidates.py asks about each row.
-use crate::memory::Printed;
-use crate::scenario::candidate_of;
+use crate::archive::{Archive, is_answer, query_of};
+use rows::unescaped;
 use std::alloc::Global;
+use std::str;
 use std::test::Fail;
 
 // Without records and target release an index gives 500, one that isn't automatic 1, or 100 with automatic upgrades,
@@ -264,18 +265,36 @@ const TEXTS: &str = "\
 →File: index1$# x$Explanation: y$Suite: stable$Explanation: z$→Package: foo$Version: 1$Architecture: all$→→Package: foo$Pin: release a=stable$Pin-Priority: 7$→→foo→foo 1 7
 ";
 
-// Whether this is printed as an answer. The exit status says whether there is a candidate.
-fn is_answer(printed: &Printed, answer: &str) -> bool {
-    let status = if answer.ends_with(" none") { 1 } else { 0 };
-    printed.status == status
-        && printed.err.is_empty()
-        && printed.out.as_slice().strip_suffix(b"\n") == Some(answer.as_bytes())
+// The next column of a row that has more behind it.
+fn next_column<'r>(rest: &mut &'r str) -> Result<&'r str, Fail> {
+    let Some((column, behind)) = rest.split_once('→') else {
+        return Err("a column is missing".into());
+    };
+    *rest = behind;
+    Ok(column)
 }
 
+fn archive_of<'r>(rest: &mut &'r str) -> Result<Archive<'r>, Fail> {
+    Ok(Archive {
+        status: next_column(rest)?.as_bytes(),
+        sources: next_column(rest)?.as_bytes(),
+        indices: (next_column(rest)?.as_bytes(), next_column(rest)?.as_bytes()),
+        preferences: next_column(rest)?.as_bytes(),
+    })
+}
+
+fn is_so(alloc: Global, text: &str) -> Result<bool, Fail> {
+    let mut rest = text;
+    let archive = archive_of(&mut rest)?;
+    let target = next_column(&mut rest)?;
+    let name = next_column(&mut rest)?;
+    Ok(is_answer(alloc, &archive, &query_of(&archive, target, name), rest)?)
+}
+
+// Whether a row holds, in which `$` stands for a newline.
 fn holds(alloc: Global, row: &str) -> Result<bool, Fail> {
-    let mut answer = row;
-    let printed = candidate_of(alloc, &mut answer)?;
-    Ok(is_answer(&printed, answer))
+    let text = unescaped(alloc, row)?;
+    is_so(alloc, str::from_utf8(text.as_slice())?)
 }
 
 const TABLES: [&str; 13] = [
