@@ -41,7 +41,7 @@ pinned_at priority = record {
     priority = priority;
   } ∷ [];
   target = None;
-  goals = [];
+  request = record { goals = []; asks_all_versions = false };
 }
 
 -- the record decides the priority of `foo 1`

@@ -1,3 +1,4 @@
+pub mod AllVersionsRows
 pub mod CandidateRows
 pub mod Decided
 pub mod DecidedPackages
@@ -9,11 +10,14 @@ pub mod GroupLemmas
 pub mod LegalLemmas
 pub mod LimitRows
 pub mod MatchRows
+pub mod OneVerdict
 pub mod PlanLemmas
 pub mod QuietLemmas
+pub mod Rising
 pub mod Rows
 pub mod RunLemmas
 pub mod StepRows
+pub mod UniverseLemmas
 pub mod VerdictLemmas
 pub mod VersionRows
 pub mod WordRows

@@ -184,7 +184,7 @@ no_reason u db none (reason.Goal number) against = against.4
     ))
 
 -- a list of steps that stops is no run
-stops_no_run : (u : Universe) (start finish : List Record) (steps : List Step) (number : ℕ) (rule : Rule)
+pub stops_no_run : (u : Universe) (start finish : List Record) (steps : List Step) (number : ℕ) (rule : Rule)
     → StopsAt u start steps number rule → ¬ Run u start steps finish
 stops_no_run u start finish steps number rule stop run =
     let parts = Run-parts u start finish stop.before (stop.step ∷ stop.rest)

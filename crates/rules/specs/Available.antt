@@ -17,14 +17,19 @@ pub record Index : Type 0 where
   pub release : Release
   pub listed : List Listed
 
+-- what is asked for: the goals, and whether every version that may be chosen is admitted
+pub record Request : Type 0 where
+  pub goals : List Goal
+  pub asks_all_versions : Bool
+
 -- what a request is answered from: the database at the start, the indices, the preferences, the target
--- release and the goals
+-- release and the request
 pub record Inputs : Type 0 where
   pub start : List Record
   pub indices : List Index
   pub preferences : List Preference
   pub target : Option (List ℕ)
-  pub goals : List Goal
+  pub request : Request
 
 -- the stanzas of all indices, those of the earlier index first
 abbrev pub all_listed : List Index → List Listed

@@ -21,6 +21,7 @@ pub mod Stanza
 pub mod State
 pub mod Step
 pub mod Universe
+pub mod UniverseLaws
 pub mod UnkeptLaws
 pub mod Unpack
 pub mod Verdict

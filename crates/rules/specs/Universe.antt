@@ -1,5 +1,5 @@
 -- The versions that a request may choose from, and what it asks for (this project's own, after apt-get(8)).
-use Rattle.std.specs.Prelude.{◌≡◌, ◌≢◌, ℕ, ℤ, Bool, List, map, ◌⊎◌, ◌↔◌, Option, Some, None, if◌then◌else◌, bytes_eq}
+use Rattle.std.specs.Prelude.{◌≡◌, ℕ, ℤ, Bool, List, map, ◌⊎◌, ◌↔◌, Option, Some, None, MatchOption, IsTrue, if◌then◌else◌, bytes_eq}
 use Rattle.std.specs.List.{Any, All, AllPairs, find}
 use Rattle.std.specs.Option.{option_map, option_and_then}
 use Rattle.std.specs.Ordering.{then_cmp, on}
@@ -10,7 +10,7 @@ use Rattle.rules.specs.Database.{Record, Stands, IsHeld, HasRecord, stands}
 use Rattle.rules.specs.State.{is_present_state, is_hold}
 use Rattle.rules.specs.Name.{name_cmp}
 use Rattle.rules.specs.Package.{Pkg}
-use Rattle.rules.specs.Priority.{IsCandidate}
+use Rattle.rules.specs.Priority.{IsCandidate, IsEligible}
 use Rattle.rules.specs.Step.{Listed}
 use Rattle.rules.specs.Version.{version_cmp, SameVersion}
 use Rattle.rules.specs.declared.goal.Goal.{Goal}
@@ -78,10 +78,24 @@ NamesExactly name version goal.NoRemove = ⊥
 unfoldable pub StandsAs : List Record → List ℕ → List ℕ → Type 0
 StandsAs db name version = HasRecord (λ found. Stands found × SameVersion found.version version) name db
 
--- the version is the candidate of the name, or available and asked for by an install goal with `=`
+-- the version is the candidate of the name, with some priority
+abbrev pub IsACandidate : Inputs → List ℕ → List ℕ → Type 0
+IsACandidate inputs name version = (priority : ℤ) × IsCandidate inputs name version priority
+
+-- the version is available and asked for by an install goal with `=`
+abbrev pub IsAskedFor : Inputs → List ℕ → List ℕ → Type 0
+IsAskedFor inputs name version = IsAvailable inputs name version × Any (NamesExactly name version) inputs.request.goals
+
+-- all versions are asked for, and the version may be chosen by itself
+abbrev pub IsOneOfAll : Inputs → List ℕ → List ℕ → Type 0
+IsOneOfAll inputs name version =
+    IsTrue inputs.request.asks_all_versions × ((priority : ℤ) × IsEligible inputs name version priority)
+
+-- offered: the candidate of the name, what an install goal asks for with `=`, and where all versions are asked for
+-- each one that may be chosen
 unfoldable pub IsOffered : Inputs → List ℕ → List ℕ → Type 0
-IsOffered inputs name version = ((priority : ℤ) × IsCandidate inputs name version priority)
-    ⊎ (IsAvailable inputs name version × Any (NamesExactly name version) inputs.goals)
+IsOffered inputs name version =
+    IsACandidate inputs name version ⊎ (IsAskedFor inputs name version ⊎ IsOneOfAll inputs name version)
 
 -- admitted: the version that stands, and for a name that isn't held what is offered
 unfoldable pub IsAdmitted : Inputs → List ℕ → List ℕ → Type 0
@@ -91,6 +105,27 @@ IsAdmitted inputs name version = StandsAs inputs.start name version
 -- the order of pairs: by name and then by version
 abbrev pub pair_cmp : Pair → Pair → Ordering
 pair_cmp = then_cmp (on (λ pair. pair.pkg.name) name_cmp) (on (λ pair. pair.pkg.version) version_cmp)
+
+-- the text is that of the version's counting package
+unfoldable pub IsKeptText : Inputs → List ℕ → List ℕ → Type 0
+IsKeptText inputs name version = MatchOption (counting_package inputs name version) ⊥ (λ pkg. pkg.version ≡ version)
+
+-- the candidate of its name, in the text of the counting package
+unfoldable pub IsKeptCandidate : Inputs → Candidate → Type 0
+IsKeptCandidate inputs candidate =
+    IsACandidate inputs candidate.name candidate.version × IsKeptText inputs candidate.name candidate.version
+
+-- the order of candidates: by name
+abbrev pub candidate_cmp : Candidate → Candidate → Ordering
+candidate_cmp = on (λ candidate. candidate.name) name_cmp
+
+-- the fact is about the name, as a test
+abbrev pub is_start_of : List ℕ → Start → Bool
+is_start_of name start = bytes_eq start.name name
+
+-- what the start says of the name, if it knows it
+abbrev pub start_in : Universe → List ℕ → Option Start
+start_in u name = find (is_start_of name) u.starts
 
 -- the candidate's version, if the name has one
 abbrev pub candidate_of : Universe → List ℕ → Option (List ℕ)
@@ -115,15 +150,15 @@ listed_for u (step.Remove name) = None
 listed_for u (step.Purge name) = None
 
 -- the universe of the inputs: its pairs are the admitted ones in their order, each with its counting package
--- and its index package, and its candidates are those of their names
+-- and its index package, and its candidates are those of their names in their order, each in its kept text
 pub record IsUniverse (inputs : Inputs) (u : Universe) : Type 0 where
   pub ascending : AllPairs (λ earlier later. pair_cmp earlier later ≡ Less) u.pairs
   pub admitted : (name version : List ℕ) → IsAdmitted inputs name version ↔ Any (λ pair. IsOf name version pair.pkg) u.pairs
   pub counting : All (λ pair. counting_package inputs pair.pkg.name pair.pkg.version ≡ Some pair.pkg) u.pairs
   pub listed : All (λ pair. index_package inputs.indices pair.pkg.name pair.pkg.version ≡ pair.listed) u.pairs
-  pub goals : u.goals ≡ inputs.goals
+  pub goals : u.goals ≡ inputs.request.goals
   pub starts : u.starts ≡ starts_of inputs.start
-  pub candidates : All (λ candidate. (priority : ℤ) × IsCandidate inputs candidate.name candidate.version priority) u.candidates
+  pub candidates : All (IsKeptCandidate inputs) u.candidates
   pub every_candidate : (name version : List ℕ) (priority : ℤ) → IsCandidate inputs name version priority
       → Any (λ candidate. (candidate.name ≡ name) × SameVersion candidate.version version) u.candidates
-  pub one_candidate : AllPairs (λ earlier later. earlier.name ≢ later.name) u.candidates
+  pub candidates_ascending : AllPairs (λ earlier later. candidate_cmp earlier later ≡ Less) u.candidates

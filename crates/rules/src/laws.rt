@@ -4,6 +4,7 @@ ghost use Rattle.rules.specs.Entry.{WrittenAsLeft};
 ghost use Rattle.rules.specs.GroupLaws.{UnionPasses, HasGreatestPart, IndivisibleByOthers};
 ghost use Rattle.rules.specs.LegalLaws.{AllowedActsOnPresent, OneFirstFailing, AllowedOrFailing, AllowedWhereNoneFails};
 ghost use Rattle.rules.specs.PlanLaws.{GoodPlanKeepsPromise};
+ghost use Rattle.rules.specs.UniverseLaws.{OneUniverse, OneVerdict};
 ghost use Rattle.rules.specs.Verdict.{GoodPlanHasYes, GoodWhereNothingIsAgainst, UniverseIsBuilt};
 ghost use Rattle.rules.specs.RunLaws.{RunGoesOn, OneEnd, RunOrStops, DistinctNamesKept, QuietKept, QuietAfterRun};
 
@@ -89,6 +90,16 @@ pub fn universe_is_built()
 /// holds are kept follows from the steps being allowed.
 pub fn good_where_nothing_is_against()
     ensures { GoodWhereNothingIsAgainst }
+{}
+
+/// The same inputs have one universe.
+pub fn one_universe()
+    ensures { OneUniverse }
+{}
+
+/// A plan has one verdict.
+pub fn one_verdict()
+    ensures { OneVerdict }
 {}
 
 /// A plan that is good has no other verdict than yes.

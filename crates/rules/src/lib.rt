@@ -21,8 +21,8 @@ pub use goal::{Goal, GoalLine, Restriction};
 pub use laws::{
     allowed_acts_on_present, allowed_or_failing, allowed_where_none_fails, distinct_names_kept,
     good_plan_has_yes, good_plan_keeps_promise, good_where_nothing_is_against, has_greatest_part,
-    indivisible_by_others, one_end, one_first_failing, quiet_after_run, quiet_kept, run_goes_on,
-    run_or_stops, union_passes, universe_is_built, written_as_left,
+    indivisible_by_others, one_end, one_first_failing, one_universe, one_verdict, quiet_after_run,
+    quiet_kept, run_goes_on, run_or_stops, union_passes, universe_is_built, written_as_left,
 };
 pub use limits::{GOALS, INDICES, PACKAGES, PAIRS, STEPS, TEXT_BYTES};
 pub use name::{Name, Names, is_name, is_name_byte};

@@ -1,0 +1,5 @@
+use Rattle.rules.proofs.OneVerdict.{one_verdict}
+use Rattle.rules.proofs.laws.one_verdict.Goals as goal
+
+pub returns : goal.returns
+returns c = one_verdict
