@@ -14,7 +14,8 @@ use Rattle.rules.specs.ElementLaws.{Any-elim, Any-from_list_any, list_any-from_c
 use Rattle.rules.specs.Name.{name_cmp}
 use Rattle.rules.specs.Step.{Listed}
 use Rattle.rules.specs.Version.{version_cmp}
-use Rattle.universe.proofs.Finding.{AllPairs-rising, find-some}
+use Rattle.rules.proofs.Rising.{AllPairs-rising}
+use Rattle.universe.proofs.Finding.{find-some}
 use Rattle.universe.proofs.PairOrder.{of_itself}
 use Rattle.universe.proofs.Searching.{searched_any}
 use Rattle.candidates.specs.Stanza.{IsOrdered, has_name, listed_cmp}

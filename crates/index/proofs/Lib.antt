@@ -3,3 +3,5 @@ pub mod SourcesLemmas
 pub mod IndexLemmas
 pub mod NameLemmas
 pub mod ProviderLemmas
+pub mod NamedCut
+pub mod NamedPlaces

@@ -8,6 +8,7 @@ mod entry;
 mod error;
 mod item;
 mod listed;
+mod name_at;
 mod names;
 mod providers;
 mod read;

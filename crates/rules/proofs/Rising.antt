@@ -1,11 +1,15 @@
--- Two rising lists of the same elements are one.
+-- Two rising lists of the same elements are one, and what is strictly in order rises.
 use Rattle.std.proofs.Common.{◌≡◌, suc, List, [], ◌∷◌, ◌⊎◌, refl, sym, ap, subst, ◌∙◌, arith}
 use Rattle.std.specs.Cmp.{IsTotalOrder, tied_itself}
 use Rattle.std.specs.List.{All, AllPairs, Contains}
+use Rattle.std.specs.List.Sorted.{IsStrictlySortedBy}
 use Rattle.std.specs.Ordering.{ordering_reverse}
 use Rattle.std.specs.declared.cmp.Ordering.{Ordering}
 use Rattle.std.specs.declared.cmp.Ordering.TheVariants.{Less, Equal, Greater}
 use Rattle.std.proofs.lemmas.List.Elements.{All-contains}
+use Rattle.std.proofs.lemmas.List.Kept.{AllPairs-cons}
+use Rattle.std.proofs.lemmas.Map.Keys.{sorted_tail}
+use Rattle.std.proofs.lemmas.Map.Views.{All-after_first}
 use Rattle.rules.specs.ElementLaws.{Contains-cons, Contains-head, Contains-nil, Contains-rest}
 use mathlib.Core.Logic.{inl, inr}
 
@@ -64,3 +68,10 @@ module _ {X : Type 0} (R : X → X → Ordering) (o : IsTotalOrder R) where
       (pairs_tail (λ (a : X) (b : X). R a b ≡ Less) x xs up) (pairs_tail (λ (a : X) (b : X). R a b ≡ Less) y ys up')
       (within_tails x y xs ys up same within) (within_tails y x ys xs up' (sym same) back) in
       cc
+
+-- each element of a sorted list is before all that follow
+pub AllPairs-rising : {X : Type 0} (R : X → X → Ordering) (xs : List X) → IsStrictlySortedBy R xs
+    → AllPairs (λ earlier later. R earlier later ≡ Less) xs
+AllPairs-rising R [] sorted = λ i j d before within. absurd (omega arith)
+AllPairs-rising {X} R (x ∷ xs) sorted = AllPairs-cons (λ (earlier : X) (later : X). R earlier later ≡ Less) x xs
+    (All-after_first R x xs sorted) (AllPairs-rising R xs (sorted_tail R x xs sorted))

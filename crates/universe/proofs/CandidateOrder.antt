@@ -9,8 +9,8 @@ use Rattle.std.proofs.lemmas.Map.Text.{is_eq-slice_cmp}
 use Rattle.rules.specs.Name.{name_cmp}
 use Rattle.rules.specs.NamedLaws.{bytes_eq-true, bytes_eq-same}
 use Rattle.rules.specs.Universe.{Candidate}
-use Rattle.universe.specs.Candidate.{candidate_cmp}
-use Rattle.universe.specs.CandidateLaws.{candidate_cmp_total}
+use Rattle.rules.specs.Universe.{candidate_cmp}
+use Rattle.rules.specs.UniverseLaws.{candidate_cmp_total}
 use Rattle.universe.proofs.Finding.{not_back, sorted-one}
 use Rattle.universe.proofs.Searching.{searched_find, searched_none}
 

@@ -7,11 +7,11 @@ use Rattle.std.specs.Ordering.{is_lt, ordering_reverse}
 use Rattle.std.specs.declared.cmp.Ordering.{Ordering}
 use Rattle.std.specs.declared.cmp.Ordering.TheVariants.{Less, Equal}
 use Rattle.std.proofs.lemmas.List.Elements.{All-contains}
-use Rattle.std.proofs.lemmas.List.Kept.{AllPairs-cons}
 use Rattle.std.proofs.lemmas.Map.Keys.{sorted_tail}
 use Rattle.std.proofs.lemmas.Map.Views.{All-after_first}
 use Rattle.std.proofs.lemmas.Option.{same_Some}
 use Rattle.rules.specs.ElementLaws.{Contains-cons, Contains-head, Contains-nil, Contains-rest}
+use Rattle.rules.proofs.Rising.{AllPairs-rising}
 use mathlib.Core.Logic.{inl, inr}
 
 -- what is found is an element that passes
@@ -67,13 +67,6 @@ sorted-one {X} {R} o (z ∷ zs) sorted x y one other tied =
     at (inr first) (inl second) rest =
         absurd (let e : R z x ≡ Less = below x first in let f : R z x ≡ Equal = subst (λ (w : X). R w x ≡ Equal) (sym second) (tied_back o x y tied) in cc)
     at (inr first) (inr second) rest = rest first second tied
-
--- each element of a sorted list is before all that follow
-pub AllPairs-rising : {X : Type 0} (R : X → X → Ordering) (xs : List X) → IsStrictlySortedBy R xs
-    → AllPairs (λ earlier later. R earlier later ≡ Less) xs
-AllPairs-rising R [] sorted = λ i j d before within. absurd (omega arith)
-AllPairs-rising {X} R (x ∷ xs) sorted = AllPairs-cons (λ (earlier : X) (later : X). R earlier later ≡ Less) x xs
-    (All-after_first R x xs sorted) (AllPairs-rising R xs (sorted_tail R x xs sorted))
 
 -- what is strictly in order is in order
 pub not_back : {X : Type 0} (R : X → X → Ordering) → ((x y : X) → R x y ≡ ordering_reverse (R y x)) → (xs : List X)

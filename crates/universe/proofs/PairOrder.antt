@@ -18,7 +18,7 @@ use Rattle.rules.specs.Universe.{IsOf, Pair, pair_cmp}
 use Rattle.rules.specs.Version.{version_cmp}
 use Rattle.rules.specs.VersionOrderLaws.{SameVersion-refl, SameVersion-symm, SameVersion-trans}
 use Rattle.universe.specs.Pair.{pkg_order}
-use Rattle.universe.specs.PairLaws.{pair_cmp_total}
+use Rattle.rules.specs.UniverseLaws.{pair_cmp_total}
 use Rattle.universe.proofs.Finding.{not_back, sorted-one}
 use Rattle.universe.proofs.Searching.{searched_find, searched_none}
 

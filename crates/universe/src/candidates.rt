@@ -5,7 +5,7 @@ ghost use Rattle.std.specs.List.{find};
 ghost use Rattle.std.specs.List.Sorted.{IsStrictlySortedBy};
 ghost use Rattle.std.specs.Option.{option_copied};
 ghost use Rattle.rules.specs.Name.{name_cmp};
-ghost use Rattle.universe.specs.Candidate.{candidate_cmp};
+ghost use Rattle.rules.specs.Universe.{candidate_cmp};
 
 use crate::candidate::Candidate;
 use std::cmp::Ordering;
@@ -21,7 +21,7 @@ impl<'a> Model for Candidates<'a> {
     ghost use Rattle.std.specs.Prelude.{List};
     ghost use Rattle.std.specs.List.Sorted.{IsStrictlySortedBy};
     ghost use Rattle.rules.specs.Universe.{Candidate as CandidateValue};
-    ghost use Rattle.universe.specs.Candidate.{candidate_cmp};
+    ghost use Rattle.rules.specs.Universe.{candidate_cmp};
 
     ghost Value = { List CandidateValue };
 

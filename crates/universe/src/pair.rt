@@ -5,7 +5,7 @@ ghost use Rattle.std.specs.Cmp.{eq_by_cmp_equiv, partial_equiv_from_equiv, po};
 ghost use Rattle.std.specs.Option.{option_copied, option_map};
 ghost use Rattle.std.specs.Ordering.{as_partial_cmp, eq_by_cmp};
 ghost use Rattle.rules.specs.Universe.{pair_cmp};
-ghost use Rattle.universe.specs.PairLaws.{pair_cmp_total};
+ghost use Rattle.rules.specs.UniverseLaws.{pair_cmp_total};
 
 use debversion::Version;
 use index::Entry;

@@ -4,7 +4,7 @@ ghost use Rattle.std.specs.Prelude.{◌≡◌, IfOk};
 ghost use Rattle.std.specs.List.Sorted.{IsStrictlySortedBy};
 ghost use Rattle.std.specs.Option.{option_copied};
 ghost use Rattle.rules.specs.Universe.{candidate_of, listed_of};
-ghost use Rattle.universe.specs.Candidate.{candidate_cmp};
+ghost use Rattle.rules.specs.Universe.{candidate_cmp};
 ghost use Rattle.universe.specs.Named.{packages_of};
 ghost use Rattle.universe.specs.Universe.{numbered, numbered_stanza};
 

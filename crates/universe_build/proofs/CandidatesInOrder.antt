@@ -4,7 +4,7 @@ use Rattle.std.specs.List.{AllByRecursion}
 use Rattle.std.specs.List.Sorted.{IsStrictlySortedBy}
 use Rattle.std.specs.declared.cmp.Ordering.TheVariants.{Less}
 use Rattle.candidates.specs.Offer.{Offer, offer_name_cmp}
-use Rattle.universe.specs.Candidate.{candidate_cmp}
+use Rattle.rules.specs.Universe.{candidate_cmp}
 use Rattle.universe_build.specs.Choice.{candidate_at}
 
 -- what is before all later offers is before all later candidates

@@ -26,7 +26,7 @@ use Rattle.rules.specs.Universe.{Candidate, IsAdmitted, IsOf, IsOffered, IsUnive
 use Rattle.rules.specs.Version.{SameVersion}
 use Rattle.rules.specs.VersionOrderLaws.{SameVersion-refl, SameVersion-symm, SameVersion-trans}
 use Rattle.rules.specs.declared.goal.Goal.{Goal}
-use Rattle.universe.proofs.Finding.{AllPairs-rising}
+use Rattle.rules.proofs.Rising.{AllPairs-rising}
 use Rattle.universe.proofs.PairOrder.{of_itself}
 use Rattle.candidates.specs.Candidates.{AreCandidates}
 use Rattle.candidates.specs.Inputs.{inputs_of}

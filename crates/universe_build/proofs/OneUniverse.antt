@@ -14,7 +14,7 @@ use Rattle.rules.specs.Step.{Listed, is_named}
 use Rattle.rules.specs.Universe.{IsOf, IsUniverse, Pair, Universe, pair_cmp}
 use Rattle.rules.specs.Version.{SameVersion}
 use Rattle.rules.specs.VersionOrderLaws.{version_cmp-same_right}
-use Rattle.universe.specs.PairLaws.{pair_cmp_total}
+use Rattle.rules.specs.UniverseLaws.{pair_cmp_total}
 use Rattle.universe.proofs.PairOrder.{of_itself}
 use Rattle.universe.proofs.Rising.{IsWithin, same_rising}
 use Rattle.candidates.proofs.Searching.{find-agree}

@@ -10,7 +10,7 @@ use Rattle.rules.specs.ElementLaws.{Any-intro}
 use Rattle.rules.specs.Universe.{IsOf, Pair, pair_cmp}
 use Rattle.universe.proofs.Finding.{find-exists, find-some}
 use Rattle.universe.proofs.PairOrder.{is_of-from, is_of-parts, of_itself}
-use Rattle.universe.specs.PairLaws.{pair_cmp_total}
+use Rattle.rules.specs.UniverseLaws.{pair_cmp_total}
 use Rattle.candidates.proofs.Finding.{find-dedup}
 use Rattle.candidates.proofs.StanzaOrder.{bare, is_of-alike}
 use Rattle.universe_build.specs.Chosen.{ArePairs}

@@ -1,4 +1,4 @@
--- The names that the packages of pairs have or provide, and the places of the pairs, counted from 0 (Policy 7.5).
+-- The names that packages of a list have or provide, and the places of the packages, counted from 0 (Policy 7.5).
 use Rattle.std.specs.Prelude.{ℕ, Bool, ◌+◌, ◌↔◌, List, [], ◌∷◌, ◌++◌, map, bytes_eq, if◌then◌else◌}
 use Rattle.std.specs.List.{Contains, filter, flat_map}
 use Rattle.std.specs.List.Sorted.{IsStrictlySortedBy}
@@ -6,9 +6,8 @@ use Rattle.std.specs.Ordering.{nat_cmp, on, then_cmp}
 use Rattle.std.specs.declared.cmp.Ordering.{Ordering}
 use Rattle.rules.specs.Name.{name_cmp}
 use Rattle.rules.specs.Package.{Pkg, Provided}
-use Rattle.rules.specs.Universe.{Pair}
 
--- a name that a package has or provides, and the place of its pair
+-- a name that a package has or provides, and the place of the package
 pub record NameAt : Type 0 where
   pub name : List ℕ
   pub place : ℕ
@@ -25,10 +24,6 @@ is_at name at = bytes_eq at.name name
 abbrev pub places_of : List ℕ → List NameAt → List ℕ
 places_of name names = map (λ at. at.place) (filter (is_at name) names)
 
--- the packages of pairs
-abbrev pub packages_of : List Pair → List Pkg
-packages_of pairs = map (λ pair. pair.pkg) pairs
-
 -- the name that an item provides, unless it is of a foreign architecture
 abbrev pub item_at : ℕ → Provided → List NameAt
 item_at place item = if item.foreign then [] else record { name = item.name; place = place } ∷ []
@@ -37,10 +32,10 @@ item_at place item = if item.foreign then [] else record { name = item.name; pla
 abbrev pub names_at : ℕ → Pkg → List NameAt
 names_at place pkg = record { name = pkg.name; place = place } ∷ flat_map (item_at place) pkg.relations.provides
 
--- the names that the packages of these pairs have and provide, the first of which stands at this place
-abbrev pub names_from : ℕ → List Pair → List NameAt
+-- the names that these packages have and provide, the first of which stands at this place
+abbrev pub names_from : ℕ → List Pkg → List NameAt
 names_from place [] = []
-names_from place (pair ∷ later) = names_at place pair.pkg ++ names_from (place + 1) later
+names_from place (pkg ∷ later) = names_at place pkg ++ names_from (place + 1) later
 
 -- the names in order, and none twice
 pub record AreOrdered (names ordered : List NameAt) : Type 0 where

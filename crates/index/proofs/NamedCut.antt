@@ -11,7 +11,7 @@ use Rattle.std.proofs.lemmas.Map.Keys.{Less-from_sorted}
 use Rattle.std.proofs.lemmas.Map.Text.{is_eq-slice_cmp}
 use Rattle.std.proofs.Common.{leb}
 use Rattle.rules.specs.Name.{name_cmp}
-use Rattle.universe.specs.Named.{NameAt, is_at, name_at_cmp}
+use Rattle.index.specs.Named.{NameAt, is_at, name_at_cmp}
 
 -- what stands before the point passes, and what stands behind it doesn't
 abbrev IsCut : {X : Type 0} → (X → Bool) → List X → ℕ → Type 0

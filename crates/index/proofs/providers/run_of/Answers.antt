@@ -5,9 +5,9 @@ use Rattle.std.specs.List.{filter}
 use Rattle.std.specs.List.Sorted.{IsStrictlySortedBy}
 use Rattle.std.specs.Ordering.{is_le, is_lt}
 use Rattle.rules.specs.Name.{name_cmp}
-use Rattle.universe.specs.Named.{NameAt, name_at_cmp}
-use Rattle.universe.proofs.NamedCut.{run_is}
-use Rattle.universe.proofs.providers.run_of.Goals as goal
+use Rattle.index.specs.Named.{NameAt, name_at_cmp}
+use Rattle.index.proofs.NamedCut.{run_is}
+use Rattle.index.proofs.providers.run_of.Goals as goal
 
 pub from-requires : goal.from-requires
 from-requires c =

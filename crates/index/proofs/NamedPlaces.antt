@@ -1,5 +1,5 @@
--- The names that the packages of pairs have and provide: whose places they are, and in which order.
-use Rattle.std.proofs.Common.{◌≡◌, ℕ, zero, suc, ◌+◌, Bool, true, false, ◌||◌, ◌⊎◌, List, [], ◌∷◌, Option, Some, None, slice_get, Contains, refl, sym, ap, subst, ◌∙◌, arith, bytes_eq, eqb, ltb}
+-- The names that packages of a list have and provide: whose places they are, and in which order.
+use Rattle.std.proofs.Common.{◌≡◌, Bor, ℕ, zero, suc, ◌+◌, ◌<◌, ◌++◌, drop, get_or, length, map, Bool, true, false, ◌||◌, ◌⊎◌, List, [], ◌∷◌, Option, Some, None, slice_get, Contains, refl, sym, ap, subst, ◌∙◌, arith, bytes_eq, eqb, ltb}
 use Rattle.std.specs.Cmp.{Equal-is, eq_by_cmp_equiv}
 use Rattle.std.specs.List.{AllByRecursion, dedup, filter, flat_map, list_any}
 use Rattle.std.specs.List.Sorted.{IsPermutation, IsSorted, IsStrictlySortedBy}
@@ -14,17 +14,17 @@ use Rattle.std.proofs.lemmas.List.Kept.{Contains-dedup, Contains-from_dedup, IsS
 use Rattle.std.proofs.lemmas.List.Sorted.{Contains-permutation, IsPermutation-sym}
 use Rattle.std.proofs.lemmas.Map.Keys.{sorted_from_strictly_increasing}
 use Rattle.std.proofs.lemmas.Map.Text.{is_eq-slice_cmp}
+use Rattle.std.proofs.lemmas.List.{append_assoc}
+use Rattle.std.proofs.Math.Seq.{drop-cons}
 use Rattle.rules.specs.ElementLaws.{Contains-cons, Contains-filter, Contains-filter_intro, Contains-head, Contains-map, Contains-map_intro, Contains-nil, Contains-rest}
 use Rattle.rules.specs.Name.{name_cmp}
 use Rattle.rules.specs.NamedLaws.{bytes_eq-same, bytes_eq-true}
 use Rattle.rules.specs.Package.{Pkg, Provided}
-use Rattle.rules.specs.Universe.{Pair}
 use Rattle.index.specs.Providers.{IsProviderAt, is_item_of, is_provider, is_provider_at, providers_of}
 use Rattle.index.proofs.ProviderLemmas.{matches-test, providers-ascend, providers-match, test-matches}
-use Rattle.universe.specs.Named.{AreOrdered, NameAt, is_at, item_at, name_at_cmp, names_at, names_from, packages_of, places_of}
-use Rattle.universe.specs.NamedLaws.{name_at_cmp_total}
-use Rattle.universe.proofs.Finding.{AllPairs-rising}
-use Rattle.universe.proofs.Rising.{same_rising}
+use Rattle.index.specs.Named.{AreOrdered, NameAt, is_at, item_at, name_at_cmp, names_at, names_from, places_of}
+use Rattle.index.specs.NamedLaws.{name_at_cmp_total}
+use Rattle.rules.proofs.Rising.{AllPairs-rising, same_rising}
 use mathlib.Core.Logic.{inl, inr}
 
 -- a name at a place
@@ -95,31 +95,31 @@ pkg_from place pkg name passes = elim (either (bytes_eq pkg.name name) (list_any
       (items_from place pkg.relations.provides name rest)
 ]
 
--- Pairs
+-- Lists of packages
 
 -- the package at this place has or provides the name
-abbrev IsNamed : List ℕ → List Pair → ℕ → Type 0
-IsNamed name pairs place = is_provider_at name (packages_of pairs) place ≡ true
+abbrev IsNamed : List ℕ → List Pkg → ℕ → Type 0
+IsNamed name packages place = is_provider_at name packages place ≡ true
 
-pairs_to : (first : ℕ) (pairs : List Pair) (at : NameAt) → Contains (names_from first pairs) at
-    → (behind : ℕ) × (at.place ≡ first + behind) × IsNamed at.name pairs behind
-pairs_to first [] at within = absurd (Contains-nil at within)
-pairs_to first (pair ∷ later) at within = elim (Contains-append_cases (names_at first pair.pkg) (names_from (first + 1) later) at within) [
-  | inl here ↦ let found = pkg_to first pair.pkg at here in (0, omega (arith, found.0), found.1)
-  | inr rest ↦ let found = pairs_to (first + 1) later at rest in (suc found.0, omega (arith, found.1), found.2)
+list_to : (first : ℕ) (packages : List Pkg) (at : NameAt) → Contains (names_from first packages) at
+    → (behind : ℕ) × (at.place ≡ first + behind) × IsNamed at.name packages behind
+list_to first [] at within = absurd (Contains-nil at within)
+list_to first (pkg ∷ later) at within = elim (Contains-append_cases (names_at first pkg) (names_from (first + 1) later) at within) [
+  | inl here ↦ let found = pkg_to first pkg at here in (0, omega (arith, found.0), found.1)
+  | inr rest ↦ let found = list_to (first + 1) later at rest in (suc found.0, omega (arith, found.1), found.2)
 ]
 
-pairs_from : (first : ℕ) (pairs : List Pair) (name : List ℕ) (behind : ℕ) → IsNamed name pairs behind
-    → Contains (names_from first pairs) (at_place name (first + behind))
-pairs_from first [] name behind passes = absurd (let e : false ≡ true = passes in cc)
-pairs_from first (pair ∷ later) name zero passes =
+list_from : (first : ℕ) (packages : List Pkg) (name : List ℕ) (behind : ℕ) → IsNamed name packages behind
+    → Contains (names_from first packages) (at_place name (first + behind))
+list_from first [] name behind passes = absurd (let e : false ≡ true = passes in cc)
+list_from first (pkg ∷ later) name zero passes =
     let same : first ≡ first + 0 = omega arith in
-    Contains-append_left (names_at first pair.pkg) (names_from (first + 1) later) (at_place name (first + 0))
-    (subst (λ (place : ℕ). Contains (names_at first pair.pkg) (at_place name place)) same (pkg_from first pair.pkg name passes))
-pairs_from first (pair ∷ later) name (suc behind) passes =
+    Contains-append_left (names_at first pkg) (names_from (first + 1) later) (at_place name (first + 0))
+    (subst (λ (place : ℕ). Contains (names_at first pkg) (at_place name place)) same (pkg_from first pkg name passes))
+list_from first (pkg ∷ later) name (suc behind) passes =
     let same : (first + 1) + behind ≡ first + suc behind = omega arith in
-    Contains-append_right (names_at first pair.pkg) (names_from (first + 1) later) (at_place name (first + suc behind))
-    (subst (λ (place : ℕ). Contains (names_from (first + 1) later) (at_place name place)) same (pairs_from (first + 1) later name behind passes))
+    Contains-append_right (names_at first pkg) (names_from (first + 1) later) (at_place name (first + suc behind))
+    (subst (λ (place : ℕ). Contains (names_from (first + 1) later) (at_place name place)) same (list_from (first + 1) later name behind passes))
 
 -- Order
 
@@ -186,35 +186,53 @@ named_provider name packages place (Some pkg) e passes = (pkg, e, matches-test n
 provider_named : (name : List ℕ) (packages : List Pkg) (place : ℕ) → IsProviderAt name packages place → is_provider_at name packages place ≡ true
 provider_named name packages place at = rw at.1 (test-matches name at.0 at.2)
 
-places_to : (name : List ℕ) (pairs : List Pair) (ordered : List NameAt) → AreOrdered (names_from 0 pairs) ordered → (place : ℕ)
-    → Contains (places_of name ordered) place → Contains (providers_of name (packages_of pairs)) place
-places_to name pairs ordered are place within =
+places_to : (name : List ℕ) (packages : List Pkg) (ordered : List NameAt) → AreOrdered (names_from 0 packages) ordered → (place : ℕ)
+    → Contains (places_of name ordered) place → Contains (providers_of name packages) place
+places_to name packages ordered are place within =
     let at = Contains-map (λ (found : NameAt). found.place) (filter (is_at name) ordered) place within in
     let kept = Contains-filter (is_at name) ordered at.0 at.1 in
-    let found = pairs_to 0 pairs at.0 ((are.same at.0).0 kept.0) in
+    let found = list_to 0 packages at.0 ((are.same at.0).0 kept.0) in
     let named : at.0.name ≡ name = bytes_eq-true at.0.name name kept.1 in
     let same : found.0 ≡ place = omega (arith, found.1, at.2) in
-    let passes : is_provider_at name (packages_of pairs) found.0 ≡ true =
-    subst (λ (n : List ℕ). is_provider_at n (packages_of pairs) found.0 ≡ true) named found.2 in
-    subst (Contains (providers_of name (packages_of pairs))) same
-    ((providers-match name (packages_of pairs) found.0).1
-    (named_provider name (packages_of pairs) found.0 (slice_get (packages_of pairs) found.0) refl passes))
+    let passes : is_provider_at name packages found.0 ≡ true =
+    subst (λ (n : List ℕ). is_provider_at n packages found.0 ≡ true) named found.2 in
+    subst (Contains (providers_of name packages)) same
+    ((providers-match name packages found.0).1
+    (named_provider name packages found.0 (slice_get packages found.0) refl passes))
 
-places_from : (name : List ℕ) (pairs : List Pair) (ordered : List NameAt) → AreOrdered (names_from 0 pairs) ordered → (place : ℕ)
-    → Contains (providers_of name (packages_of pairs)) place → Contains (places_of name ordered) place
-places_from name pairs ordered are place within =
-    let passes = provider_named name (packages_of pairs) place ((providers-match name (packages_of pairs) place).0 within) in
-    let there = (are.same (at_place name (0 + place))).1 (pairs_from 0 pairs name place passes) in
+places_from : (name : List ℕ) (packages : List Pkg) (ordered : List NameAt) → AreOrdered (names_from 0 packages) ordered → (place : ℕ)
+    → Contains (providers_of name packages) place → Contains (places_of name ordered) place
+places_from name packages ordered are place within =
+    let passes = provider_named name packages place ((providers-match name packages place).0 within) in
+    let there = (are.same (at_place name (0 + place))).1 (list_from 0 packages name place passes) in
     let same : 0 + place ≡ place = omega arith in
     subst (Contains (places_of name ordered)) same
     (Contains-map_intro (λ (found : NameAt). found.place) (filter (is_at name) ordered) (at_place name (0 + place))
     (Contains-filter_intro (is_at name) ordered (at_place name (0 + place)) there (bytes_eq-same name name refl)))
 
 -- the places of a name are those of its providers
-pub places_are : (pairs : List Pair) (ordered : List NameAt) → AreOrdered (names_from 0 pairs) ordered → (name : List ℕ)
-    → places_of name ordered ≡ providers_of name (packages_of pairs)
-places_are pairs ordered are name = same_rising nat_cmp nat_cmp_total (places_of name ordered) (providers_of name (packages_of pairs))
+pub places_are : (packages : List Pkg) (ordered : List NameAt) → AreOrdered (names_from 0 packages) ordered → (name : List ℕ)
+    → places_of name ordered ≡ providers_of name packages
+places_are packages ordered are name = same_rising nat_cmp nat_cmp_total (places_of name ordered) (providers_of name packages)
     (AllPairs-rising nat_cmp (places_of name ordered) (places_ascend name ordered are.ascending))
-    (AllPairs-rising nat_cmp (providers_of name (packages_of pairs))
-    (sorted_from_strictly_increasing (providers_of name (packages_of pairs)) (providers-ascend name (packages_of pairs))))
-    (places_to name pairs ordered are) (places_from name pairs ordered are)
+    (AllPairs-rising nat_cmp (providers_of name packages)
+    (sorted_from_strictly_increasing (providers_of name packages) (providers-ascend name packages)))
+    (places_to name packages ordered are) (places_from name packages ordered are)
+
+-- the step of a loop: the names of the package at the place are put behind the others
+pub names_next : (packages : List (Bor Pkg)) (place : ℕ) (pkg : Bor Pkg) (names after whole : List NameAt) → place < length packages
+    → pkg ≡ get_or packages place pkg → after ≡ names ++ names_at place pkg.now
+    → names ++ names_from place (map (λ (p : Bor Pkg). p.now) (drop place packages)) ≡ whole
+    → after ++ names_from (place + 1) (map (λ (p : Bor Pkg). p.now) (drop (place + 1) packages)) ≡ whole
+names_next packages place pkg names after whole within is put so_far =
+    let lent : List (Bor Pkg) → List Pkg = map (λ (p : Bor Pkg). p.now) in
+    let next : suc place ≡ place + 1 = omega arith in
+    let rest : List NameAt = names_from (place + 1) (lent (drop (place + 1) packages)) in
+    let cut : drop place packages ≡ pkg ∷ drop (place + 1) packages =
+    drop-cons packages place pkg within
+    ∙ ap (λ (p : Bor Pkg). p ∷ drop (suc place) packages) (sym is)
+    ∙ ap (λ (n : ℕ). pkg ∷ drop n packages) next in
+    ap (λ (xs : List NameAt). xs ++ rest) put
+    ∙ append_assoc names (names_at place pkg.now) rest
+    ∙ sym (ap (λ (xs : List (Bor Pkg)). names ++ names_from place (lent xs)) cut)
+    ∙ so_far

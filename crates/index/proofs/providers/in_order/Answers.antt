@@ -1,9 +1,9 @@
 -- A sort that is freed of repetitions.
 use Rattle.std.specs.Ordering.{eq_by_cmp}
 use Rattle.std.proofs.lemmas.List.Filters.{dedup_is}
-use Rattle.universe.specs.Named.{name_at_cmp}
-use Rattle.universe.proofs.NamedPlaces.{AreOrdered-from_sort}
-use Rattle.universe.proofs.providers.in_order.Goals as goal
+use Rattle.index.specs.Named.{name_at_cmp}
+use Rattle.index.proofs.NamedPlaces.{AreOrdered-from_sort}
+use Rattle.index.proofs.providers.in_order.Goals as goal
 
 pub returns : goal.returns
 returns c =

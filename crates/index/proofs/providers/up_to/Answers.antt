@@ -3,9 +3,9 @@ use Rattle.std.proofs.Common.{rules, ◌∙◌}
 use Rattle.std.proofs.lemmas.Fn.{always_returns_same}
 use Rattle.std.specs.Ordering.{is_le}
 use Rattle.rules.specs.Name.{name_cmp}
-use Rattle.universe.specs.Named.{NameAt}
-use Rattle.universe.proofs.NamedCut.{front_passes, parted_up_to}
-use Rattle.universe.proofs.providers.up_to.Goals as goal
+use Rattle.index.specs.Named.{NameAt}
+use Rattle.index.proofs.NamedCut.{front_passes, parted_up_to}
+use Rattle.index.proofs.providers.up_to.Goals as goal
 
 pub returns : goal.returns
 returns c =

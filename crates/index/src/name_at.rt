@@ -1,15 +1,15 @@
-// A name that the package of a pair has or provides.
+//! A name that a package of a list has or provides.
 
 ghost use Rattle.std.specs.Prelude.{◌≡◌, refl};
 ghost use Rattle.std.specs.Cmp.{eq_by_cmp_equiv, partial_equiv_from_equiv, po};
 ghost use Rattle.std.specs.Ordering.{as_partial_cmp, eq_by_cmp};
-ghost use Rattle.universe.specs.Named.{name_at_cmp};
-ghost use Rattle.universe.specs.NamedLaws.{name_at_cmp_total};
+ghost use Rattle.index.specs.Named.{name_at_cmp};
+ghost use Rattle.index.specs.NamedLaws.{name_at_cmp_total};
 
 use std::cmp::Ordering;
 use std::marker::Model;
 
-// A name, and the place of the pair whose package has or provides it. They are ordered by name and then by place.
+// A name, and the place of the package that has or provides it. They are ordered by name and then by place.
 #[derive(Drop)]
 pub(crate) struct NameAt<'a> {
     name: &'a [u8],
@@ -17,7 +17,7 @@ pub(crate) struct NameAt<'a> {
 }
 
 impl<'a> Model for NameAt<'a> {
-    ghost use Rattle.universe.specs.Named.{NameAt as NameAtValue};
+    ghost use Rattle.index.specs.Named.{NameAt as NameAtValue};
 
     ghost Value = { NameAtValue };
 
@@ -39,7 +39,7 @@ impl<'a> NameAt<'a> {
         self.name
     }
 
-    // The place of the pair.
+    // The place of the package.
     pub(crate) fn place(&self) -> usize
         ensures { result ≡ self.now.place }
     {

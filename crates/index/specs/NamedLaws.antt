@@ -2,7 +2,7 @@
 use Rattle.std.specs.Cmp.{IsTotalOrder, on_total, then_total}
 use Rattle.std.specs.Cmp.Lexicographic.{nat_list_cmp_total}
 use Rattle.std.proofs.lemmas.Cmp.{nat_cmp_total}
-use Rattle.universe.specs.Named.{NameAt, name_at_cmp}
+use Rattle.index.specs.Named.{NameAt, name_at_cmp}
 
 pub name_at_cmp_total : IsTotalOrder name_at_cmp
 name_at_cmp_total = then_total
