@@ -11,6 +11,7 @@ use Rattle.rules.specs.Database.{HasDistinctNames, Record}
 use Rattle.rules.specs.ElementLaws.{Any-elim, Any-intro, Contains-filter, Contains-filter_intro}
 use Rattle.rules.specs.Name.{name_cmp}
 use Rattle.rules.specs.Priority.{IsCandidate, IsEligible, IsUpTo}
+use Rattle.rules.specs.Universe.{IsKeptText}
 use Rattle.rules.specs.Version.{SameVersion}
 use Rattle.rules.specs.VersionOrderLaws.{SameVersion-refl}
 use Rattle.rules.specs.declared.goal.Goal.{Goal}
@@ -22,7 +23,7 @@ use Rattle.candidates.specs.Offer.{AreBest, IsBeaten, IsFor, Offer, eligible, is
 use Rattle.candidates.specs.OfferLaws.{offer_name_cmp_total}
 use Rattle.candidates.specs.Place.{places_of}
 use Rattle.candidates.specs.Rated.{AreRated, IsKept}
-use Rattle.candidates.proofs.Priorities.{IsEligible-from, IsEligible-is, up_to-both, up_to-same}
+use Rattle.candidates.proofs.Priorities.{IsEligible-from, IsEligible-is, IsKeptText-from, up_to-both, up_to-same}
 
 -- the candidates of a name are of one version
 pub one_candidate : (inputs : Inputs) (name version other : List ℕ) (priority other_priority : ℤ)
@@ -93,6 +94,8 @@ module _ (db : List Record) (indices : List Index) (prefs : Preferences) (goals 
   AreCandidates-from = record {
     ascending = are.ascending;
     drawn = λ offer within name version of. candidate_of_best offer within name version of;
+    kept = λ offer within. IsKeptText-from db indices prefs goals distinct offer
+        (rated.drawn offer (Contains-filter (is_eligible db) offers offer (are.drawn offer within)).0);
     covered = best_of_candidate;
   }
 
@@ -112,4 +115,8 @@ IsCandidateOf-find inputs offers name are = at (find has offers) refl
     at (Some offer) some =
         let there = find-some has offers offer some in
         let named : offer.name ≡ name = bytes_eq-true offer.name name there.1 in
-        (named, are.drawn offer there.0 name offer.version (named, SameVersion-refl offer.version))
+        (
+          named,
+          are.drawn offer there.0 name offer.version (named, SameVersion-refl offer.version),
+          subst (λ (n : List ℕ). IsKeptText inputs n offer.version) named (are.kept offer there.0),
+        )

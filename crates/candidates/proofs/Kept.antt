@@ -22,7 +22,7 @@ use Rattle.candidates.specs.Rated.{kept_version}
 use Rattle.candidates.specs.Recorded.{IsByName, standing_as, standing_version}
 use Rattle.candidates.specs.Stanza.{stanza_of}
 use Rattle.candidates.proofs.Finding.{find-filter, first_of_all}
-use Rattle.candidates.proofs.Searching.{find-agree}
+use Rattle.rules.proofs.UniverseLemmas.{find-agree}
 
 -- a package has the one text of a version where it has the other
 pub is_of-same : (name version other : List ℕ) (pkg : Pkg) → SameVersion version other → is_of name version pkg ≡ is_of name other pkg

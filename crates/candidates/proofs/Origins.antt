@@ -6,7 +6,8 @@ use Rattle.std.proofs.lemmas.List.Elements.{All-contains}
 use Rattle.rules.specs.ElementLaws.{All-intro, Any-elim, Any-from_list_any, Contains-map, Contains-map_intro, list_any-from_contains}
 use Rattle.rules.specs.Priority.{HasPriorityAmong, IsGreatest, Origin, deciding_among, names_it, pin_matches, priority_in}
 use Rattle.rules.specs.declared.release.Preference.{Preference}
-use Rattle.candidates.proofs.Searching.{find-agree, same_tests}
+use Rattle.rules.proofs.UniverseLemmas.{find-agree}
+use Rattle.candidates.proofs.Searching.{same_tests}
 
 -- the elements of one list are elements of the other, and the other way round
 pub record HaveSame {X : Type 0} (xs ys : List X) : Type 0 where

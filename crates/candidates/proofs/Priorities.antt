@@ -17,6 +17,7 @@ use Rattle.rules.specs.ElementLaws.{Any-elim}
 use Rattle.rules.specs.Package.{Pkg}
 use Rattle.rules.specs.Priority.{HasPriority, HasPriorityAmong, HasPriorityAs, IsDowngrade, IsEligible, IsUpTo, origins_of}
 use Rattle.rules.specs.Step.{Listed}
+use Rattle.rules.specs.Universe.{IsKeptText}
 use Rattle.rules.specs.Version.{SameVersion, version_cmp}
 use Rattle.rules.specs.VersionOrderLaws.{version_cmp-antisymm, version_cmp-same_left, version_cmp-same_right}
 use Rattle.rules.specs.declared.goal.Goal.{Goal}
@@ -100,6 +101,13 @@ module _ (db : List Record) (indices : List Index) (prefs : Preferences) (goals 
           → (pkg : Pkg) × (counting_package inputs name version ≡ Some pkg) × (pkg.version ≡ text)
       at None none whole = absurd (let e : None ≡ Some text = whole in cc)
       at (Some pkg) some whole = (pkg, some, same_Some pkg.version text whole)
+
+  -- the text of a rated offer is kept
+  pub IsKeptText-from : (offer : Offer) → IsRated prefs db places offer → IsKeptText inputs offer.name offer.version
+  unfolding IsKeptText
+  IsKeptText-from offer rated =
+      let counts = counting_kept offer.name offer.version offer.version rated.kept in
+      subst (λ (o : Option Pkg). MatchOption o ⊥ (λ (pkg : Pkg). pkg.version ≡ offer.version)) (sym counts.1) counts.2
 
   -- what the priority of a version is, by the package that counts
   abbrev PriorityBy : List ℕ → ℤ → Option Pkg → Type 0

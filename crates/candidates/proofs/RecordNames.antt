@@ -1,155 +1,27 @@
--- Records in the order of their names are found by a table of these names.
-use Rattle.std.proofs.Common.{◌≡◌, ℕ, ◌+◌, ◌<◌, ◌≤◌, Bool, true, false, not, cond, ◌||◌, List, [], ◌∷◌, ◌++◌, Some, None, length, map, fold, drop, get_or, position, ltb, refl, sym, ap, ◌∙◌, bytes_eq, Bor, append_assoc, inl, inr, arith}
-use Rattle.std.specs.List.{AllByRecursion, find, list_any, position_or_len, slice_get}
+-- Records in the order of their names have names that are apart.
+use Rattle.std.proofs.Common.{◌≡◌, ℕ, false, List, [], ◌∷◌, sym, ap, ◌∙◌, bytes_eq}
+use Rattle.std.specs.List.{AllByRecursion}
 use Rattle.std.specs.List.Sorted.{IsStrictlySortedBy}
 use Rattle.std.specs.Ordering.{is_eq}
 use Rattle.std.specs.declared.cmp.Ordering.TheVariants.{Less}
-use Rattle.std.proofs.lemmas.Bool.{cases_Bool, ltb-false, true≢false}
-use Rattle.std.proofs.lemmas.List.{append-nil, drop_more, length-map}
-use Rattle.std.proofs.lemmas.List.Folds.{find_at, list_any-append}
 use Rattle.std.proofs.lemmas.Map.Text.{is_eq-slice_cmp}
-use Rattle.std.proofs.lemmas.Option.{slice_get_past}
-use Rattle.indexmap.specs.IndexSet.{insert_key}
-use Rattle.index.proofs.NameLemmas.{inserted}
-use Rattle.index.specs.Names.{with_name}
+use Rattle.index.proofs.NameTable.{AreApart, names_in, not_same}
 use Rattle.rules.specs.Database.{Record}
-use Rattle.rules.specs.NamedLaws.{bytes_eq-true, bytes_eq-same}
-use Rattle.rules.specs.Step.{is_named}
 use Rattle.candidates.specs.Recorded.{record_cmp}
 
--- the names of records
-abbrev pub names_in : List Record → List (List ℕ)
-names_in records = map (λ (found : Record). found.name) records
-
--- the names that keys of a set are
-abbrev pub names_at : List (Bor (List ℕ)) → List (List ℕ)
-names_at keys = map (λ (key : Bor (List ℕ)). key.now) keys
-
--- Names that are put into a table one after another
-
--- each name is another than those after it
-abbrev AreApart : List (List ℕ) → Type 0
-AreApart [] = Unit {0}
-AreApart (name ∷ names) = AllByRecursion (λ later. bytes_eq later name ≡ false) names × AreApart names
-
-not_same : (name other : List ℕ) → bytes_eq name other ≡ false → bytes_eq other name ≡ false
-not_same name other apart = elim (cases_Bool (bytes_eq other name)) [
-  | inl same ↦ absurd (true≢false (sym (bytes_eq-same name other (sym (bytes_eq-true other name same))) ∙ apart))
-  | inr is ↦ is
-]
+-- the name of a record
+abbrev pub name_of : Record → List ℕ
+name_of found = found.name
 
 later_apart : (found : Record) (records : List Record) → AllByRecursion (λ later. record_cmp found later ≡ Less) records
-    → AllByRecursion (λ later. bytes_eq later found.name ≡ false) (names_in records)
+    → AllByRecursion (λ later. bytes_eq later found.name ≡ false) (names_in name_of records)
 later_apart found [] below = tt
 later_apart found (later ∷ records) below = (
   not_same found.name later.name (sym (is_eq-slice_cmp found.name later.name) ∙ ap is_eq below.0),
   later_apart found records below.1,
 )
 
-apart_from_order : (records : List Record) → IsStrictlySortedBy record_cmp records → AreApart (names_in records)
+pub apart_from_order : (records : List Record) → IsStrictlySortedBy record_cmp records → AreApart (names_in name_of records)
 unfolding IsStrictlySortedBy
 apart_from_order [] ascending = tt
 apart_from_order (found ∷ records) ascending = (later_apart found records ascending.0, apart_from_order records ascending.1)
-
--- none of the names is among the earlier ones
-abbrev AreNew : List (List ℕ) → List (List ℕ) → Type 0
-AreNew earlier names = AllByRecursion (λ name. list_any (bytes_eq name) earlier ≡ false) names
-
-new_behind_none : (names : List (List ℕ)) → AreNew [] names
-new_behind_none [] = tt
-new_behind_none (name ∷ names) = (refl, new_behind_none names)
-
-neither : (b c : Bool) → b ≡ false → c ≡ false → (b || (c || false)) ≡ false
-neither b c none other = rw (none, other) refl
-
-new_behind_more : (earlier : List (List ℕ)) (last : List ℕ) (names : List (List ℕ)) → AreNew earlier names
-    → AllByRecursion (λ later. bytes_eq later last ≡ false) names → AreNew (earlier ++ last ∷ []) names
-new_behind_more earlier last [] are apart = tt
-new_behind_more earlier last (name ∷ names) are apart = (
-  list_any-append (bytes_eq name) earlier (last ∷ [])
-      ∙ neither (list_any (bytes_eq name) earlier) (bytes_eq name last) are.0 apart.0,
-  new_behind_more earlier last names are.1 apart.1,
-)
-
-put_new : (earlier : List (List ℕ)) (name : List ℕ) → list_any (bytes_eq name) earlier ≡ false → with_name earlier name ≡ earlier ++ name ∷ []
-put_new earlier name is_new = rw is_new refl
-
-all_put : (earlier names : List (List ℕ)) → AreNew earlier names → AreApart names → fold with_name earlier names ≡ earlier ++ names
-all_put earlier [] are apart = sym (append-nil earlier)
-all_put earlier (name ∷ names) are apart =
-    ap (λ put. fold with_name put names) (put_new earlier name are.0)
-    ∙ all_put (earlier ++ name ∷ []) names (new_behind_more earlier name names are.1 apart.0) apart.1
-    ∙ append_assoc earlier (name ∷ []) names
-
--- the names of records in order, put one after another, are all these names
-pub names_put : (records : List Record) → IsStrictlySortedBy record_cmp records → fold with_name [] (names_in records) ≡ names_in records
-names_put records ascending = all_put [] (names_in records) (new_behind_none (names_in records)) (apart_from_order records ascending)
-
--- the step of a loop: the name of the record at the place is put behind those so far
-pub name_put : (records : List Record) (place : ℕ) (found : Record) (keys after : List (Bor (List ℕ))) (name : Bor (List ℕ))
-    → place < length records → found ≡ get_or records place found → name.now ≡ found.name
-    → after ≡ insert_key (λ (a b : Bor (List ℕ)). bytes_eq a.now b.now) keys name
-    → fold with_name (names_at keys) (names_in (drop place records)) ≡ names_in records
-    → fold with_name (names_at after) (names_in (drop (place + 1) records)) ≡ names_in records
-name_put records place found keys after name within is named put so_far =
-    sym (ap (λ (rest : List Record). fold with_name (names_at keys) (names_in rest)) (drop_more records place found within)
-    ∙ ap (λ names. fold with_name names (names_in (drop (place + 1) records)))
-    (ap (λ (here : Record). with_name (names_at keys) here.name) (sym is)
-    ∙ ap (with_name (names_at keys)) (sym named)
-    ∙ sym (inserted keys name) ∙ ap names_at (sym put)))
-    ∙ so_far
-
--- What a table finds
-
-place_in_map : {X Y : Type 0} (test : X → Bool) (h : Y → X) (ys : List Y) → position_or_len test (map h ys) ≡ position_or_len (λ y. test (h y)) ys
-place_in_map test h [] = refl
-place_in_map test h (y ∷ ys) = ap (λ n. cond (not (test (h y))) (1 + n) 0) (place_in_map test h ys)
-
-place_alike : (name : List ℕ) (records : List Record) → position_or_len (λ (found : Record). bytes_eq name found.name) records ≡ position_or_len (is_named name) records
-place_alike name [] = refl
-place_alike name (found ∷ records) =
-    ap (λ b. cond (not b) (1 + position_or_len (λ (other : Record). bytes_eq name other.name) records) 0) (same_way name found.name)
-    ∙ ap (λ n. cond (not (is_named name found)) (1 + n) 0) (place_alike name records)
-  where
-    same_way : (one other : List ℕ) → bytes_eq one other ≡ bytes_eq other one
-    same_way one other = elim (cases_Bool (bytes_eq other one)) [
-      | inl same ↦ bytes_eq-same one other (sym (bytes_eq-true other one same)) ∙ sym same
-      | inr apart ↦ not_same other one apart ∙ sym apart
-    ]
-
-module _ (keys : List (Bor (List ℕ))) (records : List Record) (same : names_at keys ≡ names_in records) (name : List ℕ) where
-  place_of : position_or_len (λ (key : Bor (List ℕ)). bytes_eq name key.now) keys ≡ position_or_len (is_named name) records
-  place_of = sym (place_in_map (bytes_eq name) (λ (key : Bor (List ℕ)). key.now) keys)
-      ∙ ap (position_or_len (bytes_eq name)) same
-      ∙ place_in_map (bytes_eq name) (λ (found : Record). found.name) records
-      ∙ place_alike name records
-
-  pub as_many : length keys ≡ length records
-  as_many = sym (length-map keys (λ (key : Bor (List ℕ)). key.now)) ∙ ap length same ∙ length-map records (λ (found : Record). found.name)
-
-  position_inside : ltb (position_or_len (λ (key : Bor (List ℕ)). bytes_eq name key.now) keys) (length keys) ≡ true
-      → position (λ (key : Bor (List ℕ)). bytes_eq name key.now) keys ≡ Some (position_or_len (λ (key : Bor (List ℕ)). bytes_eq name key.now) keys)
-  position_inside inside = rw inside refl
-
-  position_past : ltb (position_or_len (λ (key : Bor (List ℕ)). bytes_eq name key.now) keys) (length keys) ≡ false
-      → position (λ (key : Bor (List ℕ)). bytes_eq name key.now) keys ≡ None
-  position_past past = rw past refl
-
-  -- the record at the place of the name's key is that of the name
-  pub found_record : (place : ℕ) → Some place ≡ position (λ (key : Bor (List ℕ)). bytes_eq name key.now) keys
-      → slice_get records place ≡ find (is_named name) records
-  found_record place is = elim (cases_Bool (ltb (position_or_len (λ (key : Bor (List ℕ)). bytes_eq name key.now) keys) (length keys))) [
-    | inl inside ↦
-        let at : place ≡ position_or_len (λ (key : Bor (List ℕ)). bytes_eq name key.now) keys = cc (is, position_inside inside) in
-        ap (slice_get records) (at ∙ place_of) ∙ sym (find_at (is_named name) records)
-    | inr past ↦ cc (is, position_past past)
-  ]
-
-  -- where no key is the name, no record is of the name
-  pub found_none : None ≡ position (λ (key : Bor (List ℕ)). bytes_eq name key.now) keys → None ≡ find (is_named name) records
-  found_none is = elim (cases_Bool (ltb (position_or_len (λ (key : Bor (List ℕ)). bytes_eq name key.now) keys) (length keys))) [
-    | inl inside ↦ cc (is, position_inside inside)
-    | inr past ↦
-        let beyond : length keys ≤ position_or_len (λ (key : Bor (List ℕ)). bytes_eq name key.now) keys = ltb-false _ _ past in
-        sym (find_at (is_named name) records ∙ ap (slice_get records) (sym place_of) ∙ slice_get_past records _ (omega (arith, as_many)))
-  ]

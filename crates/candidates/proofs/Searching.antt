@@ -74,11 +74,3 @@ has_name-ordered listed ordered is name = same_tests (has_name ordered name) (ha
 
     named : Listed → Type 0
     named found = has found ≡ true
-
--- two tests that agree find the same
-pub find-agree : {X : Type 0} (p q : X → Bool) → ((x : X) → p x ≡ q x) → (xs : List X) → find p xs ≡ find q xs
-find-agree p q same [] = refl
-find-agree p q same (x ∷ xs) =
-    let here : p x ≡ q x = same x in
-    let rest : find p xs ≡ find q xs = find-agree p q same xs in
-    cc

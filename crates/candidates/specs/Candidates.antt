@@ -4,16 +4,20 @@ use Rattle.std.specs.List.{Any, Contains}
 use Rattle.std.specs.List.Sorted.{IsStrictlySortedBy}
 use Rattle.rules.specs.Available.{Inputs}
 use Rattle.rules.specs.Priority.{IsCandidate}
+use Rattle.rules.specs.Universe.{IsKeptText}
 use Rattle.candidates.specs.Offer.{IsFor, Offer, offer_name_cmp}
 
--- the offers are the candidates of their names, in the order of names, and each name that has a candidate has one
+-- the offers are the candidates of their names in the texts that are kept, in the order of names, and each name that
+-- has a candidate has one
 pub record AreCandidates (inputs : Inputs) (offers : List Offer) : Type 0 where
   pub ascending : IsStrictlySortedBy offer_name_cmp offers
   pub drawn : (offer : Offer) → Contains offers offer → (name version : List ℕ) → IsFor name version offer
       → IsCandidate inputs name version offer.priority
+  pub kept : (offer : Offer) → Contains offers offer → IsKeptText inputs offer.name offer.version
   pub covered : (name version : List ℕ) (priority : ℤ) → IsCandidate inputs name version priority → Any (IsFor name version) offers
 
--- it is the candidate of the name, if the name has one
+-- it is the candidate of the name in the text that is kept, if the name has one
 abbrev pub IsCandidateOf : Inputs → List ℕ → Option Offer → Type 0
 IsCandidateOf inputs name None = (version : List ℕ) (priority : ℤ) → ¬ IsCandidate inputs name version priority
-IsCandidateOf inputs name (Some offer) = (offer.name ≡ name) × IsCandidate inputs name offer.version offer.priority
+IsCandidateOf inputs name (Some offer) =
+    (offer.name ≡ name) × IsCandidate inputs name offer.version offer.priority × IsKeptText inputs name offer.version

@@ -72,42 +72,6 @@ pub providers-ascend : (name : List ℕ) (packages : List Pkg) → IsStrictlyInc
 providers-ascend name packages = IsStrictlyIncreasing-from_sorted (providers_of name packages)
     (IsStrictlySortedBy-filter nat_cmp (is_provider_at name packages) (range_with_len 0 (length packages)) (range_ascends (length packages)))
 
-map-same : (xs : List ℕ) → map (λ k. k) xs ≡ xs
-map-same [] = refl
-map-same (x ∷ xs) = ap (λ rest. x ∷ rest) (map-same xs)
-
--- one number more is tested behind the others
-filter-next : (test : ℕ → Bool) (place : ℕ)
-    → filter test (range_with_len 0 (place + 1)) ≡ filter test (range_with_len 0 place) ++ cond (test place) (place ∷ []) []
-filter-next test place = let at : 0 + place ≡ place = omega arith in
-    ap (filter test) (sym (map-same (range_with_len 0 (place + 1))))
-    ∙ filter_of_map_range_with_len_more test (λ k. k) 0 place place at
-    ∙ ap (λ numbers. filter test numbers ++ cond (test place) (place ∷ []) []) (map-same (range_with_len 0 place))
-
--- the packages that are lent
-abbrev lent : List (Bor Pkg) → List Pkg
-lent packages = map (λ (pkg : Bor Pkg). pkg.now) packages
-
--- the test at a position is that of the package there
-at-place : (name : List ℕ) (packages : List (Bor Pkg)) (place : ℕ) (pkg : Bor Pkg) → place < length packages
-    → pkg ≡ get_or packages place pkg → is_provider_at name (lent packages) place ≡ is_provider name pkg.now
-at-place name packages place pkg within is =
-    ap (λ found. option_map_or (is_provider name) found false) (slice_get-map (λ (pkg : Bor Pkg). pkg.now) packages place)
-    ∙ ap (λ (found : Option (Bor Pkg)). option_map_or (is_provider name) (option_map (λ (pkg : Bor Pkg). pkg.now) found) false)
-    (slice_get-get_or packages place pkg within ∙ ap Some (sym is))
-
--- the step of a loop: the position is put behind the others where a provider stands there
-pub providers-next : (name : List ℕ) (packages : List (Bor Pkg)) (place : ℕ) (pkg : Bor Pkg) (places after : List ℕ) (test : Bool)
-    → place < length packages → pkg ≡ get_or packages place pkg → test ≡ is_provider name pkg.now
-    → after ≡ places ++ cond test (place ∷ []) []
-    → places ≡ filter (is_provider_at name (lent packages)) (range_with_len 0 place)
-    → after ≡ filter (is_provider_at name (lent packages)) (range_with_len 0 (place + 1))
-providers-next name packages place pkg places after test within is tested put so_far = put
-    ∙ ap (λ front. front ++ cond test (place ∷ []) []) so_far
-    ∙ ap (λ b. filter (is_provider_at name (lent packages)) (range_with_len 0 place) ++ cond b (place ∷ []) [])
-    (tested ∙ sym (at-place name packages place pkg within is))
-    ∙ sym (filter-next (is_provider_at name (lent packages)) place)
-
 -- the positions of providers are those at which a package matches
 pub providers-match : (name : List ℕ) (packages : List Pkg) (place : ℕ) → Contains (providers_of name packages) place ↔ IsProviderAt name packages place
 providers-match name packages place = (to, back)

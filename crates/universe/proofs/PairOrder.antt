@@ -61,7 +61,7 @@ pair_cmp-tied pair other of = (Equal-is (pair_cmp pair other)).0
     (pkg_order-ties other.pkg.name other.pkg.version pair.pkg ∙ is_of-from other.pkg.name other.pkg.version pair.pkg of)
 
 -- of one version of a name there is one pair in order
-one_pair : (pairs : List Pair) (name version : List ℕ) → IsStrictlySortedBy pair_cmp pairs → (pair other : Pair)
+pub one_pair : (pairs : List Pair) (name version : List ℕ) → IsStrictlySortedBy pair_cmp pairs → (pair other : Pair)
     → Contains pairs pair → Contains pairs other → is_of name version pair.pkg ≡ true → is_of name version other.pkg ≡ true
     → pair ≡ other
 one_pair pairs name version ascending pair other one two of of' = sorted-one pair_cmp_total pairs ascending pair other one two

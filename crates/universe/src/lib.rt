@@ -4,18 +4,19 @@
 
 mod candidate;
 mod candidates;
-mod name_at;
+mod packages;
 mod pair;
 mod pairs;
-mod providers;
 mod start;
+mod starts;
 mod universe;
 
 pub use candidate::Candidate;
 pub use candidates::Candidates;
 pub use index::Entry;
+pub use packages::{CountingPkg, lend_packages};
 pub use pair::Pair;
 pub use pairs::Pairs;
-pub use providers::Providers;
 pub use start::Start;
+pub use starts::Starts;
 pub use universe::Universe;

@@ -1,12 +1,13 @@
 // The admitted pairs of a request.
 
-ghost use Rattle.std.specs.Prelude.{◌≡◌};
+ghost use Rattle.std.specs.Prelude.{◌≡◌, ◌<◌, IfSome, length};
 ghost use Rattle.std.specs.List.{find};
 ghost use Rattle.std.specs.List.Sorted.{IsStrictlySortedBy};
 ghost use Rattle.std.specs.Option.{option_copied};
 ghost use Rattle.rules.specs.Available.{is_of};
 ghost use Rattle.rules.specs.Universe.{listed_among, pair_cmp};
 ghost use Rattle.universe.specs.Pair.{pkg_order};
+ghost use Rattle.universe.specs.Universe.{number_among, place_among};
 
 use crate::pair::Pair;
 use debversion::Version;
@@ -42,6 +43,18 @@ fn order_to(pair: &Pair<'_, '_>, name: &[u8], version: &Version<'_>) -> Ordering
     }
 }
 
+// The place of the pair of this version of the name, by a binary search.
+fn place_of(pairs: &[Pair<'_, '_>], name: &[u8], version: &Version<'_>) -> Option<usize>
+    requires { IsStrictlySortedBy pair_cmp pairs.now }
+    ensures value { result ≡ place_among pairs.now name.now version.now }
+    ensures within { IfSome result (λ place. place < length pairs.now) }
+{
+    match pairs.binary_search_by(|pair| order_to(pair, name, version)) {
+        Ok(place) => Some(place),
+        Err(_) => None,
+    }
+}
+
 // The pair of this version of the name, by a binary search.
 fn pair_of<'k, 'p, 'a>(
     pairs: &'k [Pair<'p, 'a>],
@@ -68,9 +81,20 @@ impl<'p, 'a> Pairs<'p, 'a> {
 
     // The pairs in order.
     pub(crate) fn as_slice(&self) -> &[Pair<'p, 'a>]
-        ensures { result.now ≡ self.now }
+        ensures items { result.now ≡ self.now }
+        ensures ascending { IsStrictlySortedBy pair_cmp self.now }
     {
         self.pairs.as_slice()
+    }
+
+    // The number of the pair of this version of the name, counted from 1, if there is one. A binary search.
+    pub(crate) fn number_of(&self, name: &[u8], version: &Version<'_>) -> Option<usize>
+        ensures { result ≡ number_among self.now name.now version.now }
+    {
+        match place_of(self.pairs.as_slice(), name, version) {
+            None => None,
+            Some(place) => Some(place + 1),
+        }
     }
 
     // The stanza of this version of the name, if the pair is admitted and in an index. A binary search.

@@ -3,17 +3,16 @@
 ghost use Rattle.std.specs.Prelude.{◌≡◌, IfOk};
 ghost use Rattle.std.specs.List.Sorted.{IsStrictlySortedBy};
 ghost use Rattle.std.specs.Option.{option_copied};
-ghost use Rattle.rules.specs.Universe.{candidate_of, listed_of};
-ghost use Rattle.rules.specs.Universe.{candidate_cmp};
-ghost use Rattle.universe.specs.Named.{packages_of};
-ghost use Rattle.universe.specs.Universe.{numbered, numbered_stanza};
+ghost use Rattle.rules.specs.Universe.{candidate_cmp, candidate_of, listed_of, pair_cmp, start_in};
+ghost use Rattle.universe.specs.Universe.{number_among, numbered, numbered_stanza, packages_of};
 
 use crate::candidate::Candidate;
 use crate::candidates::Candidates;
+use crate::packages::{CountingPkg, packages_of};
 use crate::pair::Pair;
 use crate::pairs::Pairs;
-use crate::providers::Providers;
 use crate::start::Start;
+use crate::starts::Starts;
 use debversion::Version;
 use index::Entry;
 use rules::Goal;
@@ -26,7 +25,7 @@ use std::marker::Model;
 pub struct Universe<'p, 'a> {
     pairs: Pairs<'p, 'a>,
     goals: Vec<Goal>,
-    starts: Vec<Start<'a>>,
+    starts: Starts<'a>,
     candidates: Candidates<'a>,
 }
 
@@ -38,7 +37,7 @@ impl<'p, 'a> Model for Universe<'p, 'a> {
     ghost view = { λ u. record {
       pairs = u.pairs;
       goals = u.goals.items;
-      starts = u.starts.items;
+      starts = u.starts;
       candidates = u.candidates;
     } };
 }
@@ -48,13 +47,13 @@ impl<'p, 'a> Universe<'p, 'a> {
     pub fn new(
         pairs: Pairs<'p, 'a>,
         goals: Vec<Goal>,
-        starts: Vec<Start<'a>>,
+        starts: Starts<'a>,
         candidates: Candidates<'a>,
     ) -> Universe<'p, 'a>
         ensures { result ≡ record {
           pairs = pairs.entry;
           goals = goals.items;
-          starts = starts.entry.items;
+          starts = starts.entry;
           candidates = candidates.entry;
         } }
     {
@@ -66,9 +65,10 @@ impl<'p, 'a> Universe<'p, 'a> {
         }
     }
 
-    /// The admitted pairs in order: the pair at place 0 has the number 1.
+    /// The admitted pairs in order, by name and then by version: the pair at place 0 has the number 1.
     pub fn pairs(&self) -> &[Pair<'p, 'a>]
-        ensures { result.now ≡ self.now.pairs }
+        ensures items { result.now ≡ self.now.pairs }
+        ensures ascending { IsStrictlySortedBy pair_cmp self.now.pairs }
     {
         self.pairs.as_slice()
     }
@@ -113,13 +113,28 @@ impl<'p, 'a> Universe<'p, 'a> {
         }
     }
 
-    /// The packages of the pairs, which are asked which of them have or provide a name. The relations of every pair that
-    /// doesn't stand are read for it. Linear in them, and about n log n comparisons of the n names that they have and
-    /// provide. Memory alone can fail.
-    pub fn providers(&self, alloc: Global) -> Result<Providers<'_, 'p, 'a>, AllocError>
-        ensures { IfOk result (λ providers. providers ≡ packages_of self.now.pairs) }
+    /// The packages of the pairs, in their order, each read once: the one at place 0 is that of the pair with the number 1.
+    /// `lend_packages` lends them to `index::Providers`. The relations of every pair that doesn't stand are read for it.
+    /// Memory alone can fail. Linear in them.
+    pub fn packages(&self, alloc: Global) -> Result<Vec<CountingPkg<'_, 'a>>, AllocError>
+        ensures { IfOk result (λ packages. packages.items ≡ packages_of self.now.pairs) }
     {
-        Providers::build(alloc, self.pairs())
+        packages_of(alloc, self.pairs())
+    }
+
+    /// The number of the pair of this version of the name, counted from 1, if it is admitted. A binary search among the
+    /// pairs.
+    pub fn number_of(&self, name: &[u8], version: &Version<'_>) -> Option<usize>
+        ensures { result ≡ number_among self.now.pairs name.now version.now }
+    {
+        self.pairs.number_of(name, version)
+    }
+
+    /// What the start says of the name, if it knows it. Linear in the name alone.
+    pub fn start(&self, name: &[u8]) -> Option<&Start<'a>>
+        ensures { option_copied result ≡ start_in self.now name.now }
+    {
+        self.starts.of(name)
     }
 
     /// The stanza of this version of the name, if the pair is admitted and in an index. A binary search among the

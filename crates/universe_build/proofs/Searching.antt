@@ -20,7 +20,8 @@ use Rattle.universe.proofs.PairOrder.{is_eq-then}
 use Rattle.universe.proofs.Searching.{searched_any}
 use Rattle.candidates.specs.Recorded.{IsByName, is_recorded}
 use Rattle.candidates.specs.Stanza.{IsOrdered, has_name}
-use Rattle.candidates.proofs.Searching.{find-agree, has_name-ordered}
+use Rattle.rules.proofs.UniverseLemmas.{find-agree}
+use Rattle.candidates.proofs.Searching.{has_name-ordered}
 use Rattle.universe_build.specs.Build.{first_unknown, is_unknown, named_by}
 use Rattle.universe_build.specs.Choice.{Exact, exact_at, exact_cmp, is_sought}
 use Rattle.universe_build.specs.ChoiceLaws.{exact_cmp_total}
