@@ -3,7 +3,7 @@ pub mod BestOffer
 pub mod CandidatesInOrder
 pub mod Given
 pub mod Made
-pub mod OneUniverse
 pub mod PairsInOrder
 pub mod Searching
 pub mod Sought
+pub mod StartsApart

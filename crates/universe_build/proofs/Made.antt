@@ -1,28 +1,19 @@
 -- The pairs of what stands and of what is chosen or asked for, and the candidates, make the universe of a request.
-use Rattle.std.proofs.Common.{◌≡◌, ◌≢◌, ℕ, ℤ, Bool, true, false, not, ◌||◌, List, [], ◌∷◌, map, ◌⊎◌, Option, Some, None, MatchOption, IsSome, if◌then◌else◌, refl, sym, ap, subst, ◌∙◌, arith}
-use Rattle.std.specs.Cmp.{tied_itself}
-use Rattle.std.specs.Cmp.Lexicographic.{nat_list_cmp_total}
-use Rattle.std.specs.List.{AllPairs, Any, Contains, filter}
-use Rattle.std.specs.List.Sorted.{IsStrictlySortedBy}
+use Rattle.std.proofs.Common.{◌≡◌, ℕ, ℤ, Bool, true, false, not, ◌||◌, List, map, ◌⊎◌, Option, Some, None, MatchOption, IsSome, if◌then◌else◌, refl, sym, ap, subst, ◌∙◌}
+use Rattle.std.specs.List.{Any, Contains, filter}
 use Rattle.std.specs.Option.{option_map, option_or}
-use Rattle.std.specs.declared.cmp.Ordering.{Ordering}
-use Rattle.std.specs.declared.cmp.Ordering.TheVariants.{Less, Equal}
 use Rattle.std.proofs.lemmas.Bool.{and_parts, and_from, or_cases, or_left, or_right}
 use Rattle.std.proofs.lemmas.List.Elements.{All-contains, All-map, Contains-append_cases, Contains-append_left, Contains-append_right}
-use Rattle.std.proofs.lemmas.List.Kept.{AllPairs-cons}
-use Rattle.std.proofs.lemmas.Map.Keys.{sorted_tail}
-use Rattle.std.proofs.lemmas.Map.Views.{All-after_first}
 use Rattle.std.proofs.lemmas.Option.{same_Some}
 use Rattle.rules.specs.Available.{Index, Inputs, all_listed, counting_package, index_package}
 use Rattle.rules.specs.Database.{HasDistinctNames, HasRecord, IsHeld, Record, pkg_of, stands}
 use Rattle.rules.specs.ElementLaws.{All-intro, Any-elim, Any-intro, Contains-filter, Contains-filter_intro, Contains-map, Contains-map_intro}
-use Rattle.rules.specs.Name.{name_cmp}
 use Rattle.pins.specs.Prefs.{Preferences}
 use Rattle.rules.specs.Package.{Pkg}
 use Rattle.rules.specs.Priority.{HasPriority, HasPriorityAs, IsCandidate, IsEligible}
 use Rattle.rules.specs.State.{is_hold}
 use Rattle.rules.specs.Step.{Listed}
-use Rattle.rules.specs.Universe.{Candidate, IsAdmitted, IsOf, IsOffered, IsUniverse, Pair, pair_cmp, starts_of}
+use Rattle.rules.specs.Universe.{Candidate, IsAdmitted, IsKeptCandidate, IsOf, IsOffered, IsUniverse, Pair, candidate_cmp, pair_cmp, starts_of}
 use Rattle.rules.specs.Version.{SameVersion}
 use Rattle.rules.specs.VersionOrderLaws.{SameVersion-refl, SameVersion-symm, SameVersion-trans}
 use Rattle.rules.specs.declared.goal.Goal.{Goal}
@@ -30,32 +21,16 @@ use Rattle.rules.proofs.Rising.{AllPairs-rising}
 use Rattle.universe.proofs.PairOrder.{of_itself}
 use Rattle.candidates.specs.Candidates.{AreCandidates}
 use Rattle.candidates.specs.Inputs.{inputs_of}
-use Rattle.candidates.specs.Offer.{IsFor, Offer, offer_name_cmp}
+use Rattle.candidates.specs.Offer.{IsFor, Offer}
 use Rattle.candidates.specs.Recorded.{IsByName, is_held, stands_as}
 use Rattle.candidates.specs.Stanza.{IsOrdered, stanza_of}
 use Rattle.candidates.proofs.Named.{StandsAs-from, StandsAs-is, held-from, held-is, known_within, of_record-known, standing-is, standing_record-none, standing_record-one, stands_as-same, stands_in, within_known}
 use Rattle.candidates.proofs.Ordered.{found_ordered, ordered_found}
 use Rattle.universe_build.specs.Choice.{best_exacts, candidate_at, exacts_of, is_sought, listed_pair}
 use Rattle.universe_build.specs.Chosen.{ArePairs, admitted_among, chosen_pairs, is_free, standing_pair, standing_pairs}
+use Rattle.universe_build.proofs.CandidatesInOrder.{candidates_ascend}
 use Rattle.universe_build.proofs.Asked.{Contains-filter_map, Contains-filter_map_intro, best_sought, is_sought-from, is_sought-names, sought_best}
 use mathlib.Core.Logic.{inl, inr}
-
--- each element of a sorted list is before all that follow, also after a change that keeps the order
-AllPairs-sorted : {X Y : Type 0} (R : X → X → Ordering) (P : Y → Y → Type 0) (f : X → Y)
-    → ((earlier later : X) → R earlier later ≡ Less → P (f earlier) (f later)) → (xs : List X) → IsStrictlySortedBy R xs
-    → AllPairs P (map f xs)
-AllPairs-sorted R P f keeps [] sorted = λ i j d before within. absurd (omega arith)
-AllPairs-sorted {X} {Y} R P f keeps (x ∷ xs) sorted = AllPairs-cons P (f x) (map f xs)
-    (All-map (P (f x)) f xs (All-intro (λ (y : X). P (f x) (f y)) xs
-    (λ y within. keeps x y (All-contains (λ (z : X). R x z ≡ Less) xs y (All-after_first R x xs sorted) within))))
-    (AllPairs-sorted R P f keeps xs (sorted_tail R x xs sorted))
-
--- names in order differ
-names_differ : (offer other : Offer) → offer_name_cmp offer other ≡ Less → (candidate_at offer).name ≢ (candidate_at other).name
-names_differ offer other below named =
-    let own : name_cmp offer.name offer.name ≡ Less = subst (λ (n : List ℕ). name_cmp offer.name n ≡ Less) (sym named) below in
-    let tied : name_cmp offer.name offer.name ≡ Equal = tied_itself nat_list_cmp_total offer.name in
-    absurd (let e : Less ≡ Equal = sym own ∙ tied in cc)
 
 not_from : (b : Bool) → b ≡ false → not b ≡ true
 not_from b is = ap not is
@@ -240,7 +215,8 @@ module _ (db : List Record) (indices : List Index) (prefs : Preferences) (goals 
           ) in
           made_listed name version found there.0 there.1 stood held
           (or_left (is_sought (best_exacts best) found) (is_sought (exacts_of goals) found) (sought_best best top.0 top.1 found own))
-  made_offered name version stood held (inr asked) = at (index_package indices name version) refl
+  made_offered name version stood held (inr (inr all)) = absurd (let e : false ≡ true = all.0 in cc)
+  made_offered name version stood held (inr (inl asked)) = at (index_package indices name version) refl
       (subst IsSome (counting_listed name version stood) asked.0)
     where
       at : (o : Option Listed) → index_package indices name version ≡ o → IsSome (option_map (λ (listed : Listed). listed.pkg) o)
@@ -288,13 +264,13 @@ module _ (db : List Record) (indices : List Index) (prefs : Preferences) (goals 
                 SameVersion-trans top.0.version found.pkg.version version (SameVersion-symm found.pkg.version top.0.version top.2.1) of.1,
               ),
             )
-        | inr asked ↦ inr (
+        | inr asked ↦ inr (inl (
           subst IsSome (sym (counting_listed name version
               (sym (stands_as-same db name found.pkg.version version of.1)
               ∙ ap (λ (n : List ℕ). stands_as db n found.pkg.version) (sym of.0) ∙ stood)
               ∙ ap (option_map (λ (listed : Listed). listed.pkg)) (found_ordered (all_listed indices) ordered is found within name version of))) refl,
           is_sought-names goals found asked name version of,
-        )
+        ))
       ]
 
   admitted_made : (name version : List ℕ) (pair : Pair) → IsStanding pair ⊎ IsKept pair → IsOf name version pair.pkg
@@ -317,6 +293,7 @@ module _ (db : List Record) (indices : List Index) (prefs : Preferences) (goals 
     starts = starts_of db;
     candidates = map candidate_at best;
   })
+  unfolding IsKeptCandidate
   universe_of pairs chosen = record {
     ascending = AllPairs-rising pair_cmp pairs chosen.ascending;
     admitted = λ name version. (
@@ -338,17 +315,15 @@ module _ (db : List Record) (indices : List Index) (prefs : Preferences) (goals 
         (λ pair within. listed_as pair (made_from pair (chosen.drawn pair within)));
     goals = refl;
     starts = refl;
-    candidates = All-map (λ (candidate : Candidate). (priority : ℤ) × IsCandidate inputs candidate.name candidate.version priority)
-        candidate_at best
-        (All-intro (λ (offer : Offer). (priority : ℤ) × IsCandidate inputs offer.name offer.version priority) best
+    candidates = All-map (IsKeptCandidate inputs) candidate_at best
+        (All-intro (λ (offer : Offer). IsKeptCandidate inputs (candidate_at offer)) best
         (λ offer within. (
-          offer.priority,
-          are.drawn offer within offer.name offer.version (refl, SameVersion-refl offer.version),
+          (offer.priority, are.drawn offer within offer.name offer.version (refl, SameVersion-refl offer.version)),
+          are.kept offer within,
         )));
     every_candidate = λ name version priority candidate.
         let top = top_of name version priority candidate in
         Any-intro (λ (candidate : Candidate). (candidate.name ≡ name) × SameVersion candidate.version version) (map candidate_at best)
         (candidate_at top.0) (Contains-map_intro candidate_at best top.0 top.1) top.2;
-    one_candidate = AllPairs-sorted offer_name_cmp (λ (earlier : Candidate) (later : Candidate). earlier.name ≢ later.name) candidate_at
-        names_differ best are.ascending;
+    candidates_ascending = AllPairs-rising candidate_cmp (map candidate_at best) (candidates_ascend best are.ascending);
   }

@@ -3,4 +3,3 @@ pub mod Choice
 pub mod ChoiceLaws
 pub mod Chosen
 pub mod Error
-pub mod UniverseLaws

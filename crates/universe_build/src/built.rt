@@ -23,7 +23,7 @@ use pins::Prefs;
 use rules::{Goal, GoalLine, PAIRS};
 use status_record::Record;
 use std::alloc::{AllocError, Global};
-use universe::{Candidate, Candidates, Pair, Pairs, Start, Universe};
+use universe::{Candidate, Candidates, Pair, Pairs, Start, Starts, Universe};
 
 fn named_by(goal: &Goal) -> Option<&[u8]>
     ensures { option_copied result ≡ named_by goal.now }
@@ -70,6 +70,14 @@ fn starts_of<'a>(alloc: Global, start: &[Recorded<'_, 'a>]) -> Result<Vec<Start<
     ensures { IfOk result (λ starts. starts.items ≡ starts_of start.now) }
 {
     start.iter().map(|found| found.start()).collect(alloc)
+}
+
+// The facts of the records, with a table of their names.
+fn facts_of<'a>(alloc: Global, start: &[Recorded<'_, 'a>]) -> Result<Starts<'a>, AllocError>
+    requires { HasDistinctNames start.now }
+    ensures { IfOk result (λ facts. facts ≡ starts_of start.now) }
+{
+    Starts::new(alloc, starts_of(alloc, start)?)
 }
 
 fn candidate_at<'a>(offer: &Offer<'a>) -> Candidate<'a>
@@ -174,7 +182,7 @@ pub fn build<'p, 'a>(
     ensures err { IfErr result (λ e. IsUniverseFault (records_of (map (λ r. r.now) start.now)) (indices_of indices.now) prefs.now goals.items e) }
 {
     let recorded = records_in(alloc, start)?;
-    let starts = starts_of(alloc, recorded.as_slice())?;
+    let starts = facts_of(alloc, recorded.as_slice())?;
     let (pairs, candidates) = chosen(alloc, recorded, indices, prefs, goals.as_slice())?;
     let goals = goals_of(alloc, goals)?;
     Ok(Universe::new(pairs, goals, starts, candidates))

@@ -7,8 +7,6 @@ mod built;
 mod chosen;
 mod error;
 mod exact;
-mod laws;
 
 pub use built::build;
 pub use error::UniverseError;
-pub use laws::one_list_of_pairs;
