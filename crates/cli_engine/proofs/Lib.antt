@@ -1,3 +1,5 @@
+pub mod AnswerLemmas
 pub mod DenoteLemmas
+pub mod DistinctLemmas
 pub mod IndicesLemmas
 pub mod MeaningLemmas

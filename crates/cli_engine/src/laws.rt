@@ -1,19 +1,30 @@
 // What follows from what texts denote: each function's contract is the law.
 
-ghost use Rattle.cli_engine.specs.Meaning.{HasOneMeaning, MeaningIsNotRefused};
+ghost use Rattle.cli_engine.specs.Meaning.{GoodPlanIsAnswered, HasOneAnswer, HasOneMeaning, MeaningIsNotRefused, YesKeepsPromise};
 
-use universe_build::one_list_of_pairs;
-
-/// Texts have one meaning: the pairs, the goals and the facts of the start that they denote.
+/// Texts have one meaning: the universe and the start that they denote.
 pub fn texts_have_one_meaning()
     ensures { HasOneMeaning }
-{
-    one_list_of_pairs();
-}
+{}
 
 /// Texts that have a meaning aren't refused: a refusal beside it is the plan's, or memory was wanting.
 pub fn a_meaning_is_not_refused()
     ensures { MeaningIsNotRefused }
-{
-    one_list_of_pairs();
-}
+{}
+
+/// A plan has one answer over texts.
+pub fn a_plan_has_one_answer()
+    ensures { HasOneAnswer }
+{}
+
+/// If the plan checker says yes, every action is legal by Policy chapter 7 when its turn comes, no two conflicting packages
+/// are unpacked together after any beginning of the steps, and at the end the request, all holds and every Depends, Breaks
+/// and Conflicts of installed packages are satisfied.
+pub fn yes_keeps_its_promise()
+    ensures { YesKeepsPromise }
+{}
+
+/// The plan checker says yes to every plan of which this is true, unless memory is wanting.
+pub fn a_good_plan_is_answered_with_yes()
+    ensures { GoodPlanIsAnswered }
+{}

@@ -24,7 +24,10 @@ pub use candidates::Offer;
 pub use check::check_plan_bytes;
 pub use comparison::{Relation, compare};
 pub use inputs::Inputs;
-pub use laws::{a_meaning_is_not_refused, texts_have_one_meaning};
+pub use laws::{
+    a_good_plan_is_answered_with_yes, a_meaning_is_not_refused, a_plan_has_one_answer,
+    texts_have_one_meaning, yes_keeps_its_promise,
+};
 pub use refusal::{Fault, Place, Refusal};
 pub use rules::{Reason, Rule, Verdict};
 pub use sources::read_sources;

@@ -2,4 +2,4 @@ use Rattle.cli_engine.proofs.MeaningLemmas.{meaning_is_not_refused}
 use Rattle.cli_engine.proofs.laws.a_meaning_is_not_refused.Goals as goal
 
 pub returns : goal.returns
-returns c = meaning_is_not_refused c.one_list_of_pairs.ensures
+returns c = meaning_is_not_refused

@@ -2,4 +2,4 @@ use Rattle.cli_engine.proofs.MeaningLemmas.{one_meaning}
 use Rattle.cli_engine.proofs.laws.texts_have_one_meaning.Goals as goal
 
 pub returns : goal.returns
-returns c = one_meaning c.one_list_of_pairs.ensures
+returns c = one_meaning
