@@ -5,7 +5,6 @@ use crate::lines::Item;
 use crate::report::Report;
 use crate::shorthand::{Form, headed_text, is_word};
 use crate::wanted::Wanted;
-use anyhow::{Result, ensure};
 use std::alloc::{AllocError, Global};
 
 /// What is run, with the words behind it.
@@ -30,16 +29,18 @@ pub struct Command<'a> {
     pub behind: Behind<'a>,
 }
 
-/// The command that an item begins, if it begins one. An error is a fault of its line.
+/// The command that an item begins, if it begins one. Its faults are reported.
 pub fn command_of<'a>(
     alloc: Global,
     report: &mut Report<'_>,
     item: Item<'a, '_>,
-) -> Result<Option<Command<'a>>> {
+) -> Result<Option<Command<'a>>, AllocError> {
     let Some(kind) = kind_of(item) else {
         return Ok(None);
     };
-    check_words(kind, item)?;
+    if !has_its_words(kind, item) {
+        report.fault(item.line, "other words than the command takes")?;
+    }
     Ok(Some(Command {
         line: item.line,
         kind,
@@ -61,16 +62,14 @@ fn kind_of<'a>(item: Item<'a, '_>) -> Option<Kind<'a>> {
     }
 }
 
-fn check_words(kind: Kind<'_>, item: Item<'_, '_>) -> Result<()> {
-    let is_well = match kind {
+fn has_its_words(kind: Kind<'_>, item: Item<'_, '_>) -> bool {
+    match kind {
         Kind::Compare(words) => words.split(' ').count() == 3,
         Kind::Candidate(name) => is_word(name),
         Kind::Solve(limit) => limit.is_empty() || is_limit(limit),
         Kind::CheckPlan | Kind::CheckRefutation => item.rest.is_empty(),
         Kind::Run(_) => true,
-    };
-    ensure!(is_well, "other words behind `{}` than it takes", item.word);
-    Ok(())
+    }
 }
 
 fn is_limit(words: &str) -> bool {
@@ -86,18 +85,22 @@ fn text_below(
     report: &mut Report<'_>,
     kind: Kind<'_>,
     item: Item<'_, '_>,
-) -> Result<Option<Vec<u8>>> {
+) -> Result<Option<Vec<u8>>, AllocError> {
     let head = match kind {
         Kind::CheckPlan => "plan 1\n",
         Kind::CheckRefutation => "refutation 1\n",
         Kind::Run(_) if !item.block.is_empty() => "plan 1\n",
-        _ => {
-            ensure!(item.block.is_empty(), "a block below `{}`", item.word);
-            return Ok(None);
-        }
+        _ => return no_text(report, item),
     };
     let text = headed_text(alloc, report, head, Form::Lines, item.block)?;
     Ok(Some(text))
+}
+
+fn no_text(report: &mut Report<'_>, item: Item<'_, '_>) -> Result<Option<Vec<u8>>, AllocError> {
+    if !item.block.is_empty() {
+        report.fault(item.line, "a block below a command that takes none")?;
+    }
+    Ok(None)
 }
 
 impl<'a> Command<'a> {

@@ -14,17 +14,28 @@ pub fn judge(
     inputs: &Inputs<'_>,
     command: &Command<'_>,
 ) -> Result<(), AllocError> {
+    let printed = run_command(alloc, inputs, command)?;
+    judge_printed(alloc, report, inputs, command, &printed)?;
+    judge_left(alloc, report, inputs, command)
+}
+
+/// Reports where what a command printed is not what is wanted.
+pub fn judge_printed(
+    alloc: Global,
+    report: &mut Report<'_>,
+    inputs: &Inputs<'_>,
+    command: &Command<'_>,
+    printed: &Printed,
+) -> Result<(), AllocError> {
     let Some(wanted) = &command.wanted else {
         return Ok(());
     };
-    let printed = run_command(alloc, inputs, command)?;
-    if !is_printed(alloc, inputs, wanted, &printed)? {
-        let wanted = wanted.described(alloc)?;
-        let got = printed.described(alloc)?;
-        report.difference(command.line, wanted.as_str(), got.as_str())?;
+    if is_printed(alloc, inputs, wanted, printed)? {
+        return judge_installed(alloc, report, inputs, command, printed);
     }
-    judge_installed(alloc, report, inputs, command, &printed)?;
-    judge_left(alloc, report, inputs, command)
+    let wanted = wanted.described(alloc)?;
+    let got = printed.described(alloc)?;
+    report.difference(command.line, wanted.as_str(), got.as_str())
 }
 
 fn run_command(

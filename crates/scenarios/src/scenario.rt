@@ -43,11 +43,11 @@ impl<'a> Scenario<'a> {
         report: &mut Report<'_>,
         item: Item<'a, '_>,
     ) -> Result<()> {
-        if item.word == "==" {
-            return check_heading(item);
-        }
-        if item.word == "wants" {
-            return self.add_wanted(alloc, report, item);
+        match item.word {
+            "==" => return check_heading(item),
+            "wants" => return self.add_wanted(alloc, report, item),
+            "" => bail!("an indented line below nothing"),
+            _ => {}
         }
         if let Some(command) = command_of(alloc, report, item)? {
             return Ok(self.commands.push(command)?);
