@@ -19,7 +19,7 @@ pub struct Behind<'a> {
 
 impl<'a> Behind<'a> {
     /// Adds a line, or says that it is none of these. An error is a fault of the line.
-    pub fn add(&mut self, kind: Kind<'a>, item: Item<'a, '_>) -> Result<bool> {
+    pub fn add(&mut self, kind: Kind, item: Item<'a, '_>) -> Result<bool> {
         let rest = item.rest;
         match (item.word, rest.strip_prefix("leaves ")) {
             ("leaves", _) => {
@@ -34,15 +34,18 @@ impl<'a> Behind<'a> {
             }
             ("dpkg", None) => {
                 self.turn(2, matches!(kind, Kind::CheckPlan), item)?;
-                ensure!(rest == "yes" || refused_step(rest).is_some(), "no answer of dpkg: {rest}");
+                ensure!(
+                    rest == "yes" || refused_step(rest).is_some(),
+                    "no answer of dpkg: {rest}"
+                );
                 self.dpkg = rest;
             }
             ("apt", _) => {
-                self.turn(2, matches!(kind, Kind::Candidate(_)), item)?;
+                self.turn(2, matches!(kind, Kind::Candidate), item)?;
                 self.apt = rest;
             }
             ("decision", _) => {
-                self.turn(4, matches!(kind, Kind::CheckPlan | Kind::Candidate(_)), item)?;
+                self.turn(4, matches!(kind, Kind::CheckPlan | Kind::Candidate), item)?;
                 self.decision = rest;
             }
             _ => return Ok(false),
@@ -54,7 +57,10 @@ impl<'a> Behind<'a> {
     fn turn(&mut self, number: u8, is_of_command: bool, item: Item<'_, '_>) -> Result<()> {
         let word = item.word;
         ensure!(is_of_command, "`{word}` behind another command");
-        ensure!(self.last < number, "`{word}` a second time, or behind what it stands before");
+        ensure!(
+            self.last < number,
+            "`{word}` a second time, or behind what it stands before"
+        );
         ensure!(!item.rest.is_empty(), "nothing behind `{word}`");
         ensure!(item.block.is_empty(), "a block below `{word}`");
         self.last = number;
@@ -132,6 +138,9 @@ fn check_record(record: &str) -> Result<()> {
         bail!("no record: {record}");
     };
     let (state, _) = rest.split_once(' ').unwrap_or((rest, ""));
-    ensure!(is_word(name) && is_state(state), "an unknown state: {record}");
+    ensure!(
+        is_word(name) && is_state(state),
+        "an unknown state: {record}"
+    );
     Ok(())
 }

@@ -3,26 +3,28 @@ use crate::behind::Behind;
 use crate::inputs::Inputs;
 use crate::lines::Item;
 use crate::report::Report;
-use crate::shorthand::{Form, headed_text, is_word};
+use crate::shorthand::{Form, is_word, text_of};
 use crate::wanted::Wanted;
 use std::alloc::{AllocError, Global};
 
-/// What is run, with the words behind it.
+/// What is run.
 #[derive(Clone, Copy)]
-pub enum Kind<'a> {
-    Compare(&'a str),
-    Candidate(&'a str),
+pub enum Kind {
+    Compare,
+    Candidate,
     CheckPlan,
     CheckRefutation,
-    Solve(&'a str),
-    Run(&'a str),
+    Solve,
+    Run,
 }
 
 /// A command, what is wanted of it, and what is said behind that.
 #[derive(Drop)]
 pub struct Command<'a> {
     pub line: usize,
-    pub kind: Kind<'a>,
+    pub kind: Kind,
+    /// The words behind its name.
+    pub rest: &'a str,
     /// The text of its plan or refutation.
     pub text: Option<Vec<u8>>,
     pub wanted: Option<Wanted<'a>>,
@@ -31,68 +33,44 @@ pub struct Command<'a> {
 
 /// The command that an item begins, if it begins one. Its faults are reported.
 pub fn command_of<'a>(
-    alloc: Global,
     report: &mut Report<'_>,
     item: Item<'a, '_>,
 ) -> Result<Option<Command<'a>>, AllocError> {
-    let Some(kind) = kind_of(item) else {
+    let Some(kind) = kind_of(item.word) else {
         return Ok(None);
     };
-    if !has_its_words(kind, item) {
+    if !kind.takes(item.rest) {
         report.fault(item.line, "other words than the command takes")?;
     }
-    Ok(Some(Command {
-        line: item.line,
-        kind,
-        text: text_below(alloc, report, kind, item)?,
-        wanted: None,
-        behind: Behind::default(),
-    }))
+    let text = text_below(report, kind, item)?;
+    Ok(Some(Command::new(item.line, kind, item.rest, text)))
 }
 
-fn kind_of<'a>(item: Item<'a, '_>) -> Option<Kind<'a>> {
-    match item.word {
-        "compare" => Some(Kind::Compare(item.rest)),
-        "candidate" => Some(Kind::Candidate(item.rest)),
+fn kind_of(word: &str) -> Option<Kind> {
+    match word {
+        "compare" => Some(Kind::Compare),
+        "candidate" => Some(Kind::Candidate),
         "check-plan" => Some(Kind::CheckPlan),
         "check-refutation" => Some(Kind::CheckRefutation),
-        "solve" => Some(Kind::Solve(item.rest)),
-        "run" => Some(Kind::Run(item.rest)),
+        "solve" => Some(Kind::Solve),
+        "run" => Some(Kind::Run),
         _ => None,
-    }
-}
-
-fn has_its_words(kind: Kind<'_>, item: Item<'_, '_>) -> bool {
-    match kind {
-        Kind::Compare(words) => words.split(' ').count() == 3,
-        Kind::Candidate(name) => is_word(name),
-        Kind::Solve(limit) => limit.is_empty() || is_limit(limit),
-        Kind::CheckPlan | Kind::CheckRefutation => item.rest.is_empty(),
-        Kind::Run(_) => true,
-    }
-}
-
-fn is_limit(words: &str) -> bool {
-    match words.strip_prefix("--limit ") {
-        Some(number) => is_word(number),
-        None => false,
     }
 }
 
 // The plan or the refutation below a command.
 fn text_below(
-    alloc: Global,
     report: &mut Report<'_>,
-    kind: Kind<'_>,
+    kind: Kind,
     item: Item<'_, '_>,
 ) -> Result<Option<Vec<u8>>, AllocError> {
     let head = match kind {
         Kind::CheckPlan => "plan 1\n",
         Kind::CheckRefutation => "refutation 1\n",
-        Kind::Run(_) if !item.block.is_empty() => "plan 1\n",
+        Kind::Run if !item.block.is_empty() => "plan 1\n",
         _ => return no_text(report, item),
     };
-    let text = headed_text(alloc, report, head, Form::Lines, item.block)?;
+    let text = text_of(report, head, Form::Lines, item.block)?;
     Ok(Some(text))
 }
 
@@ -103,50 +81,75 @@ fn no_text(report: &mut Report<'_>, item: Item<'_, '_>) -> Result<Option<Vec<u8>
     Ok(None)
 }
 
-impl<'a> Command<'a> {
-    /// The name of the file that it has itself.
-    pub fn file(&self) -> &'static str {
-        match self.kind {
+impl Kind {
+    // Whether these may be the words behind its name.
+    fn takes(self, rest: &str) -> bool {
+        match self {
+            Kind::Compare => rest.split(' ').count() == 3,
+            Kind::Candidate => is_word(rest),
+            Kind::Solve => rest.is_empty() || rest.strip_prefix("--limit ").is_some_and(is_word),
+            Kind::CheckPlan | Kind::CheckRefutation => rest.is_empty(),
+            Kind::Run => true,
+        }
+    }
+
+    // Its name, in which `run` has no part.
+    fn name(self) -> &'static str {
+        match self {
+            Kind::Compare => " compare",
+            Kind::Candidate => " candidate",
+            Kind::CheckPlan => " check-plan",
+            Kind::CheckRefutation => " check-refutation",
+            Kind::Solve => " solve",
+            Kind::Run => "",
+        }
+    }
+
+    /// The file that a command of this kind may have itself.
+    pub fn file(self) -> &'static str {
+        match self {
             Kind::CheckRefutation => "refutation",
             _ => "plan",
         }
     }
 
-    /// Its words, with spaces between them.
-    pub fn words(&self, alloc: Global, inputs: &Inputs<'_>) -> Result<String, AllocError> {
-        match self.kind {
-            Kind::Compare(words) => format!(in alloc; "debplan compare {words}"),
-            Kind::Candidate(name) => {
-                let mut words = String::from_str(alloc, "debplan candidate")?;
-                inputs.push_options(&mut words)?;
-                write!(words, " {name}")?;
-                Ok(words)
+    fn push_options(self, words: &mut String, inputs: &Inputs<'_>) -> Result<(), AllocError> {
+        match self {
+            Kind::Compare | Kind::Run => Ok(()),
+            Kind::Candidate => inputs.push_options(words),
+            Kind::CheckPlan | Kind::CheckRefutation | Kind::Solve => {
+                inputs.push_options(words)?;
+                words.push_str(" --request request")
             }
-            Kind::CheckPlan => words_over_texts(alloc, inputs, "check-plan", " plan"),
-            Kind::CheckRefutation => {
-                words_over_texts(alloc, inputs, "check-refutation", " refutation")
-            }
-            Kind::Solve("") => words_over_texts(alloc, inputs, "solve", ""),
-            Kind::Solve(limit) => {
-                let mut words = words_over_texts(alloc, inputs, "solve", " ")?;
-                words.push_str(limit)?;
-                Ok(words)
-            }
-            Kind::Run("") => String::from_str(alloc, "debplan"),
-            Kind::Run(words) => format!(in alloc; "debplan {words}"),
         }
     }
 }
 
-/// The words of a command over all texts, with these behind its options.
-pub fn words_over_texts(
-    alloc: Global,
-    inputs: &Inputs<'_>,
-    command: &str,
-    behind: &str,
-) -> Result<String, AllocError> {
-    let mut words = format!(in alloc; "debplan {command}")?;
-    inputs.push_options(&mut words)?;
-    write!(words, " --request request{behind}")?;
-    Ok(words)
+impl<'a> Command<'a> {
+    /// A command of which nothing is wanted.
+    pub fn new(line: usize, kind: Kind, rest: &'a str, text: Option<Vec<u8>>) -> Command<'a> {
+        Command {
+            line,
+            kind,
+            rest,
+            text,
+            wanted: None,
+            behind: Behind::default(),
+        }
+    }
+
+    /// Its words, with a space between two.
+    pub fn words(&self, alloc: Global, inputs: &Inputs<'_>) -> Result<String, AllocError> {
+        let mut words = String::from_str(alloc, "debplan")?;
+        words.push_str(self.kind.name())?;
+        self.kind.push_options(&mut words, inputs)?;
+        let last = match self.kind {
+            Kind::CheckPlan | Kind::CheckRefutation => self.kind.file(),
+            _ => self.rest,
+        };
+        if !last.is_empty() {
+            write!(words, " {last}")?;
+        }
+        Ok(words)
+    }
 }

@@ -38,34 +38,23 @@ impl<'a> Inputs<'a> {
     }
 
     /// Adds an input, or says that the line is none. An error is a fault of the line.
-    pub fn add(
-        &mut self,
-        alloc: Global,
-        report: &mut Report<'_>,
-        item: Item<'a, '_>,
-    ) -> Result<bool> {
+    pub fn add(&mut self, report: &mut Report<'_>, item: Item<'a, '_>) -> Result<bool> {
         match item.word {
-            "status" => self.add_block(alloc, report, item, Form::Stanzas)?,
-            "request" => self.add_block(alloc, report, item, Form::Lines)?,
-            "preferences" => self.add_block(alloc, report, item, Form::Records)?,
-            "sources" => self.add_block(alloc, report, item, Form::Whole)?,
-            "index" => self.add_index(alloc, report, item)?,
+            "status" => self.add_block(report, item, Form::Stanzas)?,
+            "request" => self.add_block(report, item, Form::Lines)?,
+            "preferences" => self.add_block(report, item, Form::Records)?,
+            "sources" => self.add_block(report, item, Form::Whole)?,
+            "index" => self.add_index(report, item)?,
             "arch" | "target" | "missing" => self.add_word(item)?,
             _ => return Ok(false),
         }
         Ok(true)
     }
 
-    fn add_block(
-        &mut self,
-        alloc: Global,
-        report: &mut Report<'_>,
-        item: Item<'a, '_>,
-        form: Form,
-    ) -> Result<()> {
+    fn add_block(&mut self, report: &mut Report<'_>, item: Item<'a, '_>, form: Form) -> Result<()> {
         ensure!(item.rest.is_empty(), "words behind `{}`", item.word);
-        let text = text_of(alloc, report, form, item.block)?;
-        self.add_file(String::from_str(alloc, item.word)?, text)
+        let text = text_of(report, "", form, item.block)?;
+        self.add_file(String::from_str(report.alloc, item.word)?, text)
     }
 
     fn add_file(&mut self, path: String, text: Vec<u8>) -> Result<()> {
@@ -75,21 +64,16 @@ impl<'a> Inputs<'a> {
         Ok(self.files.push(File { path, text })?)
     }
 
-    fn add_index(
-        &mut self,
-        alloc: Global,
-        report: &mut Report<'_>,
-        item: Item<'a, '_>,
-    ) -> Result<()> {
+    fn add_index(&mut self, report: &mut Report<'_>, item: Item<'a, '_>) -> Result<()> {
         self.indices = self.indices.saturating_add(1);
-        let path = format!(in alloc; "index{}", self.indices)?;
+        let path = format!(in report.alloc; "index{}", self.indices)?;
         writeln!(self.sources, "File: {path}")?;
         if item.rest.is_empty() {
             self.sources.push(b'\n')?;
         } else {
             push_record(&mut self.sources, item.rest)?;
         }
-        let text = text_of(alloc, report, Form::Stanzas, item.block)?;
+        let text = text_of(report, "", Form::Stanzas, item.block)?;
         self.add_file(path, text)
     }
 
@@ -147,7 +131,11 @@ impl<'a> Inputs<'a> {
 
     /// Adds the options of a command that reads texts to its words.
     pub fn push_options(&self, words: &mut String) -> Result<(), AllocError> {
-        write!(words, " --arch {} --status status --sources sources", self.arch())?;
+        write!(
+            words,
+            " --arch {} --status status --sources sources",
+            self.arch()
+        )?;
         if self.file("preferences").is_some() || self.is_missing("preferences") {
             words.push_str(" --preferences preferences")?;
         }
@@ -168,6 +156,9 @@ fn set_once<'a>(option: &mut Option<&'a str>, word: &'a str) -> Result<()> {
 fn is_file(name: &str) -> bool {
     match name.strip_prefix("index") {
         Some(number) => number.parse::<usize>().is_ok(),
-        None => matches!(name, "status" | "sources" | "preferences" | "request" | "plan"),
+        None => matches!(
+            name,
+            "status" | "sources" | "preferences" | "request" | "plan"
+        ),
     }
 }

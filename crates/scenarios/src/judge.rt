@@ -1,41 +1,21 @@
 //! Each command is run, and what it does is compared with what is wanted of it.
-use crate::command::{Command, words_over_texts};
+use crate::command::{Command, Kind};
 use crate::inputs::Inputs;
 use crate::left::{installed_after, left_of};
 use crate::memory::{Memory, Printed, run_line};
 use crate::report::Report;
 use crate::wanted::Wanted;
+use anyhow::Result;
 use std::alloc::{AllocError, Global};
 
-/// Runs a command, and reports where it does not hold.
-pub fn judge(
-    alloc: Global,
-    report: &mut Report<'_>,
-    inputs: &Inputs<'_>,
-    command: &Command<'_>,
-) -> Result<(), AllocError> {
-    let printed = run_command(alloc, inputs, command)?;
-    judge_printed(alloc, report, inputs, command, &printed)?;
-    judge_left(alloc, report, inputs, command)
-}
-
-/// Reports where what a command printed is not what is wanted.
-pub fn judge_printed(
-    alloc: Global,
-    report: &mut Report<'_>,
-    inputs: &Inputs<'_>,
-    command: &Command<'_>,
-    printed: &Printed,
-) -> Result<(), AllocError> {
+/// Runs a command, and reports where it does not hold. An error is a fault of its line.
+pub fn judge(report: &mut Report<'_>, inputs: &Inputs<'_>, command: &Command<'_>) -> Result<()> {
     let Some(wanted) = &command.wanted else {
         return Ok(());
     };
-    if is_printed(alloc, inputs, wanted, printed)? {
-        return judge_installed(alloc, report, inputs, command, printed);
-    }
-    let wanted = wanted.described(alloc)?;
-    let got = printed.described(alloc)?;
-    report.difference(command.line, wanted.as_str(), got.as_str())
+    let printed = run_command(report.alloc, inputs, command)?;
+    judge_printed(report, inputs, command.line, wanted, &printed)?;
+    judge_left(report, inputs, command, wanted)
 }
 
 fn run_command(
@@ -45,10 +25,55 @@ fn run_command(
 ) -> Result<Printed, AllocError> {
     let host = Memory {
         inputs,
-        path: command.file(),
+        path: command.kind.file(),
         text: command.text.as_deref(),
     };
     run_line(alloc, command.words(alloc, inputs)?.as_str(), host)
+}
+
+/// Reports where what the command of a line printed is not what is wanted.
+pub fn judge_printed(
+    report: &mut Report<'_>,
+    inputs: &Inputs<'_>,
+    line: usize,
+    wanted: &Wanted<'_>,
+    printed: &Printed,
+) -> Result<()> {
+    let alloc = report.alloc;
+    if !is_printed(alloc, inputs, wanted, printed)? {
+        let wanted = wanted.described(alloc)?;
+        let got = printed.described(alloc)?;
+        return Ok(report.difference(line, wanted.as_str(), got.as_str())?);
+    }
+    match wanted {
+        Wanted::Plan(packages) if !packages.is_empty() => {
+            let installed = installed_after(alloc, inputs, printed.out.as_slice())?;
+            compare(report, line, packages, installed.as_str())
+        }
+        _ => Ok(()),
+    }
+}
+
+// Where it is said what our actions leave of the steps that are carried out, that is compared.
+fn judge_left(
+    report: &mut Report<'_>,
+    inputs: &Inputs<'_>,
+    command: &Command<'_>,
+    wanted: &Wanted<'_>,
+) -> Result<()> {
+    let (Some(plan), Some(records)) = (&command.text, command.behind.records()) else {
+        return Ok(());
+    };
+    let count = command.behind.carried_out(wanted);
+    let left = left_of(report.alloc, inputs, plan.as_slice(), count)?;
+    compare(report, command.line, records, left.as_str())
+}
+
+fn compare(report: &mut Report<'_>, line: usize, wanted: &str, got: &str) -> Result<()> {
+    if wanted != got {
+        report.difference(line, wanted, got)?;
+    }
+    Ok(())
 }
 
 fn is_printed(
@@ -57,83 +82,32 @@ fn is_printed(
     wanted: &Wanted<'_>,
     printed: &Printed,
 ) -> Result<bool, AllocError> {
+    let (out, err) = (printed.out.as_slice(), printed.err.as_slice());
     Ok(match wanted {
         Wanted::Output(status, text) => printed.is(*status, text.as_slice(), b""),
         Wanted::Refusal(status, line) => {
-            let err = format!(in alloc; "debplan: {line}\n")?;
-            printed.is(*status, b"", err.as_bytes())
+            let line = format!(in alloc; "debplan: {line}\n")?;
+            printed.is(*status, b"", line.as_bytes())
         }
-        Wanted::Usage => printed.is(4, b"", printed.err.as_slice()) && !printed.err.is_empty(),
-        Wanted::Help => printed.is(0, printed.out.as_slice(), b"") && !printed.out.is_empty(),
+        Wanted::Usage => printed.is(4, b"", err) && !err.is_empty(),
+        Wanted::Help => printed.is(0, out, b"") && !out.is_empty(),
         Wanted::Plan(_) => {
-            printed.is(0, printed.out.as_slice(), b"")
-                && is_accepted(alloc, inputs, "plan", printed.out.as_slice())?
+            printed.is(0, out, b"") && is_accepted(alloc, inputs, Kind::CheckPlan, out)?
         }
         Wanted::Refutation => {
-            printed.is(1, printed.out.as_slice(), b"")
-                && is_accepted(alloc, inputs, "refutation", printed.out.as_slice())?
+            printed.is(1, out, b"") && is_accepted(alloc, inputs, Kind::CheckRefutation, out)?
         }
     })
 }
 
-// Whether the judge of plans or that of refutations accepts a text.
+// Whether the judge of this kind accepts a text.
 fn is_accepted(
     alloc: Global,
     inputs: &Inputs<'_>,
-    path: &str,
+    kind: Kind,
     text: &[u8],
 ) -> Result<bool, AllocError> {
-    let host = Memory {
-        inputs,
-        path,
-        text: Some(text),
-    };
-    let line = if path == "plan" {
-        words_over_texts(alloc, inputs, "check-plan", " plan")?
-    } else {
-        words_over_texts(alloc, inputs, "check-refutation", " refutation")?
-    };
-    let printed = run_line(alloc, line.as_str(), host)?;
+    let command = Command::new(0, kind, "", Some(text.to_vec(alloc)?));
+    let printed = run_command(alloc, inputs, &command)?;
     Ok(printed.is(0, b"yes\n", b""))
-}
-
-// Where a plan is wanted with the packages that are installed after it, these are compared.
-fn judge_installed(
-    alloc: Global,
-    report: &mut Report<'_>,
-    inputs: &Inputs<'_>,
-    command: &Command<'_>,
-    printed: &Printed,
-) -> Result<(), AllocError> {
-    let Some(Wanted::Plan(names)) = &command.wanted else {
-        return Ok(());
-    };
-    if names.is_empty() {
-        return Ok(());
-    }
-    match installed_after(alloc, inputs, printed.out.as_slice()) {
-        Ok(installed) if installed.as_str() == *names => Ok(()),
-        Ok(installed) => report.difference(command.line, names, installed.as_str()),
-        Err(error) => report.fault(command.line, error),
-    }
-}
-
-// Where it is said what our actions leave of the steps that are carried out, that is compared.
-fn judge_left(
-    alloc: Global,
-    report: &mut Report<'_>,
-    inputs: &Inputs<'_>,
-    command: &Command<'_>,
-) -> Result<(), AllocError> {
-    let (Some(wanted), Some(text), Some(records)) =
-        (&command.wanted, &command.text, command.behind.records())
-    else {
-        return Ok(());
-    };
-    let count = command.behind.carried_out(wanted);
-    match left_of(alloc, inputs, text.as_slice(), count) {
-        Ok(left) if left.as_str() == records => Ok(()),
-        Ok(left) => report.difference(command.line, records, left.as_str()),
-        Err(error) => report.fault(command.line, error),
-    }
 }

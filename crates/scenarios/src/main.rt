@@ -14,10 +14,9 @@ mod memory;
 mod report;
 mod scenario;
 mod shorthand;
-mod wanted;
-
 #[cfg(test)]
 mod tests;
+mod wanted;
 
 use anyhow::Result;
 use file::report_on;

@@ -5,6 +5,8 @@ use std::fmt::Display;
 /// The report on a file.
 #[derive(Drop)]
 pub struct Report<'a> {
+    /// What the reading and judging of the file allocates with.
+    pub alloc: Global,
     file: &'a str,
     /// A line or two for each fault and each command that does not hold.
     pub text: String,
@@ -33,6 +35,7 @@ impl Tally {
 impl<'a> Report<'a> {
     pub fn new(alloc: Global, file: &'a str) -> Report<'a> {
         Report {
+            alloc,
             file,
             text: String::new(alloc),
             tally: Tally::default(),

@@ -5,7 +5,7 @@ use crate::lines::{Item, Line};
 use crate::report::Report;
 use crate::wanted::wanted_of;
 use anyhow::{Result, bail, ensure};
-use std::alloc::{AllocError, Global};
+use std::alloc::AllocError;
 
 /// A scenario.
 #[derive(Drop)]
@@ -16,18 +16,17 @@ pub struct Scenario<'a> {
 
 /// The scenario of these lines. Its faults are reported.
 pub fn scenario_of<'a>(
-    alloc: Global,
     report: &mut Report<'_>,
     lines: &[Line<'a>],
 ) -> Result<Scenario<'a>, AllocError> {
     let mut scenario = Scenario {
-        inputs: Inputs::new(alloc),
-        commands: Vec::new(alloc),
+        inputs: Inputs::new(report.alloc),
+        commands: Vec::new(report.alloc),
     };
     for part in lines.chunk_by(|_, next| next.is_indented()) {
         if let [head, block @ ..] = part {
             let item = Item::new(*head, block);
-            if let Err(error) = scenario.add(alloc, report, item) {
+            if let Err(error) = scenario.add(report, item) {
                 report.fault(head.number, error)?;
             }
         }
@@ -37,38 +36,28 @@ pub fn scenario_of<'a>(
 }
 
 impl<'a> Scenario<'a> {
-    fn add(
-        &mut self,
-        alloc: Global,
-        report: &mut Report<'_>,
-        item: Item<'a, '_>,
-    ) -> Result<()> {
+    fn add(&mut self, report: &mut Report<'_>, item: Item<'a, '_>) -> Result<()> {
         match item.word {
             "==" => return check_heading(item),
-            "wants" => return self.add_wanted(alloc, report, item),
+            "wants" => return self.add_wanted(report, item),
             "" => bail!("an indented line below nothing"),
             _ => {}
         }
-        if let Some(command) = command_of(alloc, report, item)? {
+        if let Some(command) = command_of(report, item)? {
             return Ok(self.commands.push(command)?);
         }
         if self.add_behind(item)? {
             return Ok(());
         }
-        self.add_input(alloc, report, item)
+        self.add_input(report, item)
     }
 
-    fn add_wanted(
-        &mut self,
-        alloc: Global,
-        report: &mut Report<'_>,
-        item: Item<'a, '_>,
-    ) -> Result<()> {
+    fn add_wanted(&mut self, report: &mut Report<'_>, item: Item<'a, '_>) -> Result<()> {
         let Some(command) = self.commands.last_mut() else {
             bail!("`wants` before a command");
         };
         ensure!(command.wanted.is_none(), "`wants` a second time");
-        command.wanted = Some(wanted_of(alloc, report, item)?);
+        command.wanted = Some(wanted_of(report, item)?);
         Ok(())
     }
 
@@ -77,17 +66,16 @@ impl<'a> Scenario<'a> {
             return Ok(false);
         };
         let is_added = command.behind.add(command.kind, item)?;
-        ensure!(!is_added || command.wanted.is_some(), "`{}` before `wants`", item.word);
+        ensure!(
+            !is_added || command.wanted.is_some(),
+            "`{}` before `wants`",
+            item.word
+        );
         Ok(is_added)
     }
 
-    fn add_input(
-        &mut self,
-        alloc: Global,
-        report: &mut Report<'_>,
-        item: Item<'a, '_>,
-    ) -> Result<()> {
-        let is_added = self.inputs.add(alloc, report, item)?;
+    fn add_input(&mut self, report: &mut Report<'_>, item: Item<'a, '_>) -> Result<()> {
+        let is_added = self.inputs.add(report, item)?;
         ensure!(is_added, "an unknown word: {}", item.word);
         ensure!(self.commands.is_empty(), "`{}` behind a command", item.word);
         Ok(())

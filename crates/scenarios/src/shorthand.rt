@@ -3,7 +3,7 @@ use crate::escapes::push_whole;
 use crate::lines::Line;
 use crate::report::Report;
 use anyhow::{Result, bail, ensure};
-use std::alloc::{AllocError, Global};
+use std::alloc::AllocError;
 use std::io::Write;
 
 /// What the lines of a block stand for.
@@ -19,46 +19,35 @@ pub enum Form {
     Whole,
 }
 
-/// Whether a block is whole text: its first line begins with a bar.
-pub fn is_whole(block: &[Line<'_>]) -> bool {
+// Whether a block is whole text: its first line begins with a bar.
+fn is_whole(block: &[Line<'_>]) -> bool {
     match block.first() {
         Some(line) => line.text.starts_with("  |"),
         None => false,
     }
 }
 
-/// The text that a block of this form stands for, or one of whole text. The faults of its lines are reported.
+/// The text that a block of this form stands for behind a first line, or that of a block of whole text alone. The faults
+/// of its lines are reported.
 pub fn text_of(
-    alloc: Global,
-    report: &mut Report<'_>,
-    form: Form,
-    block: &[Line<'_>],
-) -> Result<Vec<u8>, AllocError> {
-    headed_text(alloc, report, "", form, block)
-}
-
-/// The same, with a first line that whole text has itself.
-pub fn headed_text(
-    alloc: Global,
     report: &mut Report<'_>,
     head: &str,
     form: Form,
     block: &[Line<'_>],
 ) -> Result<Vec<u8>, AllocError> {
     if is_whole(block) {
-        return text_behind(alloc, report, "", Form::Whole, block);
+        return text_behind(report, "", Form::Whole, block);
     }
-    text_behind(alloc, report, head, form, block)
+    text_behind(report, head, form, block)
 }
 
 fn text_behind(
-    alloc: Global,
     report: &mut Report<'_>,
     head: &str,
     form: Form,
     block: &[Line<'_>],
 ) -> Result<Vec<u8>, AllocError> {
-    let mut text = head.as_bytes().to_vec(alloc)?;
+    let mut text = head.as_bytes().to_vec(report.alloc)?;
     for line in block {
         if let Err(error) = push_line(&mut text, form, line.text) {
             report.fault(line.number, error)?;
@@ -160,7 +149,10 @@ fn push_status(text: &mut Vec<u8>, status: Option<&str>) -> Result<()> {
     let (before, state) = words.rsplit_once(' ').unwrap_or(("install ok", words));
     let (want, flag) = before.split_once(' ').unwrap_or((before, ""));
     ensure!(WANTS.as_slice().contains(&want), "an unknown want: {want}");
-    ensure!(["ok", "reinstreq"].as_slice().contains(&flag), "an unknown flag: {flag}");
+    ensure!(
+        ["ok", "reinstreq"].as_slice().contains(&flag),
+        "an unknown flag: {flag}"
+    );
     ensure!(is_state(state), "an unknown state: {state}");
     Ok(writeln!(text, "Status: {want} {flag} {state}")?)
 }

@@ -92,22 +92,30 @@ const PLANS: &str = "\
 == A.$index$  a 1$request$  install a$solve$wants plan$ => plan 1$ => f:6: wanted status 0 and a plan that is judged good$f:6: got status 0, output \"plan 1\\n\", errors \"\"$
 ";
 
-fn report_on_printed(alloc: Global, file: &str, out: &str) -> Result<Report<'static>, AllocError> {
+fn report_on_printed(alloc: Global, file: &str, out: &str) -> anyhow::Result<Report<'static>> {
     let mut report = Report::new(alloc, "f");
     let lines = lines_of(alloc, file)?;
-    let scenario = scenario_of(alloc, &mut report, lines.as_slice())?;
+    let scenario = scenario_of(&mut report, lines.as_slice())?;
     let printed = Printed {
         status: 0,
         out: out.as_bytes().to_vec(alloc)?,
         err: Vec::new(alloc),
     };
     for command in &scenario.commands {
-        judge_printed(alloc, &mut report, &scenario.inputs, command, &printed)?;
+        if let Some(wanted) = &command.wanted {
+            judge_printed(
+                &mut report,
+                &scenario.inputs,
+                command.line,
+                wanted,
+                &printed,
+            )?;
+        }
     }
     Ok(report)
 }
 
-fn is_said_of_plan(alloc: Global, row: &str) -> Result<bool, AllocError> {
+fn is_said_of_plan(alloc: Global, row: &str) -> anyhow::Result<bool> {
     let row = unescaped(alloc, row)?;
     let Some((file, rest)) = row.as_str().split_once(" => ") else {
         return Ok(false);

@@ -23,16 +23,12 @@ pub enum Wanted<'a> {
 }
 
 /// What an item `wants` says. An error is a fault of its line.
-pub fn wanted_of<'a>(
-    alloc: Global,
-    report: &mut Report<'_>,
-    item: Item<'a, '_>,
-) -> Result<Wanted<'a>> {
+pub fn wanted_of<'a>(report: &mut Report<'_>, item: Item<'a, '_>) -> Result<Wanted<'a>> {
     let (word, rest) = item.rest.split_once(' ').unwrap_or((item.rest, ""));
     match word {
-        "0" => output_of(alloc, report, 0, rest, item),
-        "1" => output_of(alloc, report, 1, rest, item),
-        "2" => output_of(alloc, report, 2, rest, item),
+        "0" => output_of(report, 0, rest, item),
+        "1" => output_of(report, 1, rest, item),
+        "2" => output_of(report, 2, rest, item),
         _ => {
             ensure!(item.block.is_empty(), "a block below `wants {word}`");
             wanted_of_line(word, rest)
@@ -42,7 +38,6 @@ pub fn wanted_of<'a>(
 
 // The line behind the status, or the lines below it.
 fn output_of<'a>(
-    alloc: Global,
     report: &mut Report<'_>,
     status: u8,
     line: &str,
@@ -50,11 +45,11 @@ fn output_of<'a>(
 ) -> Result<Wanted<'a>> {
     if item.block.is_empty() {
         ensure!(!line.is_empty(), "nothing is wanted but a status");
-        let text = format!(in alloc; "{line}\n")?;
+        let text = format!(in report.alloc; "{line}\n")?;
         return Ok(Wanted::Output(status, text.into_bytes()));
     }
     ensure!(line.is_empty(), "both a line and a block are wanted");
-    let text = text_of(alloc, report, Form::Lines, item.block)?;
+    let text = text_of(report, "", Form::Lines, item.block)?;
     Ok(Wanted::Output(status, text))
 }
 
@@ -90,10 +85,19 @@ impl Wanted<'_> {
             Wanted::Refusal(status, line) => {
                 format!(in alloc; "status {status}, output \"\", errors \"debplan: {line}\\n\"")
             }
-            Wanted::Usage => String::from_str(alloc, "status 4 and something on standard error alone"),
-            Wanted::Help => String::from_str(alloc, "status 0 and something on standard output alone"),
+            Wanted::Usage => String::from_str(
+                alloc,
+                "status 4 and something on standard error alone",
+            ),
+            Wanted::Help => String::from_str(
+                alloc,
+                "status 0 and something on standard output alone",
+            ),
             Wanted::Plan(_) => String::from_str(alloc, "status 0 and a plan that is judged good"),
-            Wanted::Refutation => String::from_str(alloc, "status 1 and a refutation that is accepted"),
+            Wanted::Refutation => String::from_str(
+                alloc,
+                "status 1 and a refutation that is accepted",
+            ),
         }
     }
 }
