@@ -113,7 +113,9 @@ fn push_stanza(text: &mut Vec<u8>, line: &str) -> Result<()> {
     let (name, version) = cut_version(head)?;
     writeln!(text, "Package: {name}")?;
     push_status(text, status)?;
-    push_version(text, version, fields)?;
+    if let Some(version) = version {
+        push_version(text, version, architecture_in(fields.unwrap_or("")))?;
+    }
     if let Some(fields) = fields {
         push_fields(text, fields, version.is_some())?;
     }
@@ -146,15 +148,27 @@ fn push_status(text: &mut Vec<u8>, status: Option<&str>) -> Result<()> {
     let Some(words) = status else {
         return Ok(());
     };
-    let (before, state) = words.rsplit_once(' ').unwrap_or(("install ok", words));
-    let (want, flag) = before.split_once(' ').unwrap_or((before, ""));
-    ensure!(WANTS.as_slice().contains(&want), "an unknown want: {want}");
+    match words.rsplit_once(' ') {
+        Some((selection, state)) => push_words(text, selection, state),
+        None => push_words(text, "install ok", words),
+    }
+}
+
+fn push_words(text: &mut Vec<u8>, selection: &str, state: &str) -> Result<()> {
     ensure!(
-        ["ok", "reinstreq"].as_slice().contains(&flag),
-        "an unknown flag: {flag}"
+        is_selection(selection),
+        "an unknown want or flag: {selection}"
     );
     ensure!(is_state(state), "an unknown state: {state}");
-    Ok(writeln!(text, "Status: {want} {flag} {state}")?)
+    Ok(writeln!(text, "Status: {selection} {state}")?)
+}
+
+fn is_selection(words: &str) -> bool {
+    match words.split_once(' ') {
+        Some((want, flag)) => WANTS.as_slice().contains(&want)
+            && matches!(flag, "ok" | "reinstreq"),
+        None => false,
+    }
 }
 
 // The words of dpkg(1), "Package selection states".
@@ -177,23 +191,17 @@ pub fn is_state(word: &str) -> bool {
     STATES.as_slice().contains(&word)
 }
 
-fn push_version(text: &mut Vec<u8>, version: Option<&str>, fields: Option<&str>) -> Result<()> {
-    if let Some(version) = version {
-        writeln!(text, "Version: {version}")?;
-        match architecture_in(fields.unwrap_or("")) {
-            Some(field) => writeln!(text, "{field}")?,
-            None => writeln!(text, "Architecture: all")?,
-        }
-    }
-    Ok(())
+fn push_version(text: &mut Vec<u8>, version: &str, architecture: &str) -> Result<()> {
+    writeln!(text, "Version: {version}")?;
+    Ok(writeln!(text, "{architecture}")?)
 }
 
-// The first field Architecture.
-fn architecture_in(fields: &str) -> Option<&str> {
+// The first field Architecture, or the one of a package for all architectures.
+fn architecture_in(fields: &str) -> &str {
     for field in fields.split("; ") {
         if field.starts_with("Architecture:") {
-            return Some(field);
+            return field;
         }
     }
-    None
+    "Architecture: all"
 }

@@ -26,8 +26,8 @@ compare 1 lt 2$wants 0 yes$ => f:1: no heading before it$
 == A.$solve --bound 1$wants plan$ => f:2: other words than the command takes$
 == A.$stanza$  foo 1$check-plan$wants 0 yes$ => f:2: an unknown word: stanza$
 == A.$status$  [present] a 1$check-plan$wants 0 yes$ => f:3: an unknown state: present$
-== A.$status$  [keep ok installed] a 1$check-plan$wants 0 yes$ => f:3: an unknown want: keep$
-== A.$status$  [install fine installed] a 1$check-plan$wants 0 yes$ => f:3: an unknown flag: fine$
+== A.$status$  [keep ok installed] a 1$check-plan$wants 0 yes$ => f:3: an unknown want or flag: keep ok$
+== A.$status$  [install fine installed] a 1$check-plan$wants 0 yes$ => f:3: an unknown want or flag: install fine$
 == A.$status$ a 1$check-plan$wants 0 yes$ => f:3: a line that is neither in column 1 nor indented by two spaces$
 == A.$status$  a 1 2$check-plan$wants 0 yes$ => f:3: no version: a 1 2$
 == A.$status$  a 1; Depends$check-plan$wants 0 yes$ => f:3: not a field: Depends$
