@@ -30,6 +30,7 @@ class Scenario:
     options: dict = field(default_factory=lambda: {"arch": "amd64", "target": ""})
     missing: list = field(default_factory=list)
     indices: int = 0
+    has_sources: bool = False
     commands: list = field(default_factory=list)
 
     def index_texts(self):
@@ -54,7 +55,7 @@ def items_in(path):
 
 
 def meant(found):
-    """The byte that an escape stands for."""
+    """The character that an escape stands for."""
     code, letter = found.groups()
     return chr(int(code, 16)) if code else {"\\": "\\", "t": "\t"}[letter]
 
@@ -105,11 +106,12 @@ FORMS = {
 
 
 def add_index(scenario, keys, block):
-    """Adds an index, and its stanza of the sources, unless they stand as a whole text."""
+    """Adds an index, and its stanza of the sources, unless these stand as a whole text."""
     scenario.indices += 1
     name = f"index{scenario.indices}"
     scenario.texts[name] = text_of(block, FORMS["index"])
-    scenario.texts["sources"] += record("; ".join(filter(None, [f"File: {name}", keys]))) + "\n"
+    if not scenario.has_sources:
+        scenario.texts["sources"] += record("; ".join(filter(None, [f"File: {name}", keys]))) + "\n"
 
 
 def add_input(scenario, word, rest, block):
@@ -122,6 +124,7 @@ def add_input(scenario, word, rest, block):
         scenario.options[word] = rest
     else:
         scenario.texts[word] = text_of(block, FORMS[word])
+        scenario.has_sources |= word == "sources"
 
 
 def add_item(scenario, place, word, rest, block):
