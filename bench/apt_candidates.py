@@ -1,9 +1,9 @@
 #!/usr/bin/env python3
-"""apt_candidates.py TABLE: asks `apt-cache policy` for the candidate of each row of the table, and compares its answer
-with the row's. TABLE is a file with rows as crates/candidate_rows/src/answers.rt has them: a line of eight columns
-with `→` between them, which are the status file, the sources, two indices, the preferences, the target release, the
-name and the answer; `$` is a newline. Other lines are passed over. It prints each difference and the counts, and exits
-with 1 where there is one. apt reads files of a temporary folder alone, and downloads nothing."""
+"""apt_candidates.py FILE..: asks `apt-cache policy` for the candidates in files of scenarios (crates/scenarios/data)
+whose `candidate` says how apt answers, and compares its answers with these: `apt agrees` is debplan's own answer, and
+another answer names the decision in docs/DECISIONS.md that says why. Other commands are passed over. It prints each
+difference and the counts, and exits with 1 where there is one. apt reads files of a temporary folder alone, and
+downloads nothing."""
 
 import os
 import re
@@ -11,8 +11,8 @@ import subprocess
 import sys
 import tempfile
 
-COLUMNS = 8
-ESCAPES = {"\\t": "\t", '\\"': '"', "$": "\n"}
+from scenarios import decisions, scenarios_in
+
 # The keys that apt reads in a Release file, and those that it takes from the address of an index.
 RELEASE_FIELDS = ("Suite", "Codename", "Version", "Origin", "Label", "NotAutomatic", "ButAutomaticUpgrades")
 ADDRESS_FIELDS = ("Component", "Host")
@@ -27,20 +27,6 @@ APT::Architecture "amd64";
 APT::Architectures {{ "amd64"; }};
 APT::Default-Release "{target}";
 """
-
-
-def rows_in(path):
-    """The rows of the table, each as its columns."""
-    with open(path, encoding="utf-8") as lines:
-        rows = [line.rstrip("\n").split("→") for line in lines]
-    return [row for row in rows if len(row) == COLUMNS]
-
-
-def unescaped(column):
-    """The text that a column spells."""
-    for spelled, meant in ESCAPES.items():
-        column = column.replace(spelled, meant)
-    return column
 
 
 def fields_of(stanza):
@@ -78,15 +64,15 @@ def add_index(root, number, fields, packages):
     return f"deb [trusted=yes] {archive} {line}\n"
 
 
-def add_files(root, status, sources, indices, preferences, target):
+def add_files(root, scenario):
     """Writes what apt reads: its configuration, the status file, the preferences and the lists of the indices."""
     for folder in FOLDERS:
         os.makedirs(os.path.join(root, folder))
-    write(root, "apt.conf", CONFIGURATION.format(root=root, target=target))
-    write(root, "status", status)
-    write(root, "etc/preferences", preferences)
-    texts = {f"index{number}": text for number, text in enumerate(indices, 1)}
-    stanzas = [fields_of(stanza) for stanza in sources.split("\n\n") if stanza]
+    texts = scenario.texts
+    write(root, "apt.conf", CONFIGURATION.format(root=root, target=scenario.options["target"]))
+    write(root, "status", texts["status"])
+    write(root, "etc/preferences", texts.get("preferences", ""))
+    stanzas = [fields_of(stanza) for stanza in texts["sources"].split("\n\n") if stanza]
     lines = [add_index(root, number, fields, texts[fields["File"]]) for number, fields in enumerate(stanzas, 1)]
     write(root, "etc/sources.list", "".join(lines))
 
@@ -107,11 +93,21 @@ def answer_in(name, printed):
     return f"{name} {candidate} {' or '.join(priorities)}"
 
 
-def ask_apt(row):
-    """apt's answer to a row, or what it complains of."""
-    status, sources, first, second, preferences, target, name = [unescaped(column) for column in row[:-1]]
+def asked_in(scenarios):
+    """The commands that say how apt answers, each with its scenario."""
+    return [(scenario, command) for scenario in scenarios for command in scenario.commands if "apt" in command.behind]
+
+
+def wanted_of(command):
+    """apt's answer, as the command says it."""
+    answer = command.behind["apt"]
+    return command.behind["wants"].partition(" ")[2] if answer == "agrees" else answer
+
+
+def ask_apt(scenario, name):
+    """apt's answer to the question for a name, or what it complains of."""
     with tempfile.TemporaryDirectory() as root:
-        add_files(root, status, sources, (first, second), preferences, target)
+        add_files(root, scenario)
         environment = {"PATH": os.environ["PATH"], "LC_ALL": "C", "APT_CONFIG": os.path.join(root, "apt.conf")}
         command = ["apt-cache", "policy", name]
         run = subprocess.run(command, env=environment, capture_output=True, text=True, check=False)
@@ -122,17 +118,20 @@ def ask_apt(row):
 
 
 def main():
-    if len(sys.argv) != 2:
-        sys.exit("usage: apt_candidates.py TABLE")
-    rows = rows_in(sys.argv[1])
+    if len(sys.argv) < 2:
+        sys.exit("usage: apt_candidates.py FILE..")
+    asked = asked_in(scenarios_in(sys.argv[1:]))
+    known = decisions()
     differences = 0
-    for row in rows:
-        answer = ask_apt(row)
-        if answer != row[-1]:
+    for scenario, command in asked:
+        answer = ask_apt(scenario, command.words.partition(" ")[2])
+        is_known = command.behind.get("decision") in known
+        if answer != wanted_of(command) or not is_known:
             differences += 1
-            print(f"{'→'.join(row)}\n    apt: {answer}")
-    print(f"apt {len(rows)} rows, {differences} differences")
-    sys.exit(1 if differences or not rows else 0)
+            print(f"{command.place}: {scenario.heading}")
+            print(f"    apt: {answer}{'' if is_known else ', and no such decision'}")
+    print(f"apt {len(asked)} candidates, {differences} differences")
+    sys.exit(1 if differences or not asked else 0)
 
 
 if __name__ == "__main__":

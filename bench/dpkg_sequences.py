@@ -1,31 +1,24 @@
 #!/usr/bin/env python3
-"""dpkg_sequences.py TABLE: has dpkg carry out the steps of each row of the table, and compares its answers with the
-row's. TABLE is a file with rows as crates/dpkg_rows/src/sequences.rt has them: a line of nine columns with `→`
-between them, of which it reads the status file, the index, the plan, dpkg's answer, what dpkg leaves, and the decision
-in docs/DECISIONS.md that the row names; `$` is a newline. Other lines are passed over. It prints each difference and
-the counts, and exits with 1 where there is one. dpkg works in a temporary folder alone, on packages that dpkg-deb makes
-of the index there. It has to be run by root."""
+"""dpkg_sequences.py FILE..: has dpkg carry out the steps of the plans in files of scenarios (crates/scenarios/data)
+whose `check-plan` says how dpkg answers, and compares its answers with these. Of a scenario it reads the status file,
+the indices, and of the command the steps, dpkg's answer, what dpkg leaves, and the decision in docs/DECISIONS.md that
+it names. Other commands are passed over. It prints each difference and the counts, and exits with 1 where there is
+one. dpkg works in a temporary folder alone, on packages that dpkg-deb makes of the indices there. It has to be run by
+root."""
 
 import os
 import subprocess
 import sys
 import tempfile
 
-COLUMNS = 9
-DECISIONS = os.path.join(os.path.dirname(os.path.abspath(__file__)), "../docs/DECISIONS.md")
+from scenarios import decisions, scenarios_in
+
 FOLDERS = ("info", "updates", "triggers")
 ENVIRONMENT = {"PATH": "/usr/sbin:/usr/bin:/sbin:/bin", "LC_ALL": "C"}
 # Without waiting for the disk.
 DPKG = ("dpkg", "--force-unsafe-io")
 # What dpkg-deb asks for and no rule reads.
 BESIDES = "Maintainer: nobody <nobody@example.org>\nDescription: made up\n"
-
-
-def rows_in(path):
-    """The rows of the table, each as its columns."""
-    with open(path, encoding="utf-8") as lines:
-        rows = [line.rstrip("\n").split("→") for line in lines]
-    return [row for row in rows if len(row) == COLUMNS]
 
 
 def stanzas_in(text):
@@ -121,37 +114,39 @@ def left_in(root):
     return ", ".join(left) or "nothing"
 
 
-def decisions():
-    """The decisions that a row can name, and none."""
-    with open(DECISIONS, encoding="utf-8") as text:
-        return {""} | {line.removeprefix("### ").rstrip("\n") for line in text if line.startswith("### ")}
+def asked_in(scenarios):
+    """The commands that say how dpkg answers, each with its scenario."""
+    return [(scenario, command) for scenario in scenarios for command in scenario.commands if "dpkg" in command.behind]
 
 
-def ask_dpkg(row):
-    """dpkg's answer to the steps of a row, and what it leaves."""
-    status, index, _, plan = [column.replace("$", "\n") for column in row[:4]]
+def ask_dpkg(scenario, command):
+    """dpkg's answer to the steps of a command, and what it leaves."""
     with tempfile.TemporaryDirectory() as folder:
         root = os.path.join(folder, "root")
-        add_start(root, status)
-        for fields in stanzas_in(index):
-            add_package(folder, fields)
-        answer = answer_to(root, folder, plan.splitlines()[1:])
+        add_start(root, scenario.texts["status"])
+        for index in scenario.index_texts():
+            for fields in stanzas_in(index):
+                add_package(folder, fields)
+        answer = answer_to(root, folder, command.block)
         return [answer, left_in(root)]
 
 
 def main():
-    if len(sys.argv) != 2:
-        sys.exit("usage: dpkg_sequences.py TABLE")
-    rows = rows_in(sys.argv[1])
+    if len(sys.argv) < 2:
+        sys.exit("usage: dpkg_sequences.py FILE..")
+    asked = asked_in(scenarios_in(sys.argv[1:]))
     known = decisions()
     differences = 0
-    for row in rows:
-        answer = ask_dpkg(row)
-        if answer != row[4:6] or row[8] not in known:
+    for scenario, command in asked:
+        answer = ask_dpkg(scenario, command)
+        behind = command.behind
+        is_known = behind.get("decision") in known
+        if answer != [behind["dpkg"], behind.get("dpkg leaves")] or not is_known:
             differences += 1
-            print(f"{'→'.join(row)}\n    dpkg: {'→'.join(answer)}{'' if row[8] in known else ', and no such decision'}")
-    print(f"dpkg {len(rows)} rows, {differences} differences")
-    sys.exit(1 if differences or not rows else 0)
+            print(f"{command.place}: {scenario.heading}")
+            print(f"    dpkg: {'; '.join(answer)}{'' if is_known else ', and no such decision'}")
+    print(f"dpkg {len(asked)} plans, {differences} differences")
+    sys.exit(1 if differences or not asked else 0)
 
 
 if __name__ == "__main__":
