@@ -36,7 +36,7 @@ fn is_provided_by(
 }
 
 fn are_provided(alloc: Global, pkgs: &[&Pkg<'_>]) -> Result<bool, AllocError> {
-    let providers = Providers::build(pkgs);
+    let providers = Providers::build(alloc, pkgs)?;
     Ok(
         is_provided_by(alloc, &providers, b"mail", &[0, 1, 3])?
             && is_provided_by(alloc, &providers, b"sh", &[1])?

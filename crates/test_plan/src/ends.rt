@@ -7,7 +7,7 @@ use rules::{Goal, GoalLine, Reason};
 use status::Records;
 use std::alloc::{AllocError, Global};
 use std::test::Fail;
-use universe::{Candidate, Candidates, Pairs, Start, Universe};
+use universe::{Candidate, Candidates, Pairs, Start, Starts, Universe};
 use universe_request::Request;
 
 // The candidates are in the order of their names.
@@ -19,11 +19,13 @@ fn candidates_two<'a>(alloc: Global) -> Result<Candidates<'a>, Fail> {
     Ok(Candidates::new(candidates))
 }
 
-fn starts_two<'a>(alloc: Global) -> Result<Vec<Start<'a>>, Fail> {
+// The facts are about two names.
+fn starts_two<'a>(alloc: Global) -> Result<Starts<'a>, Fail> {
     let one = Version::parse(b"1")?;
-    let a = Start::new(b"a", true, Some(one.again()), false, false);
-    let h = Start::new(b"h", true, Some(one), true, false);
-    Ok(vec![in alloc; a, h]?)
+    let mut starts = Vec::new(alloc);
+    starts.push(Start::new(b"a", true, Some(one.again()), false, false))?;
+    starts.push(Start::new(b"h", true, Some(one), true, false))?;
+    Ok(Starts::new(alloc, starts)?)
 }
 
 /// A universe of these goals, in which `a` and `h`, which is held, stood in 1 and have the candidate 2.

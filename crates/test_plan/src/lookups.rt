@@ -1,8 +1,10 @@
 //! What a universe is asked by name and by number. Who provides a name is counted by hand from Policy 7.5.
 use crate::packages::is_answered;
+use debversion::Version;
+use index::Providers;
 use std::alloc::{AllocError, Global};
 use std::test::Fail;
-use universe::Universe;
+use universe::{Start, Universe, lend_packages};
 
 const STATUS: &[u8] = b"\
 Package: a\nStatus: install ok installed\nVersion: 1.5\nArchitecture: all\nProvides: web\n\n\
@@ -23,7 +25,9 @@ fn are_providers(
     name: &str,
     wanted: &str,
 ) -> Result<bool, AllocError> {
-    let providers = universe.providers(alloc)?;
+    let packages = universe.packages(alloc)?;
+    let lent = lend_packages(alloc, packages.as_slice())?;
+    let providers = Providers::build(alloc, lent.as_slice())?;
     let places = providers.of(alloc, name.as_bytes())?;
     Ok(are_places(places.as_slice(), wanted))
 }
@@ -57,8 +61,33 @@ fn is_candidate(universe: &Universe<'_, '_>, name: &str, wanted: &str) -> bool {
     }
 }
 
+fn is_numbered(universe: &Universe<'_, '_>, pair: &str, wanted: &str) -> bool {
+    let (name, version) = pair.split_once(' ').unwrap_or((pair, ""));
+    let Ok(version) = Version::parse(version.as_bytes()) else {
+        return false;
+    };
+    match universe.number_of(name.as_bytes(), &version) {
+        None => wanted == "none",
+        Some(number) => wanted.parse::<usize>() == Ok(number),
+    }
+}
+
+fn is_standing(start: &Start<'_>, wanted: &str) -> bool {
+    match start.standing() {
+        None => wanted == "nothing",
+        Some(version) => version.text() == wanted.as_bytes(),
+    }
+}
+
+fn is_start(universe: &Universe<'_, '_>, name: &str, wanted: &str) -> bool {
+    match universe.start(name.as_bytes()) {
+        None => wanted == "none",
+        Some(start) => start.name() == name.as_bytes() && is_standing(start, wanted),
+    }
+}
+
 /// Whether the universe has this answer: the places of those who provide a name, the name and the version of the pair of a
-/// number, or the candidate of a name.
+/// number, the number of a pair, what the start says of a name, or the candidate of a name.
 pub(crate) fn is_found(
     alloc: Global,
     universe: &Universe<'_, '_>,
@@ -69,6 +98,8 @@ pub(crate) fn is_found(
     match kind {
         "providers" => Ok(are_providers(alloc, universe, word, wanted)?),
         "stanza" => Ok(is_stanza(universe, word, wanted)),
+        "number" => Ok(is_numbered(universe, word, wanted)),
+        "start" => Ok(is_start(universe, word, wanted)),
         _ => Ok(is_candidate(universe, word, wanted)),
     }
 }
@@ -104,6 +135,31 @@ stanza 7→none
 stanza 4294967295→none
 ";
 
+// The first `a` isn't admitted, and 1.50 is no spelling of 1.5.
+const NUMBERS: &str = "\
+number a 1.5→1
+number a 0:1.5→1
+number a 2→2
+number b 3→3
+number c 1→4
+number mail 1→5
+number s 2-0→6
+number a 1.0→none
+number a 1.50→none
+number b 2→none
+number ab 1→none
+number z 1→none
+";
+
+// The start knows the two names of the status file alone.
+const STARTS: &str = "\
+start a→1.5
+start s→2
+start b→none
+start ab→none
+start →none
+";
+
 const CANDIDATES: &str = "\
 candidate a→2
 candidate b→3
@@ -128,6 +184,14 @@ fn a_name_is_provided_by_these_pairs(rt: HostRuntime) -> Result<(), Fail> {
 #[test]
 fn a_number_has_this_stanza_and_a_name_this_candidate(rt: HostRuntime) -> Result<(), Fail> {
     for row in STANZAS.lines().chain(CANDIDATES.lines()) {
+        assert!(rt; is_answered(rt.alloc(), STATUS, row)?, "{row}");
+    }
+    Ok(())
+}
+
+#[test]
+fn a_pair_has_this_number_and_a_name_this_start(rt: HostRuntime) -> Result<(), Fail> {
+    for row in NUMBERS.lines().chain(STARTS.lines()) {
         assert!(rt; is_answered(rt.alloc(), STATUS, row)?, "{row}");
     }
     Ok(())
