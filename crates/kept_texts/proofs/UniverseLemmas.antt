@@ -19,7 +19,7 @@ use Rattle.rules.specs.declared.goal.GoalLine.{GoalLine}
 use Rattle.universe_build.specs.Build.{first_unknown, goals_of, named_by}
 use Rattle.universe_build.specs.Error.{IsBuilt, most_pairs}
 use Rattle.unjudged_text.specs.Rewritten.{rewritten, rewritten_index, rewritten_pair, rewritten_universe}
-use Rattle.unjudged_text.proofs.CandidateLemmas.{all_listed-rewritten, candidates_need_no_text}
+use Rattle.unjudged_text.proofs.CandidateLemmas.{IsKeptText-rewritten, all_listed-rewritten, candidates_need_no_text}
 use Rattle.unjudged_text.proofs.UniverseLemmas.{universes_need_no_text}
 
 -- the names that stanzas have, and the first goal that names an unknown package
@@ -70,4 +70,5 @@ candidate_itself g start indices prefs goals name None is = λ version priority 
 candidate_itself g start indices prefs goals name (Some offer) is = (
   is.0,
   (candidates_need_no_text g (inputs_of start indices prefs goals) name offer.version offer.priority).0 is.1,
+  coe 0 1 (i. IsKeptText-rewritten g (inputs_of start indices prefs goals) name offer.version i) is.2,
 )

@@ -9,6 +9,7 @@ use Rattle.rules.specs.Package.{Pkg}
 use Rattle.rules.specs.Priority.{HasPriority, HasPriorityAmong, IsCandidate, IsDowngrade, IsEligible, Origin, index_origin, indices_with, origins_of, status_origin}
 use Rattle.rules.specs.Stanza.{Stanza}
 use Rattle.rules.specs.Step.{Listed}
+use Rattle.rules.specs.Universe.{IsKeptText}
 use Rattle.unjudged_text.specs.Laws.{CandidatesNeedNoText}
 use Rattle.unjudged_text.specs.Rewritten.{rewritten, rewritten_index, rewritten_inputs}
 use Rattle.unjudged_text.proofs.MappedLemmas.{find-map}
@@ -42,6 +43,13 @@ counting_package-rewritten g inputs name version =
     ap (λ (found : Option Pkg). option_or (option_map pkg_of (standing_record inputs.start name version)) found)
     (ap (option_map (λ (found : Listed). found.pkg)) (index_package-rewritten g inputs.indices name version)
     ∙ pkg-rewritten g (index_package inputs.indices name version))
+
+-- the text that is kept of a version
+pub IsKeptText-rewritten : (g : Stanza → Stanza) (inputs : Inputs) (name version : List ℕ)
+    → IsKeptText (rewritten_inputs g inputs) name version ≡ IsKeptText inputs name version
+unfolding IsKeptText
+IsKeptText-rewritten g inputs name version = λ i.
+    MatchOption (counting_package-rewritten g inputs name version i) ⊥ (λ (pkg : Pkg). pkg.version ≡ version)
 
 -- the origins of a version
 list_any-rewritten : (g : Stanza → Stanza) (name version : List ℕ) (all : List Listed)
@@ -88,7 +96,7 @@ HasPriority-rewritten g inputs name version priority = λ i.
     (λ pkg. HasPriorityAmong inputs.preferences inputs.target name pkg.version
     (origins_of-rewritten g inputs name pkg.version i) priority)
 
-IsEligible-rewritten : (g : Stanza → Stanza) (inputs : Inputs) (name version : List ℕ) (priority : ℤ)
+pub IsEligible-rewritten : (g : Stanza → Stanza) (inputs : Inputs) (name version : List ℕ) (priority : ℤ)
     → IsEligible (rewritten_inputs g inputs) name version priority ≡ IsEligible inputs name version priority
 unfolding IsEligible IsDowngrade
 IsEligible-rewritten g inputs name version priority = λ i. HasPriority-rewritten g inputs name version priority i

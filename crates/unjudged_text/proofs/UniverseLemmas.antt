@@ -1,16 +1,15 @@
 -- The universe of inputs with other texts is that of the inputs themselves, with those texts.
-use Rattle.std.proofs.Common.{◌≡◌, ℕ, ℤ, List, [], ◌∷◌, map, Some, IsSome, refl, sym, ◌∙◌, subst}
+use Rattle.std.proofs.Common.{◌≡◌, ℕ, List, [], ◌∷◌, map, Some, IsSome, refl, sym, ◌∙◌, subst}
 use Rattle.std.specs.List.{All}
 use Rattle.std.specs.Option.{option_map}
 use Rattle.std.specs.declared.cmp.Ordering.TheVariants.{Less}
 use Rattle.std.proofs.lemmas.List.Elements.{All-head, All-map, All-tail, All-weaker}
 use Rattle.rules.specs.Available.{Inputs, IsAvailable, counting_package, index_package}
-use Rattle.rules.specs.Priority.{IsCandidate}
 use Rattle.rules.specs.Stanza.{Stanza}
-use Rattle.rules.specs.Universe.{Candidate, IsAdmitted, IsOf, IsOffered, IsUniverse, Pair, Universe, pair_cmp}
+use Rattle.rules.specs.Universe.{Candidate, IsAdmitted, IsKeptCandidate, IsOf, IsOffered, IsUniverse, Pair, Universe, pair_cmp}
 use Rattle.unjudged_text.specs.Laws.{UniversesNeedNoText}
 use Rattle.unjudged_text.specs.Rewritten.{rewritten, rewritten_inputs, rewritten_pair, rewritten_universe}
-use Rattle.unjudged_text.proofs.CandidateLemmas.{candidates_need_no_text, counting_package-rewritten, index_package-rewritten}
+use Rattle.unjudged_text.proofs.CandidateLemmas.{IsEligible-rewritten, IsKeptText-rewritten, candidates_need_no_text, counting_package-rewritten, index_package-rewritten}
 use Rattle.unjudged_text.proofs.MappedLemmas.{All-unmap, AllPairs-unmap, Any-map, Any-unmap}
 use mathlib.Core.Logic.{inl, inr}
 
@@ -29,8 +28,10 @@ unfolding IsAdmitted IsOffered
 admitted_there g inputs name version (inl stands) = inl stands
 admitted_there g inputs name version (inr (free, inl (priority, candidate))) =
     inr (free, inl (priority, (candidates_need_no_text g inputs name version priority).0 candidate))
-admitted_there g inputs name version (inr (free, inr (has, asked))) =
-    inr (free, inr (available_there g inputs name version has, asked))
+admitted_there g inputs name version (inr (free, inr (inl (has, asked)))) =
+    inr (free, inr (inl (available_there g inputs name version has, asked)))
+admitted_there g inputs name version (inr (free, inr (inr (all, (priority, may))))) =
+    inr (free, inr (inr (all, (priority, coe 0 1 (i. IsEligible-rewritten g inputs name version priority i) may))))
 
 admitted_back : (g : Stanza → Stanza) (inputs : Inputs) (name version : List ℕ)
     → IsAdmitted inputs name version → IsAdmitted (rewritten_inputs g inputs) name version
@@ -38,8 +39,10 @@ unfolding IsAdmitted IsOffered
 admitted_back g inputs name version (inl stands) = inl stands
 admitted_back g inputs name version (inr (free, inl (priority, candidate))) =
     inr (free, inl (priority, (candidates_need_no_text g inputs name version priority).1 candidate))
-admitted_back g inputs name version (inr (free, inr (has, asked))) =
-    inr (free, inr (available_back g inputs name version has, asked))
+admitted_back g inputs name version (inr (free, inr (inl (has, asked)))) =
+    inr (free, inr (inl (available_back g inputs name version has, asked)))
+admitted_back g inputs name version (inr (free, inr (inr (all, (priority, may))))) =
+    inr (free, inr (inr (all, (priority, coe 1 0 (i. IsEligible-rewritten g inputs name version priority i) may))))
 
 -- the pair and the universe with the texts of these inputs
 abbrev restored_pair : Inputs → Pair → Pair
@@ -61,9 +64,14 @@ IsListed inputs pair = index_package inputs.indices pair.pkg.name pair.pkg.versi
 abbrev IsCounted : Inputs → Pair → Type 0
 IsCounted inputs pair = counting_package inputs pair.pkg.name pair.pkg.version ≡ Some pair.pkg
 
--- the candidate is that of its name by these inputs
-abbrev IsChosen : Inputs → Candidate → Type 0
-IsChosen inputs candidate = (priority : ℤ) × IsCandidate inputs candidate.name candidate.version priority
+-- the candidate of a name by inputs with other texts is that by the inputs themselves
+candidate_there : (g : Stanza → Stanza) (inputs : Inputs) (candidate : Candidate) → IsKeptCandidate (rewritten_inputs g inputs) candidate
+    → IsKeptCandidate inputs candidate
+unfolding IsKeptCandidate
+candidate_there g inputs candidate found = (
+  (found.0.0, (candidates_need_no_text g inputs candidate.name candidate.version found.0.0).0 found.0.1),
+  coe 0 1 (i. IsKeptText-rewritten g inputs candidate.name candidate.version i) found.1,
+)
 
 -- a pair of inputs with other texts is that of the inputs themselves with those texts
 pair_same : (g : Stanza → Stanza) (inputs : Inputs) (pair : Pair) → IsListed (rewritten_inputs g inputs) pair
@@ -108,14 +116,11 @@ universe_there g inputs u listed is = record {
   listed = listed;
   goals = is.goals;
   starts = is.starts;
-  candidates = All-weaker (IsChosen (rewritten_inputs g inputs)) (IsChosen inputs)
-      (λ candidate found. (
-        found.0,
-        (candidates_need_no_text g inputs candidate.name candidate.version found.0).0 found.1,
-      )) u.candidates is.candidates;
+  candidates = All-weaker (IsKeptCandidate (rewritten_inputs g inputs)) (IsKeptCandidate inputs) (candidate_there g inputs)
+      u.candidates is.candidates;
   every_candidate = λ name version priority candidate.
       is.every_candidate name version priority ((candidates_need_no_text g inputs name version priority).1 candidate);
-  one_candidate = is.one_candidate;
+  candidates_ascending = is.candidates_ascending;
 }
 
 pub universes_need_no_text : UniversesNeedNoText

@@ -21,7 +21,7 @@ rewritten_inputs change inputs = record {
   indices = map (rewritten_index change) inputs.indices;
   preferences = inputs.preferences;
   target = inputs.target;
-  goals = inputs.goals;
+  request = inputs.request;
 }
 
 -- the admitted pair with the text of its stanza changed, if it is in an index
