@@ -1,6 +1,6 @@
 // A step of any action: the first rule that it fails, and what it leaves (Policy 7.2 to 7.4, dpkg(1)).
 
-ghost use Rattle.std.specs.Prelude.{◌≡◌, IfOk, MatchOption, None};
+ghost use Rattle.std.specs.Prelude.{◌≡◌, IfOk, MatchOption, None, OnErr};
 ghost use Rattle.std.specs.Option.{option_copied, option_map_or};
 ghost use Rattle.rules.specs.Database.{HasDistinctNames};
 ghost use Rattle.rules.specs.Legal.{Allowed, IsFirstFailing};
@@ -75,7 +75,8 @@ fn unpack_listed<'p, 'a>(
     listed: Option<&'p Listed<'a>>,
 ) -> Result<(), AllocError>
     requires { HasDistinctNames db.old }
-    ensures { IfOk result (λ _. db.new ≡ option_map_or (λ found. after_unpack found db.old) (option_copied listed.entry) db.old) }
+    ensures unchanged { OnErr result (db.new ≡ db.old) }
+    ensures unpacked { IfOk result (λ _. db.new ≡ option_map_or (λ found. after_unpack found db.old) (option_copied listed.entry) db.old) }
 {
     if let Some(listed) = listed {
         db.unpack(listed)?;
@@ -94,7 +95,8 @@ fn leave<'p, 'a>(
     requires listed { option_copied listed ≡ listed_for universe.now step.now }
     requires distinct { HasDistinctNames db.old }
     requires present { ActsOnPresent step.now db.old }
-    ensures { IfOk result (λ _. db.new ≡ after universe.now db.old step.now) }
+    ensures unchanged { OnErr result (db.new ≡ db.old) }
+    ensures after { IfOk result (λ _. db.new ≡ after universe.now db.old step.now) }
 {
     match step {
         Step::Unpack(_, _) => unpack_listed(db, listed)?,
@@ -107,7 +109,7 @@ fn leave<'p, 'a>(
 }
 
 /// Takes an allowed step. Of a step that unpacks, `listed` is the stanza, whose package the record then lends. It costs
-/// what the action of `Records` does. Memory alone can fail.
+/// what the action of `Records` does. Memory alone can fail, and then nothing is changed.
 pub fn apply<'p, 'a>(
     db: &mut Records<'p, 'a>,
     universe: &Universe<'_, 'a>,
@@ -119,6 +121,7 @@ pub fn apply<'p, 'a>(
     requires allowed { Allowed universe.now db.old step.now }
     ensures after { IfOk result (λ _. db.new ≡ after universe.now db.old step.now) }
     ensures distinct { IfOk result (λ _. HasDistinctNames db.new) }
+    ensures unchanged { OnErr result (db.new ≡ db.old) }
 {
     allowed_acts_on_present();
     distinct_names_kept();
