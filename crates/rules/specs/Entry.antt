@@ -54,13 +54,14 @@ touched_entry change entry = record {
   stanza = touched_stanza (change entry.found) entry.stanza.fields;
 }
 
--- the entry of a package of an index unpacked, in the place of another and by itself
+-- the entry of a package of an index unpacked in the place of another
 abbrev pub unpacked_entry : Listed → Entry → Entry
 unpacked_entry listed entry = record {
   found = unpacked_over listed entry.found;
   stanza = unpacked_stanza (unpacked_over listed entry.found) listed.stanza.fields entry.stanza.fields;
 }
 
+-- the entry of a package of an index unpacked where there was none of its name
 abbrev pub new_entry : Listed → Entry
 new_entry listed = record {
   found = unpacked_with listed None;

@@ -36,6 +36,7 @@ is_acted_on (step.Purge name) found = false
 unfoldable pub ActsOnPresent : Step → List Record → Type 0
 ActsOnPresent step db = All (λ found. is_acted_on step found ≡ true → IsPresent found) db
 
+-- what an allowed step configures, deconfigures or removes is present, where names are distinct
 abbrev pub AllowedActsOnPresent : Type 0
 AllowedActsOnPresent = (u : Universe) (db : List Record) (step : Step) → HasDistinctNames db → Allowed u db step
     → ActsOnPresent step db
