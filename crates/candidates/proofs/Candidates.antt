@@ -114,8 +114,7 @@ IsCandidateOf-find inputs offers name are = at (find has offers) refl
         (are.covered name version priority candidate)
     at (Some offer) some =
         let there = find-some has offers offer some in
-        let named : offer.name ≡ name = bytes_eq-true offer.name name there.1 in
-        (
+        let named : offer.name ≡ name = bytes_eq-true offer.name name there.1 in (
           named,
           are.drawn offer there.0 name offer.version (named, SameVersion-refl offer.version),
           subst (λ (n : List ℕ). IsKeptText inputs n offer.version) named (are.kept offer there.0),

@@ -41,7 +41,7 @@ abbrev asking : Bool → Inputs
 asking asks_all_versions = record {
   start = [];
   indices = record { release = suite (codes "stable"); listed = listed (codes "foo") (codes "1") ∷ listed (codes "libx") (codes "1") ∷ [] }
-  ∷ record { release = suite (codes "testing"); listed = listed (codes "libx") (codes "2") ∷ [] } ∷ [];
+      ∷ record { release = suite (codes "testing"); listed = listed (codes "libx") (codes "2") ∷ [] } ∷ [];
   preferences = [];
   target = None;
   request = record { goals = goal.Install (codes "foo") None ∷ []; asks_all_versions = asks_all_versions };

@@ -47,9 +47,9 @@ one_stop : (u : Universe) (start : List Record) (before later : List Step) (step
 one_stop u start [] [] step next rest more reached there rule other same run run' fails fails' = (
   refl,
   one_first_failing u there next rule other
-  (subst (λ (db : List Record). IsFirstFailing u db next rule) (run ∙ sym run')
-  (subst (λ (s : Step). IsFirstFailing u reached s rule) (head_of step next rest more same) fails))
-  fails',
+      (subst (λ (db : List Record). IsFirstFailing u db next rule) (run ∙ sym run')
+      (subst (λ (s : Step). IsFirstFailing u reached s rule) (head_of step next rest more same) fails))
+      fails',
 )
 one_stop u start [] (taken ∷ later) step next rest more reached there rule other same run run' fails fails' =
     absurd (not_both u start reached taken step rule run (head_of step taken rest (later ++ (next ∷ more)) same) run'.0 fails)
