@@ -21,6 +21,7 @@ mod wanted;
 use anyhow::Result;
 use file::report_on;
 use report::{Report, Tally};
+use std::alloc::AllocError;
 use std::process::ExitCode;
 use std::{env, fs, io};
 
@@ -47,22 +48,27 @@ fn files_here(rt: &HostRuntime) -> Result<Vec<String>> {
 }
 
 fn judge_file(rt: &HostRuntime, path: &str) -> Result<Tally> {
-    let report = match fs::read_to_string(rt, path) {
-        Ok(text) => report_on(rt.alloc(), path, text.as_str())?,
-        Err(error) => {
-            let mut report = Report::new(rt.alloc(), path);
-            report.fault_of_file(error)?;
-            report
-        }
-    };
+    let report = report_of_file(rt, path)?;
     let text = report.text.as_str();
     print!(rt; "{text}")?;
     Ok(report.tally)
 }
 
+// A file that can't be read, or is not UTF-8, is a fault.
+fn report_of_file<'a>(rt: &HostRuntime, path: &'a str) -> Result<Report<'a>, AllocError> {
+    match fs::read_to_string(rt, path) {
+        Ok(text) => report_on(rt.alloc(), path, text.as_str()),
+        Err(error) => {
+            let mut report = Report::new(rt.alloc(), path);
+            report.fault_of_file(error)?;
+            Ok(report)
+        }
+    }
+}
+
 fn print_tally(rt: &HostRuntime, tally: Tally) -> io::Result<ExitCode> {
     let Tally { scenarios, failed } = tally;
-    if failed == 0 && scenarios != 0 {
+    if tally.holds() {
         println!(rt; "{scenarios} scenarios hold")?;
         return Ok(ExitCode::SUCCESS);
     }

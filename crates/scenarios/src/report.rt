@@ -23,6 +23,11 @@ pub struct Tally {
 }
 
 impl Tally {
+    /// Whether there are scenarios, and all hold.
+    pub fn holds(self) -> bool {
+        self.failed == 0 && self.scenarios != 0
+    }
+
     /// Those of both.
     pub fn and(self, other: Tally) -> Tally {
         Tally {

@@ -3,9 +3,11 @@ use crate::file::report_on;
 use crate::judge::judge_printed;
 use crate::lines::lines_of;
 use crate::memory::Printed;
-use crate::report::Report;
+use crate::report::{Report, Tally};
+use crate::report_of_file;
 use crate::scenario::scenario_of;
 use std::alloc::{AllocError, Global};
+use std::fs;
 use std::test::Fail;
 
 // A file, and behind ` => ` what is said of it. `$` stands for a newline.
@@ -133,6 +135,22 @@ fn a_plan_that_is_found_is_judged(rt: HostRuntime) -> Result<(), Fail> {
         }
     }
     Ok(())
+}
+
+#[test]
+fn files_that_cannot_be_read_do_not_hold(rt: HostRuntime) -> Result<(), Fail> {
+    fs::write(&rt, "not-utf-8", b"\xff")?;
+    let report = report_of_file(&rt, "not-utf-8")?;
+    assert!(rt; report.text.as_str().starts_with("not-utf-8: ") && report.tally.failed == 1);
+    let report = report_of_file(&rt, "not-there")?;
+    assert!(rt; report.text.as_str().starts_with("not-there: ") && report.tally.failed == 1);
+    fs::remove_file(&rt, "not-utf-8")?;
+    Ok(())
+}
+
+#[test]
+fn no_scenario_is_not_all(rt: HostRuntime) {
+    assert!(rt; !Tally::default().holds());
 }
 
 #[test]
