@@ -52,12 +52,7 @@ pub(crate) fn is_answered(alloc: Global, status: &[u8], rest: &str) -> Result<bo
 }
 
 // Whether this is the answer of the status file to the question.
-fn is_answer(
-    alloc: Global,
-    status: &[u8],
-    asked: &str,
-    wanted: &str,
-) -> Result<bool, Fail> {
+fn is_answer(alloc: Global, status: &[u8], asked: &str, wanted: &str) -> Result<bool, Fail> {
     let database = Database::read(alloc, status, ARCH)?;
     is_answer_of(alloc, &database, asked, wanted)
 }
