@@ -1,8 +1,11 @@
 // Clauses, and beside them what tells a search where to begin.
 
+ghost use Rattle.std.specs.Prelude.{◌≡◌, ◌++◌, ◌∷◌, [], OnOk, length, slice_index_or};
+
 use crate::lists::Lists;
 use crate::span::Span;
 use std::alloc::{AllocError, Global};
+use std::marker::Model;
 
 /// Clauses over the numbers from 1 on, in order. The literal `n` says that the number n is selected, `-n` that it isn't;
 /// a clause is true where one of its literals is, and its literals stand in the order in which they are preferred.
@@ -15,9 +18,21 @@ pub struct Clauses {
     wishes: Lists<u32>,
 }
 
+impl Model for Clauses {
+    ghost use Rattle.clauses.specs.Clauses.{Clauses as ClausesValue};
+
+    ghost Value = { ClausesValue };
+
+    ghost view = { λ c. record { numbers = c.numbers; clauses = c.clauses.closed; open_clause = c.clauses.open_items } };
+}
+
 impl Clauses {
     /// No clauses over the numbers from 1 to this one.
-    pub fn new(alloc: Global, numbers: u32) -> Self {
+    pub fn new(alloc: Global, numbers: u32) -> Self
+        ensures numbers { result.numbers ≡ numbers }
+        ensures clauses { result.clauses ≡ [] }
+        ensures opened { result.open_clause ≡ [] }
+    {
         Clauses {
             numbers,
             clauses: Lists::new(alloc),
@@ -28,12 +43,16 @@ impl Clauses {
     }
 
     /// The greatest number.
-    pub fn numbers(&self) -> u32 {
+    pub fn numbers(&self) -> u32
+        ensures { result ≡ self.now.numbers }
+    {
         self.numbers
     }
 
     /// How many clauses were ended.
-    pub fn len(&self) -> usize {
+    pub fn len(&self) -> usize
+        ensures { result ≡ length self.now.clauses }
+    {
         self.clauses.len()
     }
 
@@ -43,22 +62,34 @@ impl Clauses {
     }
 
     /// The literals of the clause at a place, counted from 0; none where there is no such clause.
-    pub fn clause(&self, place: usize) -> &[i32] {
+    pub fn clause(&self, place: usize) -> &[i32]
+        ensures { result.now ≡ slice_index_or self.now.clauses place [] }
+    {
         self.clauses.at(place)
     }
 
     /// Puts a literal at the end of the clause that isn't ended.
-    pub fn push(&mut self, literal: i32) -> Result<(), AllocError> {
+    pub fn push(&mut self, literal: i32) -> Result<(), AllocError>
+        ensures numbers { self.new.numbers ≡ self.old.numbers }
+        ensures clauses { self.new.clauses ≡ self.old.clauses }
+        ensures pushed { OnOk result (self.new.open_clause ≡ self.old.open_clause ++ literal ∷ []) }
+    {
         self.clauses.push(literal)
     }
 
     /// Ends the clause.
-    pub fn end_clause(&mut self) -> Result<(), AllocError> {
+    pub fn end_clause(&mut self) -> Result<(), AllocError>
+        ensures numbers { self.new.numbers ≡ self.old.numbers }
+        ensures ended { OnOk result (self.new.clauses ≡ self.old.clauses ++ self.old.open_clause ∷ []) }
+        ensures opened { OnOk result (self.new.open_clause ≡ []) }
+    {
         self.clauses.end()
     }
 
     /// Says that the clauses so far have no owner, and that those which follow have one.
-    pub fn end_unowned(&mut self) {
+    pub fn end_unowned(&mut self)
+        ensures { self.new ≡ self.old }
+    {
         self.unowned = self.clauses.len();
     }
 
@@ -69,7 +100,9 @@ impl Clauses {
 
     /// Says that the clauses from a place on are those by which the next number depends on others. Numbers come
     /// ascending from 1.
-    pub fn end_depends(&mut self, from: usize) -> Result<(), AllocError> {
+    pub fn end_depends(&mut self, from: usize) -> Result<(), AllocError>
+        ensures { self.new ≡ self.old }
+    {
         let until = self.clauses.len();
         self.depends.push(Span { from, until })?;
         Ok(())
@@ -91,12 +124,16 @@ impl Clauses {
     }
 
     /// Puts a number at the end of the wish that isn't ended: one of these is wished to be selected, the first one best.
-    pub fn push_wish(&mut self, number: u32) -> Result<(), AllocError> {
+    pub fn push_wish(&mut self, number: u32) -> Result<(), AllocError>
+        ensures { self.new ≡ self.old }
+    {
         self.wishes.push(number)
     }
 
     /// Ends the wish.
-    pub fn end_wish(&mut self) -> Result<(), AllocError> {
+    pub fn end_wish(&mut self) -> Result<(), AllocError>
+        ensures { self.new ≡ self.old }
+    {
         self.wishes.end()
     }
 
