@@ -1,5 +1,5 @@
 -- What becomes of lists that are cut from items when an item or an end is added, and the list at a place.
-use Rattle.std.proofs.Common.{◌≡◌, ℕ, ◌+◌, ◌-◌, ◌<◌, ◌≤◌, List, [], ◌∷◌, ◌++◌, length, get_or, take, drop, refl, ap, sym, ◌∙◌, zero, suc, append_assoc, add-one, arith, length-append, length-drop, inl, inr, ◌⊎◌}
+use Rattle.std.proofs.Common.{◌≡◌, ℕ, ◌-◌, ◌<◌, ◌≤◌, List, [], ◌∷◌, ◌++◌, length, get_or, take, drop, refl, ap, sym, ◌∙◌, zero, suc, arith, length-append, length-drop, inl, inr, ◌⊎◌}
 use Rattle.std.specs.List.{slice_range}
 use Rattle.std.proofs.lemmas.List.{take-append-le, drop-append-le, take_all, drop_all, get_or_past}
 use Rattle.std.proofs.lemmas.Bool.{cases_lt}
@@ -123,10 +123,11 @@ pub range_is_list : {A : Type 0} (old : Cut A) (ends : List ℕ) (xs part : List
 range_is_list old ends xs part place start end view first last is =
     let closed : lists_from 0 ends xs ≡ old.closed = ap (λ (cut : Cut _). cut.closed) view in
     elim (cases_lt place (length ends)) [
-      inl below ↦ is ∙ ap (λ from. slice_range xs from end) first ∙ ap (slice_range xs (get_or (0 ∷ ends) place 0)) last
-        ∙ sym (list_at 0 ends xs place below) ∙ ap (λ lists. get_or lists place []) closed
-    | inr past ↦ is ∙ range_to_zero xs start end (last ∙ get_or_past ends place 0 past)
-        ∙ sym (past_the_last ends xs place past) ∙ ap (λ lists. get_or lists place []) closed ]
+      | inl below ↦ is ∙ ap (λ from. slice_range xs from end) first ∙ ap (slice_range xs (get_or (0 ∷ ends) place 0)) last
+          ∙ sym (list_at 0 ends xs place below) ∙ ap (λ lists. get_or lists place []) closed
+      | inr past ↦ is ∙ range_to_zero xs start end (last ∙ get_or_past ends place 0 past)
+          ∙ sym (past_the_last ends xs place past) ∙ ap (λ lists. get_or lists place []) closed
+    ]
 
 -- where there is no such range there is no list
 pub no_range_no_list : {A : Type 0} (old : Cut A) (ends : List ℕ) (xs : List A) (place start end : ℕ) →
@@ -135,6 +136,7 @@ pub no_range_no_list : {A : Type 0} (old : Cut A) (ends : List ℕ) (xs : List A
 no_range_no_list old ends xs place start end view ascending first last none =
     let closed : lists_from 0 ends xs ≡ old.closed = ap (λ (cut : Cut _). cut.closed) view in
     elim (cases_lt place (length ends)) [
-      inl below ↦ let within = ends_ascend 0 ends (length xs) place ascending below in
-        absurd (elim none [ inl h ↦ omega (arith, within, h) | inr h ↦ omega (arith, within, h) ])
-    | inr past ↦ sym (past_the_last ends xs place past) ∙ ap (λ lists. get_or lists place []) closed ]
+      | inl below ↦ let within = ends_ascend 0 ends (length xs) place ascending below in
+          absurd (elim none [ inl h ↦ omega (arith, within, h) | inr h ↦ omega (arith, within, h) ])
+      | inr past ↦ sym (past_the_last ends xs place past) ∙ ap (λ lists. get_or lists place []) closed
+    ]

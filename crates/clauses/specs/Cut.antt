@@ -17,7 +17,7 @@ abbrev pub last_end : ℕ → List ℕ → ℕ
 last_end start [] = start
 last_end start (end ∷ ends) = last_end end ends
 
--- whether the places ascend from one to another
+-- the places ascend from one to another
 abbrev pub IsAscending : ℕ → List ℕ → ℕ → Type 0
 IsAscending start [] bound = start ≤ bound
 IsAscending start (end ∷ ends) bound = (start ≤ end) × IsAscending end ends bound

@@ -94,7 +94,8 @@ impl<T: Copy + Drop> Lists<T> {
     {
         match self
             .items
-            .get(start_at(&self.ends, place)..end_at(&self.ends, place)) {
+            .get(start_at(&self.ends, place)..end_at(&self.ends, place))
+        {
             Some(items) => items,
             None => &[],
         }

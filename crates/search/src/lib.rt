@@ -10,6 +10,7 @@ mod found;
 mod improve;
 mod leave_out;
 mod literal;
+mod pass;
 mod propagate;
 mod run;
 mod start;

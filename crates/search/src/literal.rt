@@ -1,10 +1,11 @@
 // Literals: `n` says that the number n is selected, `-n` that it isn't.
 
-ghost use Rattle.std.specs.Prelude.{◌<◌, ◌^◌};
+ghost use Rattle.std.specs.Prelude.{◌≡◌, ◌≤◌, ◌^◌, unsigned_abs};
 
 /// The number that a literal speaks of.
 pub(crate) fn number_of(literal: i32) -> usize
-    ensures { result < 2 ^ 32 }
+    ensures value { result ≡ unsigned_abs literal }
+    ensures bound { result ≤ 2 ^ 31 }
 {
     literal.unsigned_abs() as usize
 }

@@ -1,5 +1,5 @@
 -- There are as many lists as ends.
-use Rattle.std.proofs.Common.{◌≡◌, length, ap, sym, ◌∙◌}
+use Rattle.std.proofs.Common.{length, ap, sym, ◌∙◌}
 use Rattle.clauses.specs.Cut.{Cut}
 use Rattle.clauses.proofs.CutLemmas.{length-lists}
 use Rattle.clauses.proofs.lists.Lists.len.Goals as goal
