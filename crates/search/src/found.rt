@@ -1,5 +1,5 @@
-// The answer, and what decides it. Whatever was found elsewhere, a selection is answered
-// only where one pass over all clauses says that it makes every one true, and a limit only where some clause leaves a choice.
+// The answer, and what decides it. Whatever was found elsewhere (`improve`), a selection is answered only where one pass
+// over all clauses says that it makes every one true, and a limit only where some clause leaves a choice (`pass`).
 
 ghost use Rattle.std.specs.Prelude.{IfOk};
 ghost use Rattle.search.specs.Found.{IsAnswer};
@@ -10,7 +10,7 @@ use crate::trim::Refutation;
 use clauses::Clauses;
 use std::alloc::{AllocError, Global};
 
-/// The answer: a selection that makes every clause true, ascending; what is to be judged as a refutation; or the limit, where more
+/// The answer: a selection that makes every clause true, what is to be judged as a refutation, or the limit, where more
 /// conflicts came.
 #[derive(Drop)]
 pub enum Found {
