@@ -1,0 +1,103 @@
+// The passes over all clauses that decide an answer: whether a set makes each true, and whether one leaves a choice.
+
+ghost use Rattle.std.specs.Prelude.{◌≡◌, ◌↔◌, ◌+◌, ◌++◌, ◌∷◌, [], false, IfOk, IsTrue, OnOk, length};
+ghost use Rattle.std.specs.List.{Any, filter};
+ghost use Rattle.clauses.specs.Clause.{LeavesChoice, is_unnegated};
+ghost use Rattle.search.specs.Set.{AreMadeTrue, IsMadeTrue, holds, is_true_in, numbers_from};
+
+use crate::literal::number_of;
+use crate::table::at;
+use clauses::Clauses;
+use std::alloc::{AllocError, Global};
+
+// Whether a literal is true of the set.
+fn is_true(set: &Vec<bool>, literal: i32) -> bool
+    ensures { result ≡ is_true_in set.now.items literal }
+{
+    let holds = at(set, number_of(literal), false);
+    if literal < 0 { !holds } else { holds }
+}
+
+fn is_made_true(set: &Vec<bool>, clause: &[i32]) -> bool
+    ensures { IsTrue result ↔ IsMadeTrue set.now.items clause.now }
+{
+    clause.iter().any(|literal| is_true(set, *literal))
+}
+
+/// Whether the set makes every clause true. Linear in the literals.
+pub(crate) fn makes_all_true(set: &Vec<bool>, given: &Clauses) -> bool
+    ensures { IsTrue result ↔ AreMadeTrue set.now.items given.now.clauses }
+{
+    for place in 0..given.len() {
+        if !is_made_true(set, given.clause(place)) {
+            return false;
+        }
+    }
+    true
+}
+
+/// Whether the set has a place for each of the numbers, and doesn't hold 0.
+pub(crate) fn fits(set: &Vec<bool>, given: &Clauses) -> bool
+    ensures { IsTrue result ↔ ((length set.now.items ≡ given.now.numbers + 1) × (holds set.now.items 0 ≡ false)) }
+{
+    set.as_slice().len() == given.numbers() as usize + 1 && !at(set, 0, false)
+}
+
+/// The numbers in the set, ascending.
+pub(crate) fn members(alloc: Global, set: &Vec<bool>) -> Result<Vec<u32>, AllocError>
+    ensures { IfOk result (λ numbers. numbers.items ≡ numbers_from 0 set.now.items) }
+{
+    let mut numbers = Vec::new(alloc);
+    for (number, selected) in set.iter().enumerate() {
+        if *selected {
+            push_number(&mut numbers, number)?;
+        }
+    }
+    Ok(numbers)
+}
+
+// Adds a number, which takes memory and fits 32 bits.
+fn push_number(numbers: &mut Vec<u32>, number: usize) -> Result<(), AllocError>
+    ensures { OnOk result (numbers.new.items ≡ numbers.old.items ++ number ∷ []) }
+{
+    let Ok(number) = u32::try_from(number) else {
+        return Err(AllocError);
+    };
+    numbers.push(number)?;
+    Ok(())
+}
+
+fn is_unnegated(literal: i32) -> bool
+    ensures { result ≡ is_unnegated literal }
+{
+    literal >= 0
+}
+
+// How many literals aren't negated.
+fn unnegated_in(clause: &[i32]) -> usize
+    ensures { result ≡ length (filter is_unnegated clause.now) }
+{
+    clause
+        .iter()
+        .filter(|literal| is_unnegated(**literal))
+        .count()
+}
+
+// Whether a clause holds two literals or more that aren't negated.
+fn leaves_choice(clause: &[i32]) -> bool
+    ensures { IsTrue result ↔ LeavesChoice clause.now }
+{
+    unnegated_in(clause) > 1
+}
+
+/// Whether some clause leaves a choice. Linear in the literals.
+pub(crate) fn some_leaves_choice(given: &Clauses) -> bool
+    ensures { IsTrue result ↔ Any LeavesChoice given.now.clauses }
+{
+    for place in 0..given.len() {
+        if leaves_choice(given.clause(place)) {
+            return true;
+        }
+    }
+    false
+}
