@@ -1,1 +1,3 @@
 pub mod FollowLemmas
+pub mod MemberLemmas
+pub mod PremiseLemmas

@@ -1,7 +1,9 @@
 -- What follows for clauses and refutations.
-use Rattle.std.specs.Prelude.{ℕ, Bool, List}
-use Rattle.std.specs.List.{All}
-use Rattle.rules.specs.Universe.{Universe}
+use Rattle.std.specs.Prelude.{◌≡◌, ℕ, Bool, List}
+use Rattle.std.specs.List.{All, AllPairs}
+use Rattle.std.specs.declared.cmp.Ordering.TheVariants.{Less}
+use Rattle.rules.specs.Sound.{IsAcceptable}
+use Rattle.rules.specs.Universe.{Universe, pair_cmp}
 use Rattle.refutation.specs.Clause.{IsClauseTrue}
 use Rattle.refutation.specs.Premise.{IsPremise, IsInPremise}
 use Rattle.refutation.specs.Refutation.{IsInLine, IsGoodLine, IsAccepted}
@@ -28,3 +30,16 @@ LinesFollow = (u : Universe) (selection : ℕ → Bool) (earlier : List Line) (l
 abbrev pub TruePremisesRefuteNone : Type 0
 TruePremisesRefuteNone = (u : Universe) (selection : ℕ → Bool) (lines : List Line) → AllPremisesTrue u selection
     → ¬ IsAccepted u lines
+
+-- the pairs ascend by name and version, as those of a universe of inputs do
+unfoldable pub HasAscendingPairs : Universe → Type 0
+HasAscendingPairs u = AllPairs (λ earlier later. pair_cmp earlier later ≡ Less) u.pairs
+
+-- the clause of every premise is true of every acceptable selection
+abbrev pub PremisesAreTrue : Type 0
+PremisesAreTrue = (u : Universe) (selection : ℕ → Bool) → HasAscendingPairs u → IsAcceptable u selection → AllPremisesTrue u selection
+
+-- where a refutation is accepted, no selection is acceptable
+abbrev pub NoneIsAcceptable : Type 0
+NoneIsAcceptable = (u : Universe) (lines : List Line) → HasAscendingPairs u → IsAccepted u lines
+    → (selection : ℕ → Bool) → ¬ IsAcceptable u selection

@@ -1,6 +1,6 @@
 // Laws that follow from the definitions: each function has an empty body, and its contract is the law.
 
-ghost use Rattle.refutation.specs.Laws.{LinesFollow, TruePremisesRefuteNone};
+ghost use Rattle.refutation.specs.Laws.{LinesFollow, TruePremisesRefuteNone, PremisesAreTrue, NoneIsAcceptable};
 
 /// A line that follows from lines whose clauses are true of a selection has a clause that is true of it.
 pub fn lines_follow()
@@ -10,4 +10,14 @@ pub fn lines_follow()
 /// Of a selection of which the clause of every premise is true no refutation is accepted.
 pub fn true_premises_refute_none()
     ensures { TruePremisesRefuteNone }
+{}
+
+/// The clause of every premise is true of every acceptable selection.
+pub fn premises_are_true()
+    ensures { PremisesAreTrue }
+{}
+
+/// Where a refutation is accepted, no selection is acceptable.
+pub fn none_is_acceptable()
+    ensures { NoneIsAcceptable }
 {}

@@ -7,6 +7,6 @@ mod laws;
 mod line;
 mod literal;
 
-pub use laws::{lines_follow, true_premises_refute_none};
+pub use laws::{lines_follow, none_is_acceptable, premises_are_true, true_premises_refute_none};
 pub use line::{Line, Premise, Refutation};
 pub use literal::Literal;
