@@ -1,9 +1,12 @@
 -- What follows for clauses and refutations.
-use Rattle.std.specs.Prelude.{◌≡◌, ℕ, Bool, List}
+use Rattle.std.specs.Prelude.{◌≡◌, ◌↔◌, ℕ, Bool, false, List, ⊤, IsTrue, MatchOption}
 use Rattle.std.specs.List.{All, AllPairs}
 use Rattle.std.specs.declared.cmp.Ordering.TheVariants.{Less}
+use Rattle.rules.specs.Available.{Inputs}
+use Rattle.rules.specs.Database.{HasDistinctNames}
 use Rattle.rules.specs.Sound.{IsAcceptable}
-use Rattle.rules.specs.Universe.{Universe, pair_cmp}
+use Rattle.rules.specs.Universe.{Universe, IsUniverse, candidate_of, pair_cmp}
+use Rattle.rules.specs.Verdict.{HasPair}
 use Rattle.refutation.specs.Clause.{IsClauseTrue}
 use Rattle.refutation.specs.Premise.{IsPremise, IsInPremise}
 use Rattle.refutation.specs.Refutation.{IsInLine, IsGoodLine, IsAccepted}
@@ -43,3 +46,18 @@ PremisesAreTrue = (u : Universe) (selection : ℕ → Bool) → HasAscendingPair
 abbrev pub NoneIsAcceptable : Type 0
 NoneIsAcceptable = (u : Universe) (lines : List Line) → HasAscendingPairs u → IsAccepted u lines
     → (selection : ℕ → Bool) → ¬ IsAcceptable u selection
+
+-- what must be selected has a pair: the version that stands of a held name, and the candidate of a name that isn't held
+pub record HasNeededPairs (u : Universe) : Type 0 where
+  pub held : All (λ start. IsTrue start.is_held → MatchOption start.standing ⊤ (HasPair u start.name)) u.starts
+  pub candidates : All (λ start. (start.is_held ≡ false) → MatchOption (candidate_of u start.name) ⊤ (HasPair u start.name)) u.starts
+
+-- a selection is acceptable exactly where the clause of every premise is true of it
+abbrev pub AcceptableWherePremisesAreTrue : Type 0
+AcceptableWherePremisesAreTrue = (u : Universe) (selection : ℕ → Bool) → HasAscendingPairs u → HasNeededPairs u
+    → IsAcceptable u selection ↔ AllPremisesTrue u selection
+
+-- the pairs of the universe of inputs ascend, and those that are needed are there
+abbrev pub UniverseHasNeededPairs : Type 0
+UniverseHasNeededPairs = (inputs : Inputs) (u : Universe) → HasDistinctNames inputs.start → IsUniverse inputs u
+    → HasAscendingPairs u × HasNeededPairs u

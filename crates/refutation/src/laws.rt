@@ -1,6 +1,6 @@
 // Laws that follow from the definitions: each function has an empty body, and its contract is the law.
 
-ghost use Rattle.refutation.specs.Laws.{LinesFollow, TruePremisesRefuteNone, PremisesAreTrue, NoneIsAcceptable};
+ghost use Rattle.refutation.specs.Laws.{LinesFollow, TruePremisesRefuteNone, PremisesAreTrue, NoneIsAcceptable, AcceptableWherePremisesAreTrue, UniverseHasNeededPairs};
 
 /// A line that follows from lines whose clauses are true of a selection has a clause that is true of it.
 pub fn lines_follow()
@@ -20,4 +20,14 @@ pub fn premises_are_true()
 /// Where a refutation is accepted, no selection is acceptable.
 pub fn none_is_acceptable()
     ensures { NoneIsAcceptable }
+{}
+
+/// A selection is acceptable exactly where the clause of every premise is true of it.
+pub fn acceptable_where_premises_are_true()
+    ensures { AcceptableWherePremisesAreTrue }
+{}
+
+/// In the universe of inputs the pairs ascend, and those that must be selected are there.
+pub fn universe_has_needed_pairs()
+    ensures { UniverseHasNeededPairs }
 {}

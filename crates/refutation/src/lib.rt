@@ -7,6 +7,9 @@ mod laws;
 mod line;
 mod literal;
 
-pub use laws::{lines_follow, none_is_acceptable, premises_are_true, true_premises_refute_none};
+pub use laws::{
+    acceptable_where_premises_are_true, lines_follow, none_is_acceptable, premises_are_true,
+    true_premises_refute_none, universe_has_needed_pairs,
+};
 pub use line::{Line, Premise, Refutation};
 pub use literal::Literal;
