@@ -1,5 +1,5 @@
 -- What follows for clauses and refutations.
-use Rattle.std.specs.Prelude.{◌≡◌, ◌↔◌, ℕ, Bool, false, List, ⊤, IsTrue, MatchOption}
+use Rattle.std.specs.Prelude.{◌≡◌, ◌↔◌, ℕ, Bool, false, List, [], ◌∷◌, ◌++◌, ⊤, IsTrue, MatchOption}
 use Rattle.std.specs.List.{All, AllPairs}
 use Rattle.std.specs.declared.cmp.Ordering.TheVariants.{Less}
 use Rattle.rules.specs.Available.{Inputs}
@@ -9,7 +9,7 @@ use Rattle.rules.specs.Universe.{Universe, IsUniverse, candidate_of, pair_cmp}
 use Rattle.rules.specs.Verdict.{HasPair}
 use Rattle.refutation.specs.Clause.{IsClauseTrue}
 use Rattle.refutation.specs.Premise.{IsPremise, IsInPremise}
-use Rattle.refutation.specs.Refutation.{IsInLine, IsGoodLine, IsAccepted}
+use Rattle.refutation.specs.Refutation.{IsInLine, IsGoodLine, AreGoodLines, IsAccepted, IsFirstBad}
 use Rattle.refutation.specs.declared.line.Line.{Line}
 use Rattle.refutation.specs.declared.line.Line.TheVariants as line
 use Rattle.refutation.specs.declared.line.Premise.{Premise}
@@ -61,3 +61,17 @@ AcceptableWherePremisesAreTrue = (u : Universe) (selection : ℕ → Bool) → H
 abbrev pub UniverseHasNeededPairs : Type 0
 UniverseHasNeededPairs = (inputs : Inputs) (u : Universe) → HasDistinctNames inputs.start → IsUniverse inputs u
     → HasAscendingPairs u × HasNeededPairs u
+
+-- all lines of the empty list are good
+abbrev pub EmptyListIsGood : Type 0
+EmptyListIsGood = (u : Universe) → AreGoodLines u []
+
+-- good lines and one that is good behind them are good
+abbrev pub GoodLinesGrow : Type 0
+GoodLinesGrow = (u : Universe) (earlier : List Line) (found : Line) → AreGoodLines u earlier → IsGoodLine u earlier found
+    → AreGoodLines u (earlier ++ found ∷ [])
+
+-- lines have one answer: where a number is that of the first bad line, they aren't accepted, and no other number is
+abbrev pub OneAnswer : Type 0
+OneAnswer = (u : Universe) (lines : List Line) (number : ℕ) → IsFirstBad u lines number
+    → (¬ IsAccepted u lines) × ((other : ℕ) → IsFirstBad u lines other → number ≡ other)
