@@ -8,7 +8,8 @@ use Rattle.rules.specs.Universe.{Universe}
 use Rattle.rules.proofs.Decided.{dec_Any, dec_IsTrue, dec_IsFalse}
 use Rattle.refutation.specs.Clause.{IsTrueOf, IsClauseTrue, item_at, negation}
 use Rattle.refutation.specs.Laws.{IsLineTrue, AllPremisesTrue, LinesFollow, TruePremisesRefuteNone}
-use Rattle.refutation.specs.Refutation.{IsInLine, IsGoodLine, HasOneOpen, FalseAfter, EndsFalse, AreGoodLines}
+use Rattle.refutation.specs.Following.{FalseAfter, HasOneOpen, EndsFalse}
+use Rattle.refutation.specs.Refutation.{AreGoodLines, IsAccepted, IsGoodLine, IsInLine}
 use Rattle.refutation.specs.declared.line.Line.{Line}
 use Rattle.refutation.specs.declared.line.Line.TheVariants as line
 use Rattle.refutation.specs.declared.literal.Literal.{Literal}
@@ -46,7 +47,7 @@ wrong_after selection falses clause wrong holds one found (inr opened) is =
 
 -- over true lines, no hints end in a clause that is all false
 no_end : (u : Universe) (selection : ℕ → Bool) (earlier : List Line) → All (IsLineTrue u selection) earlier
-    → (falses : Literal → Type 0) → AreWrong selection falses → (hints : List ℕ) → ¬ EndsFalse u earlier falses hints
+    → (falses : Literal → Type 0) → AreWrong selection falses → (hints : List ℕ) → ¬ EndsFalse (IsInLine u) earlier falses hints
 no_end u selection earlier holds falses wrong [] ends = ends
 no_end u selection earlier holds falses wrong (hint ∷ []) ends =
     let here : IsLineTrue u selection ends.0 = All-contains (IsLineTrue u selection) earlier ends.0 holds

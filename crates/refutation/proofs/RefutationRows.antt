@@ -17,7 +17,8 @@ use Rattle.rules.proofs.DecidedPackages.{dec_MeetsRestriction, dec_Meets, dec_Me
 use Rattle.rules.proofs.Rows.{so, not_so, any_of, provided, package_of, indexed, universe_of}
 use Rattle.refutation.specs.Laws.{HasAscendingPairs}
 use Rattle.refutation.specs.Premise.{ConflictsWithOther, IsAskedBy}
-use Rattle.refutation.specs.Refutation.{AreGoodLines, EndsEmpty, FalseAfter, IsAccepted, IsAllFalse, IsFirstBad, IsGoodLine, IsInLine}
+use Rattle.refutation.specs.Following.{FalseAfter, IsAllFalse}
+use Rattle.refutation.specs.Refutation.{AreGoodLines, EndsEmpty, IsAccepted, IsFirstBad, IsGoodLine, IsInLine}
 use Rattle.refutation.specs.declared.line.Line.{Line}
 use Rattle.refutation.specs.declared.line.Line.TheVariants as line
 use Rattle.refutation.specs.declared.line.Premise.TheVariants as premise

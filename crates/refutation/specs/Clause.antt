@@ -1,6 +1,7 @@
 -- Clauses over the numbers of pairs (the DIMACS form of clauses; DRAT-trim's description of its format).
 -- A selection is a test on numbers. A clause is told by the literals that are in it: the fact `clause literal`.
-use Rattle.std.specs.Prelude.{◌≡◌, ℕ, zero, suc, Bool, false, List, Option, Some, None, IsTrue, slice_get}
+use Rattle.std.specs.Prelude.{◌≡◌, ◌↔◌, ℕ, zero, suc, Bool, false, List, Option, Some, None, IsTrue, slice_get}
+use Rattle.std.specs.List.{Contains}
 use Rattle.refutation.specs.declared.literal.Literal.{Literal}
 use Rattle.refutation.specs.declared.literal.Literal.TheVariants as literal
 
@@ -30,3 +31,7 @@ IsClauseTrue selection clause = (found : Literal) × clause found × IsTrueOf se
 -- the clause is empty: no literal is in it
 abbrev pub IsEmptyClause : (Literal → Type 0) → Type 0
 IsEmptyClause clause = (found : Literal) → ¬ clause found
+
+-- the list has just the literals of the clause
+abbrev pub IsListOf : (Literal → Type 0) → List Literal → Type 0
+IsListOf clause literals = (found : Literal) → Contains literals found ↔ clause found

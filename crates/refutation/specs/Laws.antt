@@ -1,13 +1,14 @@
 -- What follows for clauses and refutations.
 use Rattle.std.specs.Prelude.{◌≡◌, ◌↔◌, ℕ, Bool, false, List, [], ◌∷◌, ◌++◌, ⊤, IsTrue, MatchOption}
-use Rattle.std.specs.List.{All, AllPairs}
+use Rattle.std.specs.List.{All, AllPairs, AllZip, Contains}
 use Rattle.std.specs.declared.cmp.Ordering.TheVariants.{Less}
 use Rattle.rules.specs.Available.{Inputs}
 use Rattle.rules.specs.Database.{HasDistinctNames}
 use Rattle.rules.specs.Sound.{IsAcceptable}
 use Rattle.rules.specs.Universe.{Universe, IsUniverse, candidate_of, pair_cmp}
 use Rattle.rules.specs.Verdict.{HasPair}
-use Rattle.refutation.specs.Clause.{IsClauseTrue}
+use Rattle.refutation.specs.Clause.{IsClauseTrue, IsListOf}
+use Rattle.refutation.specs.Following.{EndsFalse}
 use Rattle.refutation.specs.Premise.{IsPremise, IsInPremise}
 use Rattle.refutation.specs.Refutation.{IsInLine, IsGoodLine, AreGoodLines, IsAccepted, IsFirstBad}
 use Rattle.refutation.specs.declared.line.Line.{Line}
@@ -75,3 +76,9 @@ GoodLinesGrow = (u : Universe) (earlier : List Line) (found : Line) → AreGoodL
 abbrev pub OneAnswer : Type 0
 OneAnswer = (u : Universe) (lines : List Line) (number : ℕ) → IsFirstBad u lines number
     → (¬ IsAccepted u lines) × ((other : ℕ) → IsFirstBad u lines other → number ≡ other)
+
+-- a line follows from earlier ones exactly where it follows from the lists of their literals
+abbrev pub FollowsFromLists : Type 0
+FollowsFromLists = (u : Universe) (earlier : List Line) (clauses : List (List Literal)) (literals : List Literal) (hints : List ℕ)
+    → AllZip (λ found clause. IsListOf (IsInLine u found) clause) earlier clauses
+    → IsGoodLine u earlier (line.Derived literals hints) ↔ EndsFalse Contains clauses (Contains literals) hints

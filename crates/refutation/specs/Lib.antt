@@ -1,4 +1,5 @@
 pub mod Clause
+pub mod Following
 pub mod Laws
 pub mod Premise
 pub mod Refutation
