@@ -80,7 +80,9 @@ fn is_answer_over(
     let (verb, words) = asked.split_once(' ').unwrap_or((asked, ""));
     match verb {
         "build" => is_built(alloc, records, words, wanted),
-        "providers" | "stanza" | "candidate" => is_looked_up(alloc, records, asked, wanted),
+        "providers" | "stanza" | "number" | "start" | "candidate" => is_looked_up(
+            alloc, records, asked, wanted,
+        ),
         _ => is_judged(alloc, records, asked, wanted),
     }
 }
