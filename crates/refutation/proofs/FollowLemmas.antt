@@ -9,7 +9,7 @@ use Rattle.rules.proofs.Decided.{dec_Any, dec_IsTrue, dec_IsFalse}
 use Rattle.refutation.specs.Clause.{IsTrueOf, IsClauseTrue, item_at, negation}
 use Rattle.refutation.specs.Laws.{IsLineTrue, AllPremisesTrue, LinesFollow, TruePremisesRefuteNone}
 use Rattle.refutation.specs.Following.{FalseAfter, HasOneOpen, EndsFalse}
-use Rattle.refutation.specs.Refutation.{AreGoodLines, IsAccepted, IsGoodLine, IsInLine}
+use Rattle.refutation.specs.Refutation.{AreGoodLines, IsGoodLine, IsInLine}
 use Rattle.refutation.specs.declared.line.Line.{Line}
 use Rattle.refutation.specs.declared.line.Line.TheVariants as line
 use Rattle.refutation.specs.declared.literal.Literal.{Literal}

@@ -1,8 +1,10 @@
 pub mod AcceptanceLemmas
 pub mod FollowLemmas
+pub mod HintRows
 pub mod LineLemmas
 pub mod ListLemmas
 pub mod MemberLemmas
 pub mod NeededLemmas
 pub mod PremiseLemmas
+pub mod PremiseRows
 pub mod RefutationRows

@@ -1,5 +1,5 @@
 -- What follows depends on the literals of the clauses alone, however they are told.
-use Rattle.std.proofs.Common.{◌≡◌, ℕ, zero, suc, List, [], ◌∷◌, ◌⊎◌, Option, Some, None, refl, subst}
+use Rattle.std.proofs.Common.{◌≡◌, ℕ, zero, suc, List, [], ◌∷◌, Some, None, refl, subst}
 use Rattle.std.specs.Prelude.{◌↔◌, slice_get}
 use Rattle.std.specs.List.{AllZip, Contains}
 use Rattle.refutation.specs.Clause.{IsListOf, item_at, negation}
@@ -54,12 +54,15 @@ same_end clause copy items others copies falses wrongs same (hint ∷ []) ends =
     (other.0, other.1, λ found within. (same found).0 (ends.2 found ((other.2 found).1 within)))
 same_end clause copy items others copies falses wrongs same (hint ∷ next ∷ rest) ends =
     let other = copies hint ends.0 ends.1 in
-    let to = same_open wrongs falses (copy other.0) (clause ends.0) (back falses wrongs same) (back (clause ends.0) (copy other.0) other.2) in
-    (other.0, other.1, (
-      (λ found another one two. ends.2.0 found another (to found one) (to another two)),
-      same_end clause copy items others copies (FalseAfter falses (clause ends.0)) (FalseAfter wrongs (copy other.0))
-          (same_after falses wrongs (clause ends.0) (copy other.0) same other.2) (next ∷ rest) ends.2.1,
-    ))
+    let to = same_open wrongs falses (copy other.0) (clause ends.0) (back falses wrongs same) (back (clause ends.0) (copy other.0) other.2) in (
+      other.0,
+      other.1,
+      (
+        (λ found another one two. ends.2.0 found another (to found one) (to another two)),
+        same_end clause copy items others copies (FalseAfter falses (clause ends.0)) (FalseAfter wrongs (copy other.0))
+            (same_after falses wrongs (clause ends.0) (copy other.0) same other.2) (next ∷ rest) ends.2.1,
+      ),
+    )
 
 -- the items of two lists that stand so to each other place by place
 left_item : {X Y : Type 0} (R : X → Y → Type 0) (xs : List X) (ys : List Y) → AllZip R xs ys → (place : ℕ) (x : X)

@@ -8,8 +8,8 @@ mod line;
 mod literal;
 
 pub use laws::{
-    acceptable_where_premises_are_true, empty_list_is_good, follows_from_lists, good_lines_grow, lines_follow,
-    none_is_acceptable, one_answer, premises_are_true, true_premises_refute_none,
+    acceptable_where_premises_are_true, empty_list_is_good, follows_from_lists, good_lines_grow,
+    lines_follow, none_is_acceptable, one_answer, premises_are_true, true_premises_refute_none,
     universe_has_needed_pairs,
 };
 pub use line::{Line, Premise, Refutation};
