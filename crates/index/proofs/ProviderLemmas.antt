@@ -1,13 +1,13 @@
 -- Who provides a name: the test decides the match, and its positions ascend and are met one after another.
-use Rattle.std.proofs.Common.{◌≡◌, ◌↔◌, ℕ, ◌+◌, ◌<◌, Bool, true, false, not, cond, ◌&&◌, ◌||◌, ◌⊎◌, List, [], ◌∷◌, ◌++◌, length, get_or, map, Option, Some, None, Contains, slice_get, refl, sym, ap, ◌∙◌, arith, bytes_eq, inl, inr, Bor}
-use Rattle.std.specs.List.{filter, list_any, range_with_len}
+use Rattle.std.proofs.Common.{◌≡◌, ◌↔◌, ℕ, ◌+◌, ◌<◌, Bool, true, false, not, ◌&&◌, ◌||◌, ◌⊎◌, List, length, get_or, Option, Some, None, Contains, slice_get, refl, ◌∙◌, arith, bytes_eq, inl, inr}
+use Rattle.std.specs.List.{list_any, range_with_len}
 use Rattle.std.specs.List.Sorted.{IsStrictlyIncreasing, IsStrictlySortedBy}
-use Rattle.std.specs.Option.{option_map, option_map_or}
+use Rattle.std.specs.Option.{option_map_or}
 use Rattle.std.specs.Ordering.{nat_cmp}
-use Rattle.std.proofs.lemmas.List.FromFn.{filter_of_map_range_with_len_more, get_or-range_with_len, length-range_with_len}
+use Rattle.std.proofs.lemmas.List.FromFn.{get_or-range_with_len, length-range_with_len}
 use Rattle.std.proofs.lemmas.List.Kept.{IsStrictlySortedBy-filter}
 use Rattle.std.proofs.lemmas.Map.Keys.{IsStrictlyIncreasing-from_sorted, sorted_from_strictly_increasing}
-use Rattle.std.proofs.lemmas.Option.{slice_get-get_or, slice_get-map, slice_get_within}
+use Rattle.std.proofs.lemmas.Option.{slice_get_within}
 use Rattle.rules.specs.ElementLaws.{Any-elim, Any-from_list_any, Any-weaker, Contains-filter, Contains-filter_intro, list_any-from_contains}
 use Rattle.rules.specs.NamedLaws.{bytes_eq-same, bytes_eq-true}
 use Rattle.rules.specs.Package.{FitsByName, FitsByProvides, FitsProvided, Matches, Pkg, Provided}

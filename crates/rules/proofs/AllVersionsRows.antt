@@ -1,20 +1,19 @@
 -- A version that isn't the candidate is admitted where all versions are asked for, and not without: an index of the
 -- suite `stable` has `foo 1` and `libx 1`, one of the suite `testing` has `libx 2`, nothing is present, and the
 -- request is to install foo.
-use Rattle.std.proofs.Common.{◌≡◌, ℕ, ℤ, pos, Bool, true, false, List, [], ◌∷◌, Some, None, refl, sym, subst, lit<, arith}
+use Rattle.std.proofs.Common.{◌≡◌, ℕ, ℤ, pos, Bool, true, false, List, [], ◌∷◌, Some, None, refl, sym, subst, arith}
 use Rattle.std.specs.Prelude.{codes, ◌≤ℤ◌}
-use Rattle.std.specs.List.{Any, Contains}
+use Rattle.std.specs.List.{Any}
 use Rattle.std.specs.declared.cmp.Ordering.TheVariants.{Greater}
 use Rattle.std.proofs.lemmas.Int.{ints}
 use Rattle.std.proofs.lemmas.List.Elements.{All-nil, All-cons}
 use Rattle.rules.specs.Available.{Inputs}
-use Rattle.rules.specs.Database.{Record, IsHeld}
+use Rattle.rules.specs.Database.{Record}
 use Rattle.rules.specs.ElementLaws.{Any-elim, Contains-cons, Contains-head, Contains-nil}
 use Rattle.rules.specs.Priority.{HasPriority, IsCandidate, IsDowngrade, IsEligible, IsUpTo}
 use Rattle.rules.specs.Step.{Listed, no_relations}
 use Rattle.rules.specs.Universe.{IsAdmitted, IsOffered, NamesExactly, StandsAs}
 use Rattle.rules.specs.Version.{version_cmp}
-use Rattle.rules.specs.declared.goal.Goal.{Goal}
 use Rattle.rules.specs.declared.goal.Goal.TheVariants as goal
 use Rattle.rules.specs.declared.release.Release.{Release}
 use Rattle.rules.proofs.Rows.{package_of}

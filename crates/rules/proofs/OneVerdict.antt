@@ -1,10 +1,9 @@
 -- A plan has one verdict: it stops at one step, and one reason against its end is the first.
-use Rattle.std.proofs.Common.{◌≡◌, ℕ, suc, ◌+◌, true, List, [], ◌∷◌, ◌++◌, length, refl, sym, ap, subst, ◌∙◌, arith}
+use Rattle.std.proofs.Common.{◌≡◌, ℕ, suc, ◌+◌, List, [], ◌∷◌, ◌++◌, length, refl, sym, ap, subst, ◌∙◌}
 use Rattle.std.specs.Cmp.Lexicographic.{nat_list_cmp_total}
 use Rattle.std.specs.Ordering.{is_eq, nat_cmp, ordering_reverse, ordering_then}
 use Rattle.std.specs.declared.cmp.Ordering.{Ordering}
 use Rattle.std.specs.declared.cmp.Ordering.TheVariants.{Less, Equal, Greater}
-use Rattle.std.specs.Prelude.{◌==◌}
 use Rattle.std.specs.Cmp.{IsTotalOrder, nat_cmp_total, unsigned_tied}
 use Rattle.std.proofs.lemmas.Bool.Decides.{Decides-eqb}
 use Rattle.std.proofs.lemmas.Map.Text.{is_eq-slice_cmp}
@@ -15,12 +14,10 @@ use Rattle.rules.specs.NamedLaws.{bytes_eq-true}
 use Rattle.rules.specs.Run.{Run, StopsAt, IsFirstAgainst, after, reason_cmp}
 use Rattle.rules.specs.Universe.{Universe}
 use Rattle.rules.specs.UniverseLaws.{OneVerdict}
-use Rattle.rules.specs.Verdict.{IsVerdict}
 use Rattle.rules.specs.declared.step.Reason.{Reason}
 use Rattle.rules.specs.declared.step.Reason.TheVariants as reason
 use Rattle.rules.specs.declared.step.Rule.{Rule}
 use Rattle.rules.specs.declared.step.Step.{Step}
-use Rattle.rules.specs.declared.step.Verdict.{Verdict}
 use Rattle.rules.specs.declared.step.Verdict.TheVariants as verdict
 use Rattle.rules.proofs.LegalLemmas.{allowed_fails_none, one_first_failing}
 use Rattle.rules.proofs.RunLemmas.{one_end}

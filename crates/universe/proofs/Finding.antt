@@ -1,7 +1,7 @@
 -- What `find` finds, and what is in a list that is strictly in order.
 use Rattle.std.proofs.Common.{◌≡◌, ◌+◌, Bool, true, false, cond, List, [], ◌∷◌, get_or, Option, Some, None, ◌⊎◌, refl, sym, ap, subst, ◌∙◌, arith}
 use Rattle.std.specs.Cmp.{IsTotalOrder, tied_back}
-use Rattle.std.specs.List.{AllPairs, Contains, find}
+use Rattle.std.specs.List.{Contains, find}
 use Rattle.std.specs.List.Sorted.{IsSorted, IsStrictlySortedBy}
 use Rattle.std.specs.Ordering.{is_lt, ordering_reverse}
 use Rattle.std.specs.declared.cmp.Ordering.{Ordering}

@@ -1,5 +1,5 @@
 -- The place at which a binary search finds a pair is that of the first pair of its version.
-use Rattle.std.proofs.Common.{◌≡◌, ℕ, zero, suc, ◌+◌, ◌<◌, Bool, true, false, not, cond, List, [], ◌∷◌, length, get_or, position, Ok, Err, Some, None, refl, sym, ap, ◌∙◌, arith}
+use Rattle.std.proofs.Common.{◌≡◌, ℕ, zero, suc, ◌+◌, ◌<◌, Bool, true, false, List, [], ◌∷◌, length, get_or, position, Ok, Err, Some, None, refl, sym, ap, ◌∙◌, arith}
 use Rattle.std.specs.Cmp.{tied_itself}
 use Rattle.std.specs.List.{Contains, position_or_len}
 use Rattle.std.specs.List.Sorted.{IsBinarySearchResult, IsSearchInRange, IsStrictlySortedBy}

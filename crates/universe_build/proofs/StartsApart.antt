@@ -1,5 +1,5 @@
 -- The facts of records with distinct names are about distinct names.
-use Rattle.std.proofs.Common.{◌≡◌, ◌≢◌, List, [], ◌∷◌, arith}
+use Rattle.std.proofs.Common.{◌≢◌, List, [], ◌∷◌, arith}
 use Rattle.std.proofs.lemmas.List.Elements.{All-map}
 use Rattle.std.proofs.lemmas.List.Kept.{AllPairs-cons}
 use Rattle.rules.specs.Database.{HasDistinctNames, Record}
