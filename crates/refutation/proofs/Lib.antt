@@ -1,0 +1,5 @@
+pub mod AcceptanceLemmas
+pub mod FollowLemmas
+pub mod MemberLemmas
+pub mod NeededLemmas
+pub mod PremiseLemmas

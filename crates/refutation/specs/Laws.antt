@@ -1,0 +1,63 @@
+-- What follows for clauses and refutations.
+use Rattle.std.specs.Prelude.{◌≡◌, ◌↔◌, ℕ, Bool, false, List, ⊤, IsTrue, MatchOption}
+use Rattle.std.specs.List.{All, AllPairs}
+use Rattle.std.specs.declared.cmp.Ordering.TheVariants.{Less}
+use Rattle.rules.specs.Available.{Inputs}
+use Rattle.rules.specs.Database.{HasDistinctNames}
+use Rattle.rules.specs.Sound.{IsAcceptable}
+use Rattle.rules.specs.Universe.{Universe, IsUniverse, candidate_of, pair_cmp}
+use Rattle.rules.specs.Verdict.{HasPair}
+use Rattle.refutation.specs.Clause.{IsClauseTrue}
+use Rattle.refutation.specs.Premise.{IsPremise, IsInPremise}
+use Rattle.refutation.specs.Refutation.{IsInLine, IsGoodLine, IsAccepted}
+use Rattle.refutation.specs.declared.line.Line.{Line}
+use Rattle.refutation.specs.declared.line.Line.TheVariants as line
+use Rattle.refutation.specs.declared.line.Premise.{Premise}
+use Rattle.refutation.specs.declared.literal.Literal.{Literal}
+
+-- the clause of the line is true of the selection
+abbrev pub IsLineTrue : Universe → (ℕ → Bool) → Line → Type 0
+IsLineTrue u selection found = IsClauseTrue selection (IsInLine u found)
+
+-- the clause of every premise is true of the selection
+abbrev pub AllPremisesTrue : Universe → (ℕ → Bool) → Type 0
+AllPremisesTrue u selection = (found : Premise) → IsPremise u found → IsClauseTrue selection (IsInPremise u found)
+
+-- a derived line that follows from lines which are true of a selection is true of it
+abbrev pub LinesFollow : Type 0
+LinesFollow = (u : Universe) (selection : ℕ → Bool) (earlier : List Line) (literals : List Literal) (hints : List ℕ)
+    → All (IsLineTrue u selection) earlier → IsGoodLine u earlier (line.Derived literals hints)
+    → IsLineTrue u selection (line.Derived literals hints)
+
+-- where a selection makes the clause of every premise true, no refutation is accepted
+abbrev pub TruePremisesRefuteNone : Type 0
+TruePremisesRefuteNone = (u : Universe) (selection : ℕ → Bool) (lines : List Line) → AllPremisesTrue u selection
+    → ¬ IsAccepted u lines
+
+-- the pairs ascend by name and version, as those of a universe of inputs do
+unfoldable pub HasAscendingPairs : Universe → Type 0
+HasAscendingPairs u = AllPairs (λ earlier later. pair_cmp earlier later ≡ Less) u.pairs
+
+-- the clause of every premise is true of every acceptable selection
+abbrev pub PremisesAreTrue : Type 0
+PremisesAreTrue = (u : Universe) (selection : ℕ → Bool) → HasAscendingPairs u → IsAcceptable u selection → AllPremisesTrue u selection
+
+-- where a refutation is accepted, no selection is acceptable
+abbrev pub NoneIsAcceptable : Type 0
+NoneIsAcceptable = (u : Universe) (lines : List Line) → HasAscendingPairs u → IsAccepted u lines
+    → (selection : ℕ → Bool) → ¬ IsAcceptable u selection
+
+-- what must be selected has a pair: the version that stands of a held name, and the candidate of a name that isn't held
+pub record HasNeededPairs (u : Universe) : Type 0 where
+  pub held : All (λ start. IsTrue start.is_held → MatchOption start.standing ⊤ (HasPair u start.name)) u.starts
+  pub candidates : All (λ start. (start.is_held ≡ false) → MatchOption (candidate_of u start.name) ⊤ (HasPair u start.name)) u.starts
+
+-- a selection is acceptable exactly where the clause of every premise is true of it
+abbrev pub AcceptableWherePremisesAreTrue : Type 0
+AcceptableWherePremisesAreTrue = (u : Universe) (selection : ℕ → Bool) → HasAscendingPairs u → HasNeededPairs u
+    → IsAcceptable u selection ↔ AllPremisesTrue u selection
+
+-- the pairs of the universe of inputs ascend, and those that are needed are there
+abbrev pub UniverseHasNeededPairs : Type 0
+UniverseHasNeededPairs = (inputs : Inputs) (u : Universe) → HasDistinctNames inputs.start → IsUniverse inputs u
+    → HasAscendingPairs u × HasNeededPairs u

@@ -1,0 +1,4 @@
+pub mod Clause
+pub mod Laws
+pub mod Premise
+pub mod Refutation
