@@ -64,7 +64,9 @@ refutation 1$keep _$→E19 BadRefutation 2
 refutation 1$$→E19 BadRefutation 2";
 
 #[test]
-fn texts_are_read_and_written_again_or_refused_at_a_line(rt: HostRuntime) -> Result<(), AllocError> {
+fn texts_are_read_and_written_again_or_refused_at_a_line(
+    rt: HostRuntime,
+) -> Result<(), AllocError> {
     for row in ROWS.lines() {
         assert!(rt; is_read(rt.alloc(), row)?, "{row}");
     }
