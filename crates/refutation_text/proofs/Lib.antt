@@ -1,0 +1,6 @@
+pub mod DigitLemmas
+pub mod DistinctLemmas
+pub mod LineLemmas
+pub mod PartLemmas
+mod RefutationRows
+pub mod WrittenLemmas

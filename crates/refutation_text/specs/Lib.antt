@@ -1,0 +1,7 @@
+pub mod Cut
+pub mod Derived
+pub mod Error
+pub mod LineText
+pub mod Number
+pub mod PremiseWords
+pub mod Text

@@ -1,0 +1,19 @@
+// The text of a refutation: the line `refutation 1`, and then a line for each premise and each derived line. It stands
+// on `rules` and on `refutation`, which has the lines. The main calls are `read_refutation` and `write_refutation`.
+#![tactic(auto)]
+
+mod cut;
+mod derived;
+mod distinct;
+mod error;
+mod limits;
+mod line;
+mod number;
+mod premise;
+mod read;
+mod write;
+
+pub use error::{RefutationError, RefutationFault};
+pub use limits::{LINES, NUMBER, PAIR, WIDTH};
+pub use read::read_refutation;
+pub use write::write_refutation;

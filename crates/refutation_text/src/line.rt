@@ -1,0 +1,39 @@
+// The line of a refutation in its text.
+
+ghost use Rattle.std.specs.Prelude.{◌≡◌, IfOk, codes};
+ghost use Rattle.std.specs.Str.{bytes_eq};
+ghost use Rattle.refutation_text.specs.Cut.{parts_left};
+ghost use Rattle.refutation_text.specs.LineText.{line_by, line_of};
+ghost use Rattle.refutation_text.specs.declared.cut.TheConstants.{SPACE};
+
+use crate::cut::{SPACE, cut_part};
+use crate::derived::derived_of;
+use crate::premise::premise_by;
+use refutation::Line;
+use std::alloc::{AllocError, Global};
+
+fn is_derive(kind: &[u8]) -> bool
+    ensures { result ≡ bytes_eq kind.now (codes "derive") }
+{
+    kind == b"derive".as_slice()
+}
+
+// The line of this kind about the words that are left.
+fn line_by(alloc: Global, kind: &[u8], words: Option<&[u8]>) -> Result<Option<Line>, AllocError>
+    ensures { IfOk result (λ line. line ≡ line_by kind.now (parts_left SPACE words.entry)) }
+{
+    if is_derive(kind) {
+        derived_of(alloc, words)
+    } else {
+        Ok(premise_by(alloc, kind, words)?.map(|premise| Line::Premise(premise)))
+    }
+}
+
+/// The line in a text without its newline, if it has one. Linear in the text.
+#[tactic(auto, unfolding(crate::specs::LineText::line_of))]
+pub fn line_of(alloc: Global, text: &[u8]) -> Result<Option<Line>, AllocError>
+    ensures { IfOk result (λ line. line ≡ line_of text.now) }
+{
+    let (kind, words) = cut_part(SPACE, text);
+    line_by(alloc, kind, words)
+}
