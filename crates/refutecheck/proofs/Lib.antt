@@ -1,0 +1,4 @@
+pub mod FalsesLemmas
+pub mod FollowLemmas
+pub mod LineLemmas
+pub mod OpenLemmas

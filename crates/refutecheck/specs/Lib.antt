@@ -1,0 +1,3 @@
+pub mod Falses
+pub mod Following
+pub mod Open
