@@ -1,4 +1,0 @@
-pub mod FalsesLemmas
-pub mod FollowLemmas
-pub mod LineLemmas
-pub mod OpenLemmas

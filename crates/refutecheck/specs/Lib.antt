@@ -1,3 +1,0 @@
-pub mod Falses
-pub mod Following
-pub mod Open
