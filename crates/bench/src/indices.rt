@@ -10,7 +10,7 @@ use std::time::Instant;
 pub fn measure(rt: &HostRuntime, text: &[u8]) -> Result<()> {
     let release = no_keys(rt.alloc())?;
     let start = Instant::now(rt)?;
-    let index = Index::read(rt.alloc(), text, release, b"amd64", 0)?;
+    let index = Index::read(rt.alloc(), text, release, b"amd64", 1, 0)?;
     print_counts(rt, &index, start)
 }
 

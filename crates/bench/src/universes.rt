@@ -16,7 +16,7 @@ use universe_build::build;
 pub fn measure(rt: &HostRuntime, path: &str) -> Result<()> {
     let release = no_keys(rt.alloc())?;
     let kept = kept_of(rt, path)?;
-    let indices = [Index::read(rt.alloc(), kept.as_slice(), release, b"amd64", 0)?];
+    let indices = [Index::read(rt.alloc(), kept.as_slice(), release, b"amd64", 1, 0)?];
     measure_building(rt, &indices)
 }
 

@@ -13,7 +13,7 @@ use Rattle.rules.specs.Database.{Record, stands}
 use Rattle.rules.specs.ElementLaws.{Any-append_left, Any-append_right, Any-elim, Any-intro, Contains-cons, Contains-head, Contains-map, Contains-nil}
 use Rattle.rules.specs.NamedLaws.{bytes_eq-same}
 use Rattle.rules.specs.Priority.{HasPriorityAmong, status_origin}
-use Rattle.rules.specs.Step.{Listed, is_named}
+use Rattle.rules.specs.Step.{IndexPackage, is_named}
 use Rattle.rules.specs.Universe.{IsOf}
 use Rattle.rules.specs.Version.{SameVersion}
 use Rattle.rules.specs.VersionOrderLaws.{SameVersion-refl}
@@ -69,7 +69,7 @@ AreRated-alone prefs db places offers are = record {
 }
 
 -- the stanza of a version that has no place isn't in order
-no_stanza : (places : List Place) (ordered : List Listed) → IsOrdered (stanzas_of places) ordered → (name version : List ℕ) (found : Record)
+no_stanza : (places : List Place) (ordered : List IndexPackage) → IsOrdered (stanzas_of places) ordered → (name version : List ℕ) (found : Record)
     → found.name ≡ name → SameVersion found.version version → stanza_of (stanzas_of places) name version ≡ None
     → stanza_of ordered found.name found.version ≡ None
 no_stanza places ordered is name version found named same none = is.earliest found.name found.version
@@ -77,16 +77,16 @@ no_stanza places ordered is name version found named same none = is.earliest fou
     ∙ stanza_of-same (stanzas_of places) name found.version version same ∙ none
 
 -- what stands alone
-standing_alone-from : (ordered : List Listed) (found : Record) → stands found ≡ true → stanza_of ordered found.name found.version ≡ None
+standing_alone-from : (ordered : List IndexPackage) (found : Record) → stands found ≡ true → stanza_of ordered found.name found.version ≡ None
     → standing_alone ordered found ≡ Some found.version
 standing_alone-from ordered found stood none = ap (λ (b : Bool). if b then Some found.version else None)
     (and_from (stands found) (is_none (stanza_of ordered found.name found.version)) stood (ap is_none none))
 
-standing_alone-is : (ordered : List Listed) (found : Record) (text : List ℕ) → standing_alone ordered found ≡ Some text
+standing_alone-is : (ordered : List IndexPackage) (found : Record) (text : List ℕ) → standing_alone ordered found ≡ Some text
     → (stands found ≡ true) × (stanza_of ordered found.name found.version ≡ None) × (found.version ≡ text)
 standing_alone-is ordered found text is = at (stands found && is_none (stanza_of ordered found.name found.version)) refl is
   where
-    nothing : (o : Option Listed) → is_none o ≡ true → o ≡ None
+    nothing : (o : Option IndexPackage) → is_none o ≡ true → o ≡ None
     nothing None none = refl
     nothing (Some l) none = absurd (let e : false ≡ true = none in cc)
 
@@ -107,7 +107,7 @@ found_known known ascending found within =
     let there = find-some (is_named found.name) known first.0 first.1 in
     first.1 ∙ ap Some (one_record known found.name ascending first.0 found there.0 within there.1 own)
 
-module _ (prefs : Preferences) (known : List Record) (places : List Place) (ordered : List Listed)
+module _ (prefs : Preferences) (known : List Record) (places : List Place) (ordered : List IndexPackage)
     (ascending : IsStrictlySortedBy record_cmp known) (is : IsOrdered (stanzas_of places) ordered) where
   -- a record that is passed over
   pub AreAlone-skip : (found : Record) (rest : List Record) (offers : List Offer) → AreAlone prefs known places (found ∷ rest) offers
@@ -146,7 +146,7 @@ module _ (prefs : Preferences) (known : List Record) (places : List Place) (orde
       ∙ ap (λ (v : List ℕ). with_version found.name v places) same
       ∙ no_places places found.name found.version (sym (is.earliest found.name found.version) ∙ own.1) in
       record {
-        kept = ap (λ (o : Option (List ℕ)). option_or o (option_map (λ (l : Listed). l.pkg.version) (stanza_of (stanzas_of places) offer.name offer.version))) stood
+        kept = ap (λ (o : Option (List ℕ)). option_or o (option_map (λ (l : IndexPackage). l.pkg.version) (stanza_of (stanzas_of places) offer.name offer.version))) stood
             ∙ ap Some (sym same);
         given = subst (λ (xs : List Place). HasPriorityAmong prefs.preferences prefs.target offer.name offer.version
             (origins_with (is_some (standing_version known offer.name offer.version)) xs) offer.priority) (sym empty)
@@ -200,18 +200,18 @@ AreRated-both prefs db places listed alone of_places of_alone = record {
   covered = λ name version kept. at name version (stanza_of (stanzas_of places) name version) refl kept;
 }
   where
-    at : (name version : List ℕ) (o : Option Listed) → stanza_of (stanzas_of places) name version ≡ o
-        → IsSome (option_or (standing_version db name version) (option_map (λ (found : Listed). found.pkg.version) (stanza_of (stanzas_of places) name version)))
+    at : (name version : List ℕ) (o : Option IndexPackage) → stanza_of (stanzas_of places) name version ≡ o
+        → IsSome (option_or (standing_version db name version) (option_map (λ (found : IndexPackage). found.pkg.version) (stanza_of (stanzas_of places) name version)))
         → Any (IsFor name version) (listed ++ alone)
     at name version (Some found) some kept =
-        let there = find-some (λ (other : Listed). is_of name version other.pkg) (stanzas_of places) found some in
+        let there = find-some (λ (other : IndexPackage). is_of name version other.pkg) (stanzas_of places) found some in
         let from = Contains-map (λ (place : Place). place.listed) places found there.0 in
         Any-append_left (IsFor name version) listed alone (of_places.covered name version
         (Any-intro (λ (place : Place). IsOf name version place.listed.pkg) places from.0 from.1
-        (subst (λ (l : Listed). IsOf name version l.pkg) (sym from.2) (is_of-parts name version found.pkg there.1))))
+        (subst (λ (l : IndexPackage). IsOf name version l.pkg) (sym from.2) (is_of-parts name version found.pkg there.1))))
     at name version None none kept = Any-append_right (IsFor name version) listed alone (of_alone.covered name version (
       or_none (standing_version db name version)
-          (subst (λ (o : Option Listed). IsSome (option_or (standing_version db name version) (option_map (λ (found : Listed). found.pkg.version) o))) none kept),
+          (subst (λ (o : Option IndexPackage). IsSome (option_or (standing_version db name version) (option_map (λ (found : IndexPackage). found.pkg.version) o))) none kept),
       none,
     ))
       where

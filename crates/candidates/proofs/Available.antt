@@ -12,7 +12,7 @@ use Rattle.rules.specs.Database.{HasDistinctNames, Record, pkg_of}
 use Rattle.rules.specs.ElementLaws.{Any-elim, Any-from_list_any, Contains-cons, Contains-filter, Contains-filter_intro, Contains-head, Contains-map, Contains-map_intro, Contains-nil, Contains-rest, list_any-from_contains}
 use Rattle.rules.specs.Package.{Pkg}
 use Rattle.rules.specs.Priority.{Origin, index_origin, indices_with, origins_of, status_origin}
-use Rattle.rules.specs.Step.{Listed, is_named}
+use Rattle.rules.specs.Step.{IndexPackage, is_named}
 use Rattle.rules.specs.declared.goal.Goal.{Goal}
 use Rattle.universe.proofs.Finding.{find-some}
 use Rattle.candidates.specs.Inputs.{inputs_of}
@@ -50,13 +50,13 @@ pub kept_version-counting : (db : List Record) (indices : List Index) (prefs : P
     → (name version : List ℕ) → kept_version db (all_listed indices) name version
     ≡ option_map (λ (pkg : Pkg). pkg.version) (counting_package (inputs_of db indices prefs goals) name version)
 kept_version-counting db indices prefs goals distinct name version =
-    ap (λ (o : Option (List ℕ)). option_or o (option_map (λ (found : Listed). found.pkg.version) (stanza_of (all_listed indices) name version)))
+    ap (λ (o : Option (List ℕ)). option_or o (option_map (λ (found : IndexPackage). found.pkg.version) (stanza_of (all_listed indices) name version)))
     (standing_version-record db distinct name version)
     ∙ at (standing_record db name version) (index_package indices name version)
   where
-    at : (o : Option Record) (l : Option Listed)
-        → option_or (option_map (λ (found : Record). found.version) o) (option_map (λ (found : Listed). found.pkg.version) l)
-        ≡ option_map (λ (pkg : Pkg). pkg.version) (option_or (option_map pkg_of o) (option_map (λ (listed : Listed). listed.pkg) l))
+    at : (o : Option Record) (l : Option IndexPackage)
+        → option_or (option_map (λ (found : Record). found.version) o) (option_map (λ (found : IndexPackage). found.pkg.version) l)
+        ≡ option_map (λ (pkg : Pkg). pkg.version) (option_or (option_map pkg_of o) (option_map (λ (listed : IndexPackage). listed.pkg) l))
     at (Some found) l = refl
     at None (Some listed) = refl
     at None None = refl
@@ -66,15 +66,15 @@ pub stanzas_of-places : (indices : List Index) → stanzas_of (places_of indices
 stanzas_of-places [] = refl
 stanzas_of-places (index ∷ rest) =
     map-append (λ (place : Place). place.listed) (places_in index) (places_of rest)
-    ∙ ap (λ (xs : List Listed). xs ++ stanzas_of (places_of rest)) (again index.release index.listed)
-    ∙ ap (λ (xs : List Listed). index.listed ++ xs) (stanzas_of-places rest)
+    ∙ ap (λ (xs : List IndexPackage). xs ++ stanzas_of (places_of rest)) (again index.release index.listed)
+    ∙ ap (λ (xs : List IndexPackage). index.listed ++ xs) (stanzas_of-places rest)
   where
-    again : (release : _) (listed : List Listed) → map (λ (place : Place). place.listed) (map (place_at release) listed) ≡ listed
+    again : (release : _) (listed : List IndexPackage) → map (λ (place : Place). place.listed) (map (place_at release) listed) ≡ listed
     again release [] = refl
-    again release (found ∷ more) = ap (λ (xs : List Listed). found ∷ xs) (again release more)
+    again release (found ∷ more) = ap (λ (xs : List IndexPackage). found ∷ xs) (again release more)
 
 -- a stanza of an index is a place
-place_within : (indices : List Index) (index : Index) (found : Listed) → Contains indices index → Contains index.listed found
+place_within : (indices : List Index) (index : Index) (found : IndexPackage) → Contains indices index → Contains index.listed found
     → Contains (places_of indices) (place_at index.release found)
 place_within [] index found there within = absurd (Contains-nil index there)
 place_within (first ∷ rest) index found there within = elim (Contains-cons first rest index there) [
@@ -88,7 +88,7 @@ place_within (first ∷ rest) index found there within = elim (Contains-cons fir
 
 -- and a place is a stanza of an index
 place_index : (indices : List Index) (place : Place) → Contains (places_of indices) place
-    → (index : Index) × (found : Listed) × Contains indices index × Contains index.listed found × (place_at index.release found ≡ place)
+    → (index : Index) × (found : IndexPackage) × Contains indices index × Contains index.listed found × (place_at index.release found ≡ place)
 place_index [] place within = absurd (Contains-nil place within)
 place_index (first ∷ rest) place within =
     elim (Contains-append_cases (places_in first) (places_of rest) place within) [
@@ -106,7 +106,7 @@ place_origin place = release_origin place.release
 
 -- the index has this version of the name
 abbrev has_version : List ℕ → List ℕ → Index → Bool
-has_version name version index = list_any (λ (listed : Listed). is_of name version listed.pkg) index.listed
+has_version name version index = list_any (λ (listed : IndexPackage). is_of name version listed.pkg) index.listed
 
 -- the indices that have a version are those of its places
 indices_places : (indices : List Index) (name version : List ℕ) (origin : Origin)
@@ -115,13 +115,13 @@ indices_places : (indices : List Index) (name version : List ℕ) (origin : Orig
 indices_places indices name version origin within =
     let index = Contains-map index_origin (indices_with indices name version) origin within in
     let kept = Contains-filter (has_version name version) indices index.0 index.1 in
-    Any-elim (λ (listed : Listed). is_of name version listed.pkg ≡ true) index.0.listed
+    Any-elim (λ (listed : IndexPackage). is_of name version listed.pkg ≡ true) index.0.listed
     (Contains (map place_origin (with_version name version (places_of indices))) origin)
     (λ listed there passes. subst (Contains (map place_origin (with_version name version (places_of indices)))) index.2
     (Contains-map_intro place_origin (with_version name version (places_of indices)) (place_at index.0.release listed)
     (Contains-filter_intro (λ (place : Place). is_of name version place.listed.pkg) (places_of indices) (place_at index.0.release listed)
     (place_within indices index.0 listed kept.0 there) passes)))
-    (Any-from_list_any (λ (listed : Listed). is_of name version listed.pkg) index.0.listed kept.1)
+    (Any-from_list_any (λ (listed : IndexPackage). is_of name version listed.pkg) index.0.listed kept.1)
 
 places_indices : (indices : List Index) (name version : List ℕ) (origin : Origin)
     → Contains (map place_origin (with_version name version (places_of indices))) origin
@@ -133,7 +133,7 @@ places_indices indices name version origin within =
     subst (Contains (map index_origin (indices_with indices name version))) (ap place_origin at.4 ∙ place.2)
     (Contains-map_intro index_origin (indices_with indices name version) at.0
     (Contains-filter_intro (has_version name version) indices at.0 at.2
-    (list_any-from_contains (λ (listed : Listed). is_of name version listed.pkg) at.0.listed at.1 at.3
+    (list_any-from_contains (λ (listed : IndexPackage). is_of name version listed.pkg) at.0.listed at.1 at.3
     (ap (λ (p : Place). is_of name version p.listed.pkg) at.4 ∙ kept.1))))
 
 -- the status file as an origin, where something stands

@@ -7,7 +7,7 @@ use Rattle.pins.specs.Prefs.{Preferences}
 use Rattle.rules.specs.Available.{Index, all_listed}
 use Rattle.rules.specs.Database.{HasDistinctNames, Record}
 use Rattle.rules.specs.Priority.{HasPriorityAmong, Origin}
-use Rattle.rules.specs.Step.{Listed}
+use Rattle.rules.specs.Step.{IndexPackage}
 use Rattle.rules.specs.declared.goal.Goal.{Goal}
 use Rattle.candidates.specs.Candidates.{AreCandidates}
 use Rattle.candidates.specs.Inputs.{inputs_of}
@@ -30,21 +30,21 @@ stanza_of-sorted places sorted are name version = stanza_of-places sorted name v
     ∙ sym (stanza_of-places places name version)
 
 -- the stanzas in order are those of the indices in order
-pub IsOrdered-given : (indices : List Index) (sorted : List Place) (ordered : List Listed) → AreSorted (places_of indices) sorted
+pub IsOrdered-given : (indices : List Index) (sorted : List Place) (ordered : List IndexPackage) → AreSorted (places_of indices) sorted
     → IsOrdered (stanzas_of sorted) ordered → IsOrdered (all_listed indices) ordered
 IsOrdered-given indices sorted ordered are is = record {
   ascending = is.ascending;
   earliest = λ name version. is.earliest name version ∙ stanza_of-sorted (places_of indices) sorted are name version
-      ∙ ap (λ (xs : List Listed). stanza_of xs name version) (stanzas_of-places indices);
+      ∙ ap (λ (xs : List IndexPackage). stanza_of xs name version) (stanzas_of-places indices);
 }
 
 module _ (prefs : Preferences) (db known : List Record) (places sorted : List Place) (named : IsByName db known)
     (are : AreSorted places sorted) where
   kept_same : (name version : List ℕ) → kept_version known (stanzas_of sorted) name version ≡ kept_version db (stanzas_of places) name version
   kept_same name version =
-      ap (λ (o : Option (List ℕ)). option_or o (option_map (λ (found : Listed). found.pkg.version) (stanza_of (stanzas_of sorted) name version)))
+      ap (λ (o : Option (List ℕ)). option_or o (option_map (λ (found : IndexPackage). found.pkg.version) (stanza_of (stanzas_of sorted) name version)))
       (standing_version-known db known named name version)
-      ∙ ap (λ (o : Option Listed). option_or (standing_version db name version) (option_map (λ (found : Listed). found.pkg.version) o))
+      ∙ ap (λ (o : Option IndexPackage). option_or (standing_version db name version) (option_map (λ (found : IndexPackage). found.pkg.version) o))
       (stanza_of-sorted places sorted are name version)
 
   origins_same : (name version : List ℕ) → origins_among known sorted name version ≡ origins_among db places name version

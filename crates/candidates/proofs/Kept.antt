@@ -12,7 +12,7 @@ use Rattle.rules.specs.Available.{is_of, same_version}
 use Rattle.rules.specs.Database.{Record, stands}
 use Rattle.rules.specs.NamedLaws.{bytes_eq-true}
 use Rattle.rules.specs.Package.{Pkg}
-use Rattle.rules.specs.Step.{Listed, is_named}
+use Rattle.rules.specs.Step.{IndexPackage, is_named}
 use Rattle.rules.specs.Version.{SameVersion, version_cmp}
 use Rattle.rules.specs.VersionOrderLaws.{version_cmp-same_right}
 use Rattle.universe.proofs.Finding.{find-some}
@@ -83,10 +83,10 @@ pub standing_version-same : (db : List Record) (name version other : List ℕ) �
 standing_version-same db name version other same = standing_as-same version other same (find (is_named name) db)
 
 -- and have the same stanza
-pub stanza_of-same : (listed : List Listed) (name version other : List ℕ) → SameVersion version other
+pub stanza_of-same : (listed : List IndexPackage) (name version other : List ℕ) → SameVersion version other
     → stanza_of listed name version ≡ stanza_of listed name other
-stanza_of-same listed name version other same = find-agree (λ (found : Listed). is_of name version found.pkg)
-    (λ (found : Listed). is_of name other found.pkg) (λ found. is_of-same name version other found.pkg same) listed
+stanza_of-same listed name version other same = find-agree (λ (found : IndexPackage). is_of name version found.pkg)
+    (λ (found : IndexPackage). is_of name other found.pkg) (λ found. is_of-same name version other found.pkg same) listed
 
 -- and the same places
 pub with_version-same : (places : List Place) (name version other : List ℕ) → SameVersion version other
@@ -95,12 +95,12 @@ with_version-same places name version other same = filter_agree (λ (place : Pla
     (λ (place : Place). is_of name other place.listed.pkg) (λ place. is_of-same name version other place.listed.pkg same) places
 
 -- and the same text is kept of them
-pub kept_version-same : (db : List Record) (listed : List Listed) (name version other : List ℕ) → SameVersion version other
+pub kept_version-same : (db : List Record) (listed : List IndexPackage) (name version other : List ℕ) → SameVersion version other
     → kept_version db listed name version ≡ kept_version db listed name other
 kept_version-same db listed name version other same =
-    ap (λ (o : Option (List ℕ)). option_or o (option_map (λ (found : Listed). found.pkg.version) (stanza_of listed name version)))
+    ap (λ (o : Option (List ℕ)). option_or o (option_map (λ (found : IndexPackage). found.pkg.version) (stanza_of listed name version)))
     (standing_version-same db name version other same)
-    ∙ ap (λ (o : Option Listed). option_or (standing_version db name other) (option_map (λ (found : Listed). found.pkg.version) o))
+    ∙ ap (λ (o : Option IndexPackage). option_or (standing_version db name other) (option_map (λ (found : IndexPackage). found.pkg.version) o))
     (stanza_of-same listed name version other same)
 
 -- what is found in a changed list is the change of what is found
@@ -117,7 +117,7 @@ find-map {X} {Y} p f (x ∷ xs) = at (p (f x)) (find-map p f xs)
 pub stanza_of-places : (places : List Place) (name version : List ℕ)
     → stanza_of (stanzas_of places) name version ≡ option_map (λ place. place.listed) (first_of_all (with_version name version places))
 stanza_of-places places name version =
-    find-map (λ (found : Listed). is_of name version found.pkg) (λ (place : Place). place.listed) places
+    find-map (λ (found : IndexPackage). is_of name version found.pkg) (λ (place : Place). place.listed) places
     ∙ ap (option_map (λ (place : Place). place.listed)) (find-filter (λ (place : Place). is_of name version place.listed.pkg) places)
 
 -- a version without a stanza has no place
@@ -130,18 +130,18 @@ no_places places name version none = at (with_version name version places) (sym 
     at (place ∷ more) is = absurd (let e : Some place.listed ≡ None = is in cc)
 
 -- what is kept of a version is a text of it
-pub kept_version-is : (db : List Record) (listed : List Listed) (name version text : List ℕ) → kept_version db listed name version ≡ Some text
+pub kept_version-is : (db : List Record) (listed : List IndexPackage) (name version text : List ℕ) → kept_version db listed name version ≡ Some text
     → SameVersion text version
 kept_version-is db listed name version text is = at (standing_version db name version) refl (stanza_of listed name version) refl is
   where
-    at : (o : Option (List ℕ)) → standing_version db name version ≡ o → (l : Option Listed) → stanza_of listed name version ≡ l
-        → option_or o (option_map (λ (found : Listed). found.pkg.version) l) ≡ Some text → SameVersion text version
+    at : (o : Option (List ℕ)) → standing_version db name version ≡ o → (l : Option IndexPackage) → stanza_of listed name version ≡ l
+        → option_or o (option_map (λ (found : IndexPackage). found.pkg.version) l) ≡ Some text → SameVersion text version
     at (Some own) some l from whole =
         let there = standing_version-is db name version own some in
         let same : own ≡ text = same_Some own text whole in
         subst (λ (v : List ℕ). SameVersion v version) (there.5 ∙ same) there.4
     at None none (Some found) from whole =
         let same : found.pkg.version ≡ text = same_Some found.pkg.version text whole in
-        let there = find-some (λ (other : Listed). is_of name version other.pkg) listed found from in
+        let there = find-some (λ (other : IndexPackage). is_of name version other.pkg) listed found from in
         subst (λ (v : List ℕ). SameVersion v version) same (is_of-parts name version found.pkg there.1).1
     at None none None from whole = absurd (let e : None ≡ Some text = whole in cc)

@@ -12,7 +12,7 @@ use Rattle.pins.specs.Prefs.{Preferences}
 use Rattle.rules.specs.Database.{Record}
 use Rattle.rules.specs.ElementLaws.{Any-append_left, Any-append_right, Any-elim, Any-intro, Contains-cons, Contains-head, Contains-nil}
 use Rattle.rules.specs.Priority.{HasPriorityAmong}
-use Rattle.rules.specs.Step.{Listed}
+use Rattle.rules.specs.Step.{IndexPackage}
 use Rattle.rules.specs.Universe.{IsOf}
 use Rattle.rules.specs.Version.{SameVersion}
 use Rattle.rules.specs.VersionOrderLaws.{SameVersion-refl, SameVersion-symm, SameVersion-trans}
@@ -100,7 +100,7 @@ IsRated-run prefs db places first more offer whole of =
       record {
         kept = ap (λ (n : List ℕ). kept_version db (stanzas_of places) n offer.version) of.name_is
             ∙ kept_version-same db (stanzas_of places) name offer.version version same
-            ∙ ap (λ (o : Option Listed). option_or standing (option_map (λ (l : Listed). l.pkg.version) o)) found
+            ∙ ap (λ (o : Option IndexPackage). option_or standing (option_map (λ (l : IndexPackage). l.pkg.version) o)) found
             ∙ sym of.kept;
         given = subst (λ (xs : List Place). HasPriorityAmong prefs.preferences prefs.target offer.name offer.version
             (origins_with (is_some (standing_version db offer.name offer.version)) xs) offer.priority) (sym run)

@@ -2,7 +2,7 @@
 use Rattle.std.proofs.Common.{◌≡◌, ℕ, Bool, List, Some, sym, ap, ◌∙◌}
 use Rattle.std.specs.List.{Contains}
 use Rattle.rules.specs.Available.{is_of}
-use Rattle.rules.specs.Step.{Listed}
+use Rattle.rules.specs.Step.{IndexPackage}
 use Rattle.rules.specs.Universe.{IsOf}
 use Rattle.universe.proofs.Finding.{find-exists, find-some, sorted-one}
 use Rattle.universe.proofs.PairOrder.{is_of-from, is_of-parts, same_pair}
@@ -11,17 +11,17 @@ use Rattle.candidates.specs.StanzaLaws.{listed_cmp_total}
 use Rattle.candidates.proofs.StanzaOrder.{listed_cmp-tied}
 
 -- what is found of a version stands in order
-pub ordered_found : (listed ordered : List Listed) → IsOrdered listed ordered → (name version : List ℕ) (found : Listed)
+pub ordered_found : (listed ordered : List IndexPackage) → IsOrdered listed ordered → (name version : List ℕ) (found : IndexPackage)
     → stanza_of listed name version ≡ Some found → Contains ordered found × IsOf name version found.pkg
 ordered_found listed ordered is name version found at =
-    let there = find-some (λ (other : Listed). is_of name version other.pkg) ordered found (is.earliest name version ∙ at) in
+    let there = find-some (λ (other : IndexPackage). is_of name version other.pkg) ordered found (is.earliest name version ∙ at) in
     (there.0, is_of-parts name version found.pkg there.1)
 
 -- what stands in order is found of its version
-pub found_ordered : (listed ordered : List Listed) → IsOrdered listed ordered → (found : Listed) → Contains ordered found
+pub found_ordered : (listed ordered : List IndexPackage) → IsOrdered listed ordered → (found : IndexPackage) → Contains ordered found
     → (name version : List ℕ) → IsOf name version found.pkg → stanza_of listed name version ≡ Some found
 found_ordered listed ordered is found within name version of =
-    let p : Listed → Bool = λ other. is_of name version other.pkg in
+    let p : IndexPackage → Bool = λ other. is_of name version other.pkg in
     let first = find-exists p ordered found within (is_of-from name version found.pkg of) in
     let at = find-some p ordered first.0 first.1 in
     let own : IsOf name version first.0.pkg = is_of-parts name version first.0.pkg at.1 in
@@ -30,10 +30,10 @@ found_ordered listed ordered is found within name version of =
     (listed_cmp-tied first.0 found (same_pair name version first.0.pkg found.pkg own of)))
 
 -- a stanza of a version stands in order as the one that is found
-pub ordered_stanza : (listed ordered : List Listed) → IsOrdered listed ordered → (other : Listed) → Contains listed other
+pub ordered_stanza : (listed ordered : List IndexPackage) → IsOrdered listed ordered → (other : IndexPackage) → Contains listed other
     → (name version : List ℕ) → IsOf name version other.pkg
-    → (found : Listed) × Contains ordered found × IsOf name version found.pkg
+    → (found : IndexPackage) × Contains ordered found × IsOf name version found.pkg
 ordered_stanza listed ordered is other within name version of =
-    let first = find-exists (λ (found : Listed). is_of name version found.pkg) listed other within (is_of-from name version other.pkg of) in
+    let first = find-exists (λ (found : IndexPackage). is_of name version found.pkg) listed other within (is_of-from name version other.pkg of) in
     let there = ordered_found listed ordered is name version first.0 first.1 in
     (first.0, there.0, there.1)

@@ -16,7 +16,7 @@ use Rattle.rules.specs.Database.{HasDistinctNames, Record}
 use Rattle.rules.specs.ElementLaws.{Any-elim}
 use Rattle.rules.specs.Package.{Pkg}
 use Rattle.rules.specs.Priority.{HasPriority, HasPriorityAmong, HasPriorityAs, IsDowngrade, IsEligible, IsUpTo, origins_of}
-use Rattle.rules.specs.Step.{Listed}
+use Rattle.rules.specs.Step.{IndexPackage}
 use Rattle.rules.specs.Universe.{IsKeptText}
 use Rattle.rules.specs.Version.{SameVersion, version_cmp}
 use Rattle.rules.specs.VersionOrderLaws.{version_cmp-antisymm, version_cmp-same_left, version_cmp-same_right}
@@ -89,7 +89,7 @@ module _ (db : List Record) (indices : List Index) (prefs : Preferences) (goals 
 
   -- what is kept of a version, by the stanzas of the indices
   kept_all : (name version : List ℕ) → kept_version db (stanzas_of places) name version ≡ kept_version db (all_listed indices) name version
-  kept_all name version = ap (λ (xs : List Listed). kept_version db xs name version) (stanzas_of-places indices)
+  kept_all name version = ap (λ (xs : List IndexPackage). kept_version db xs name version) (stanzas_of-places indices)
 
   -- the package that counts has the text that is kept
   counting_kept : (name version text : List ℕ) → kept_version db (stanzas_of places) name version ≡ Some text

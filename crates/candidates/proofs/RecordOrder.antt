@@ -14,8 +14,8 @@ use Rattle.rules.specs.Available.{is_of}
 use Rattle.rules.specs.Database.{Record}
 use Rattle.rules.specs.Name.{name_cmp}
 use Rattle.rules.specs.NamedLaws.{bytes_eq-true}
-use Rattle.rules.specs.Step.{Listed, is_named, no_relations}
-use Rattle.rules.specs.declared.status.Flag.TheVariants.{Sound}
+use Rattle.rules.specs.Step.{IndexPackage, is_named, no_relations}
+use Rattle.rules.specs.declared.status.Flag.TheVariants as flags
 use Rattle.rules.specs.declared.status.State.TheVariants.{NotInstalled}
 use Rattle.rules.specs.declared.status.Want.TheVariants.{Unknown}
 use Rattle.universe.proofs.Finding.{not_back, sorted-one}
@@ -43,7 +43,7 @@ called name = record {
   name = name;
   state = NotInstalled;
   want = Unknown;
-  flag = Sound;
+  flag = flags.Ok;
   version = [];
   config_version = None;
   relations = no_relations;
@@ -98,26 +98,26 @@ searched_no_record known name i ascending within found = sym (searched_none (is_
     (not_back record_cmp record_cmp_total.antisymm known ascending)) within found)
 
 -- of one version of a name there is one stanza in order
-one_stanza : (ordered : List Listed) (name version : List ℕ) → IsStrictlySortedBy listed_cmp ordered → (found other : Listed)
+one_stanza : (ordered : List IndexPackage) (name version : List ℕ) → IsStrictlySortedBy listed_cmp ordered → (found other : IndexPackage)
     → Contains ordered found → Contains ordered other → is_of name version found.pkg ≡ true → is_of name version other.pkg ≡ true
     → found ≡ other
 one_stanza ordered name version ascending found other one two of of' = sorted-one listed_cmp_total ordered ascending found other one two
     (listed_cmp-tied found other (same_pair name version found.pkg other.pkg (is_of-parts name version found.pkg of) (is_of-parts name version other.pkg of')))
 
 -- the stanza at the place that a binary search finds is that of the version
-pub searched_stanza : (ordered : List Listed) (name version : List ℕ) (i : ℕ) → IsStrictlySortedBy listed_cmp ordered
-    → IsSearchInRange (Ok i) (length ordered) → IsBinarySearchResult (λ (found : Listed). pkg_order found.pkg name version) ordered (Ok i)
+pub searched_stanza : (ordered : List IndexPackage) (name version : List ℕ) (i : ℕ) → IsStrictlySortedBy listed_cmp ordered
+    → IsSearchInRange (Ok i) (length ordered) → IsBinarySearchResult (λ (found : IndexPackage). pkg_order found.pkg name version) ordered (Ok i)
     → slice_get ordered i ≡ stanza_of ordered name version
 searched_stanza ordered name version i ascending within found =
-    searched_find (λ (found : Listed). is_of name version found.pkg) (λ (found : Listed). pkg_order found.pkg name version) ordered i
+    searched_find (λ (found : IndexPackage). is_of name version found.pkg) (λ (found : IndexPackage). pkg_order found.pkg name version) ordered i
     (λ found. pkg_order-ties name version found.pkg) (λ found other. one_stanza ordered name version ascending found other) within found
 
-pub searched_no_stanza : (ordered : List Listed) (name version : List ℕ) (i : ℕ) → IsStrictlySortedBy listed_cmp ordered
-    → IsSearchInRange (Err i) (length ordered) → IsBinarySearchResult (λ (found : Listed). pkg_order found.pkg name version) ordered (Err i)
+pub searched_no_stanza : (ordered : List IndexPackage) (name version : List ℕ) (i : ℕ) → IsStrictlySortedBy listed_cmp ordered
+    → IsSearchInRange (Err i) (length ordered) → IsBinarySearchResult (λ (found : IndexPackage). pkg_order found.pkg name version) ordered (Err i)
     → None ≡ stanza_of ordered name version
 searched_no_stanza ordered name version i ascending within found =
-    sym (searched_none (λ (found : Listed). is_of name version found.pkg) (λ (found : Listed). pkg_order found.pkg name version) ordered i
+    sym (searched_none (λ (found : IndexPackage). is_of name version found.pkg) (λ (found : IndexPackage). pkg_order found.pkg name version) ordered i
     (λ found. pkg_order-ties name version found.pkg)
-    (searchable_from_sorted listed_cmp_total (λ (found : Listed). found) ordered
+    (searchable_from_sorted listed_cmp_total (λ (found : IndexPackage). found) ordered
     (bare (record { name = name; version = version; relations = no_relations }))
     (not_back listed_cmp listed_cmp_total.antisymm ordered ascending)) within found)

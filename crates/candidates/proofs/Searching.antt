@@ -11,7 +11,7 @@ use Rattle.std.proofs.lemmas.Map.Text.{is_eq-slice_cmp}
 use Rattle.rules.specs.Available.{is_of}
 use Rattle.rules.specs.ElementLaws.{Any-elim, Any-from_list_any, list_any-from_contains}
 use Rattle.rules.specs.Name.{name_cmp}
-use Rattle.rules.specs.Step.{Listed}
+use Rattle.rules.specs.Step.{IndexPackage}
 use Rattle.rules.specs.Version.{version_cmp}
 use Rattle.rules.proofs.Rising.{AllPairs-rising}
 use Rattle.universe.proofs.Finding.{find-some}
@@ -27,23 +27,23 @@ not_before Equal v first = refl
 not_before Greater v first = absurd (let e : Greater ≡ Less = first in cc)
 
 -- stanzas in order are in the order of their names
-sorted_names : (ordered : List Listed) → IsStrictlySortedBy listed_cmp ordered
+sorted_names : (ordered : List IndexPackage) → IsStrictlySortedBy listed_cmp ordered
     → IsSortedBy (λ a b. is_lt (name_cmp a.pkg.name b.pkg.name)) ordered
 sorted_names ordered ascending k d low high =
-    let first : Listed = get_or ordered k d in
-    let next : Listed = get_or ordered (k + 1) d in
+    let first : IndexPackage = get_or ordered k d in
+    let next : IndexPackage = get_or ordered (k + 1) d in
     let below : listed_cmp first next ≡ Less = AllPairs-rising listed_cmp ordered ascending k (k + 1) d (omega arith) high in
     ap is_lt (nat_list_cmp_total.antisymm next.pkg.name first.pkg.name)
     ∙ not_before (name_cmp first.pkg.name next.pkg.name) (version_cmp first.pkg.version next.pkg.version) below
 
 -- a binary search among stanzas in order tells whether one has the name
-pub searched_name : (ordered : List Listed) (name : List ℕ) (r : Result ℕ ℕ) → IsStrictlySortedBy listed_cmp ordered
+pub searched_name : (ordered : List IndexPackage) (name : List ℕ) (r : Result ℕ ℕ) → IsStrictlySortedBy listed_cmp ordered
     → IsSearchInRange r (length ordered) → IsBinarySearchResult (λ found. name_cmp found.pkg.name name) ordered r
     → is_ok r ≡ has_name ordered name
 searched_name ordered name r ascending within found =
-    searched_any (λ (found : Listed). bytes_eq found.pkg.name name) (λ (found : Listed). name_cmp found.pkg.name name) ordered r
+    searched_any (λ (found : IndexPackage). bytes_eq found.pkg.name name) (λ (found : IndexPackage). name_cmp found.pkg.name name) ordered r
     (λ found. is_eq-slice_cmp found.pkg.name name)
-    (searchable_from_sorted nat_list_cmp_total (λ (found : Listed). found.pkg.name) ordered name (sorted_names ordered ascending))
+    (searchable_from_sorted nat_list_cmp_total (λ (found : IndexPackage). found.pkg.name) ordered name (sorted_names ordered ascending))
     within found
 
 -- one test passes where the other does
@@ -53,12 +53,12 @@ same_tests false true to back = back refl
 same_tests false false to back = refl
 
 -- the stanzas in order have the names of all stanzas
-pub has_name-ordered : (listed ordered : List Listed) → IsOrdered listed ordered → (name : List ℕ)
+pub has_name-ordered : (listed ordered : List IndexPackage) → IsOrdered listed ordered → (name : List ℕ)
     → has_name ordered name ≡ has_name listed name
 has_name-ordered listed ordered is name = same_tests (has_name ordered name) (has_name listed name)
     (λ some. Any-elim named ordered (has_name listed name ≡ true)
     (λ found within passes.
-    let at = find-some (λ (other : Listed). is_of found.pkg.name found.pkg.version other.pkg) listed found
+    let at = find-some (λ (other : IndexPackage). is_of found.pkg.name found.pkg.version other.pkg) listed found
     (found_ordered listed ordered is found within found.pkg.name found.pkg.version (of_itself found.pkg)) in
     list_any-from_contains has listed found at.0 passes)
     (Any-from_list_any has ordered some))
@@ -68,8 +68,8 @@ has_name-ordered listed ordered is name = same_tests (has_name ordered name) (ha
     list_any-from_contains has ordered there.0 there.1 (ap (λ (n : List ℕ). bytes_eq n name) there.2.0 ∙ passes))
     (Any-from_list_any has listed some))
   where
-    has : Listed → Bool
+    has : IndexPackage → Bool
     has found = bytes_eq found.pkg.name name
 
-    named : Listed → Type 0
+    named : IndexPackage → Type 0
     named found = has found ≡ true

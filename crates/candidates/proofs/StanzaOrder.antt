@@ -15,7 +15,7 @@ use Rattle.rules.specs.Available.{is_of, same_version}
 use Rattle.rules.specs.Name.{name_cmp}
 use Rattle.rules.specs.Package.{Pkg}
 use Rattle.rules.specs.Priority.{status_origin}
-use Rattle.rules.specs.Step.{Listed, no_relations}
+use Rattle.rules.specs.Step.{IndexPackage, no_relations}
 use Rattle.rules.specs.Universe.{IsOf}
 use Rattle.rules.specs.Version.{version_cmp}
 use Rattle.rules.specs.VersionOrderLaws.{version_cmp-same_left}
@@ -26,16 +26,16 @@ use Rattle.candidates.specs.StanzaLaws.{listed_cmp_total, place_cmp_total}
 use Rattle.candidates.proofs.Finding.{find-dedup}
 
 -- the order ties a stanza with just the stanzas of its name and version
-pub listed_cmp-ties : (found other : Listed) → is_eq (listed_cmp found other) ≡ is_of other.pkg.name other.pkg.version found.pkg
+pub listed_cmp-ties : (found other : IndexPackage) → is_eq (listed_cmp found other) ≡ is_of other.pkg.name other.pkg.version found.pkg
 listed_cmp-ties found other = is_eq-then (name_cmp found.pkg.name other.pkg.name) (version_cmp found.pkg.version other.pkg.version)
     ∙ ap (λ (b : Bool). b && same_version found.pkg.version other.pkg.version) (is_eq-slice_cmp found.pkg.name other.pkg.name)
 
-pub listed_cmp-tied : (found other : Listed) → IsOf other.pkg.name other.pkg.version found.pkg → listed_cmp found other ≡ Equal
+pub listed_cmp-tied : (found other : IndexPackage) → IsOf other.pkg.name other.pkg.version found.pkg → listed_cmp found other ≡ Equal
 listed_cmp-tied found other of = (Equal-is (listed_cmp found other)).0
     (listed_cmp-ties found other ∙ is_of-from other.pkg.name other.pkg.version found.pkg of)
 
 -- stanzas that tie are of the same names and versions
-pub is_of-alike : (name version : List ℕ) (found other : Listed) → eq_by_cmp listed_cmp found other ≡ true
+pub is_of-alike : (name version : List ℕ) (found other : IndexPackage) → eq_by_cmp listed_cmp found other ≡ true
     → is_of name version found.pkg ≡ is_of name version other.pkg
 is_of-alike name version found other tied =
     let of : IsOf other.pkg.name other.pkg.version found.pkg =
@@ -60,8 +60,8 @@ ties_is_of sought place =
     ∙ listed_cmp-ties place.listed sought.listed
 
 -- a stanza of the version, where nothing else counts
-abbrev pub bare : Pkg → Listed
-bare pkg = record { pkg = pkg; is_essential = true; stanza = record { fields = []; bytes = None } }
+abbrev pub bare : Pkg → IndexPackage
+bare pkg = record { pkg = pkg; is_essential = true; place = record { index = 1; stanza = 1 } }
 
 -- a stable sort keeps the places of a version as they were
 pub AreSorted-from_sort : (places sorted : List Place) → IsSorted place_cmp sorted → IsStable place_cmp places sorted
@@ -87,7 +87,7 @@ sorted_stanzas sorted up k d low high =
     rw (later, here) (up k e low (omega (arith, n)))
 
 -- the stanzas of places in order that are freed of repetitions have the earliest of equal stanzas
-pub IsOrdered-dedup : (sorted : List Place) (ordered : List Listed) → IsSorted place_cmp sorted
+pub IsOrdered-dedup : (sorted : List Place) (ordered : List IndexPackage) → IsSorted place_cmp sorted
     → ordered ≡ dedup (eq_by_cmp listed_cmp) (stanzas_of sorted) → IsOrdered (stanzas_of sorted) ordered
 IsOrdered-dedup sorted ordered up same = subst (IsOrdered (stanzas_of sorted)) (sym same) (record {
   ascending = IsStrictlySortedBy-dedup listed_cmp_total (λ x y. refl) (stanzas_of sorted) (sorted_stanzas sorted up);

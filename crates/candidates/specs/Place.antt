@@ -5,17 +5,17 @@ use Rattle.std.specs.List.Sorted.{IsSorted}
 use Rattle.std.specs.Ordering.{on}
 use Rattle.std.specs.declared.cmp.Ordering.{Ordering}
 use Rattle.rules.specs.Available.{Index, is_of}
-use Rattle.rules.specs.Step.{Listed}
+use Rattle.rules.specs.Step.{IndexPackage}
 use Rattle.rules.specs.declared.release.Release.{Release}
 use Rattle.candidates.specs.Stanza.{listed_cmp}
 
 -- a stanza, and the release keys of the index that it comes from
 pub record Place : Type 0 where
-  pub listed : Listed
+  pub listed : IndexPackage
   pub release : Release
 
 -- a stanza of an index with these release keys
-abbrev pub place_at : Release → Listed → Place
+abbrev pub place_at : Release → IndexPackage → Place
 place_at release listed = record { listed = listed; release = release }
 
 -- the stanzas of an index
@@ -27,7 +27,7 @@ abbrev pub places_of : List Index → List Place
 places_of indices = flat_map places_in indices
 
 -- the stanzas alone
-abbrev pub stanzas_of : List Place → List Listed
+abbrev pub stanzas_of : List Place → List IndexPackage
 stanzas_of places = map (λ place. place.listed) places
 
 -- the places of this version of the name

@@ -6,7 +6,7 @@ use Rattle.pins.specs.Origin.{release_origin}
 use Rattle.pins.specs.Prefs.{Preferences}
 use Rattle.rules.specs.Database.{Record, stands}
 use Rattle.rules.specs.Priority.{HasPriorityAmong, Origin, status_origin}
-use Rattle.rules.specs.Step.{Listed}
+use Rattle.rules.specs.Step.{IndexPackage}
 use Rattle.rules.specs.Universe.{IsOf}
 use Rattle.candidates.specs.Offer.{AreBest, IsFor, Offer, eligible}
 use Rattle.candidates.specs.Place.{Place, stanzas_of, with_version}
@@ -14,7 +14,7 @@ use Rattle.candidates.specs.Recorded.{standing_version}
 use Rattle.candidates.specs.Stanza.{stanza_of}
 
 -- the text of a version that is kept: that of what stands, or else that of the earliest stanza
-abbrev pub kept_version : List Record → List Listed → List ℕ → List ℕ → Option (List ℕ)
+abbrev pub kept_version : List Record → List IndexPackage → List ℕ → List ℕ → Option (List ℕ)
 kept_version db listed name version =
     option_or (standing_version db name version) (option_map (λ found. found.pkg.version) (stanza_of listed name version))
 
@@ -44,7 +44,7 @@ pub record IsOfRun (prefs : Preferences) (db : List Record) (first : Place) (run
       (origins_with (is_some (standing_version db first.listed.pkg.name first.listed.pkg.version)) run) offer.priority
 
 -- the version that the record stands in, where no stanza has it
-abbrev pub standing_alone : List Listed → Record → Option (List ℕ)
+abbrev pub standing_alone : List IndexPackage → Record → Option (List ℕ)
 standing_alone listed found =
     if stands found && is_none (stanza_of listed found.name found.version) then Some found.version else None
 

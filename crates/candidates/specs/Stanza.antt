@@ -6,22 +6,22 @@ use Rattle.std.specs.Ordering.{on, then_cmp}
 use Rattle.std.specs.declared.cmp.Ordering.{Ordering}
 use Rattle.rules.specs.Available.{is_of}
 use Rattle.rules.specs.Name.{name_cmp}
-use Rattle.rules.specs.Step.{Listed}
+use Rattle.rules.specs.Step.{IndexPackage}
 use Rattle.rules.specs.Version.{version_cmp}
 
 -- the order of stanzas: by name and then by version
-abbrev pub listed_cmp : Listed → Listed → Ordering
+abbrev pub listed_cmp : IndexPackage → IndexPackage → Ordering
 listed_cmp = then_cmp (on (λ found. found.pkg.name) name_cmp) (on (λ found. found.pkg.version) version_cmp)
 
 -- the earliest stanza of this version of the name
-abbrev pub stanza_of : List Listed → List ℕ → List ℕ → Option Listed
+abbrev pub stanza_of : List IndexPackage → List ℕ → List ℕ → Option IndexPackage
 stanza_of listed name version = find (λ found. is_of name version found.pkg) listed
 
 -- a stanza has the name
-abbrev pub has_name : List Listed → List ℕ → Bool
+abbrev pub has_name : List IndexPackage → List ℕ → Bool
 has_name listed name = list_any (λ found. bytes_eq found.pkg.name name) listed
 
 -- the stanzas in their order, and of those of one version of a name the earliest alone
-pub record IsOrdered (listed ordered : List Listed) : Type 0 where
+pub record IsOrdered (listed ordered : List IndexPackage) : Type 0 where
   pub ascending : IsStrictlySortedBy listed_cmp ordered
   pub earliest : (name version : List ℕ) → stanza_of ordered name version ≡ stanza_of listed name version

@@ -3,7 +3,7 @@
 ghost use Rattle.std.specs.Prelude.{◌≡◌, [], IfOk, bytes_eq, map};
 ghost use Rattle.std.specs.List.{find};
 ghost use Rattle.rules.specs.Database.{HasDistinctNames};
-ghost use Rattle.rules.specs.Entry.{records_of};
+ghost use Rattle.rules.specs.FileRecord.{records_of};
 ghost use Rattle.candidates.specs.Candidates.{IsCandidateOf};
 ghost use Rattle.candidates.specs.Inputs.{indices_of, inputs_of};
 
@@ -12,7 +12,7 @@ use crate::offered::Offered;
 use crate::recorded::records_in;
 use index::Index;
 use pins::Prefs;
-use status_record::Record;
+use status_record::FileRecord;
 use std::alloc::{AllocError, Global};
 
 fn named<'a>(offers: Vec<Offer<'a>>, name: &[u8]) -> Option<Offer<'a>>
@@ -25,7 +25,7 @@ fn named<'a>(offers: Vec<Offer<'a>>, name: &[u8]) -> Option<Offer<'a>>
 /// and these indices (apt_preferences(5)). It costs what `Offered::find` costs. Memory alone can fail.
 pub fn candidate<'a>(
     alloc: Global,
-    start: &[&Record<'a>],
+    start: &[&FileRecord<'a>],
     indices: &[Index<'a>],
     prefs: &Prefs,
     name: &[u8],

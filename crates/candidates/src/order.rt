@@ -12,7 +12,7 @@ ghost use Rattle.candidates.specs.StanzaLaws.{listed_cmp_total};
 
 use crate::place::Place;
 use debversion::Version;
-use index::Entry;
+use index::IndexEntry;
 use std::alloc::{AllocError, Global};
 use std::cmp::Ordering;
 use std::marker::Model;
@@ -21,13 +21,13 @@ use std::marker::Model;
 /// of one name and version are equal.
 #[derive(Drop)]
 pub struct Found<'p, 'a> {
-    entry: &'p Entry<'a>,
+    entry: &'p IndexEntry<'a>,
 }
 
 impl<'p, 'a> Model for Found<'p, 'a> {
-    ghost use Rattle.rules.specs.Step.{Listed as ListedValue};
+    ghost use Rattle.rules.specs.Step.{IndexPackage as IndexPackageValue};
 
-    ghost Value = { ListedValue };
+    ghost Value = { IndexPackageValue };
 
     ghost view = { λ f. f.entry.now };
 }
@@ -48,7 +48,7 @@ impl<'p, 'a> Found<'p, 'a> {
     }
 
     /// The stanza.
-    pub fn entry(&self) -> &'p Entry<'a>
+    pub fn entry(&self) -> &'p IndexEntry<'a>
         ensures { result.now ≡ self.now }
     {
         self.entry

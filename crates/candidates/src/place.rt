@@ -12,7 +12,7 @@ ghost use Rattle.candidates.specs.StanzaLaws.{place_cmp_total};
 
 use crate::prefix::{order_of, prefix_of};
 use debversion::Version;
-use index::{Entry, Index};
+use index::{Index, IndexEntry};
 use pins::Origin;
 use rules::Release;
 use std::alloc::{AllocError, Global};
@@ -23,7 +23,7 @@ use std::marker::Model;
 /// version (deb-version(7)), and two of one name and version are equal.
 #[derive(Drop)]
 pub struct Place<'p, 'a> {
-    entry: &'p Entry<'a>,
+    entry: &'p IndexEntry<'a>,
     release: &'p Release,
     prefix: [u8; 16],
 }
@@ -56,7 +56,7 @@ impl<'p, 'a> Place<'p, 'a> {
     }
 
     /// The stanza.
-    pub fn entry(&self) -> &'p Entry<'a>
+    pub fn entry(&self) -> &'p IndexEntry<'a>
         ensures { result.now ≡ self.now.listed }
     {
         self.entry
@@ -84,7 +84,7 @@ impl<'p, 'a> Place<'p, 'a> {
     }
 }
 
-fn place_at<'p, 'a>(release: &'p Release, entry: &'p Entry<'a>) -> Place<'p, 'a>
+fn place_at<'p, 'a>(release: &'p Release, entry: &'p IndexEntry<'a>) -> Place<'p, 'a>
     ensures { result ≡ place_at release.now entry.now }
 {
     Place {

@@ -5,7 +5,7 @@ ghost use Rattle.std.specs.Cmp.{eq_by_cmp_equiv, partial_equiv_from_equiv, po};
 ghost use Rattle.std.specs.Ordering.{as_partial_cmp, eq_by_cmp, is_lt};
 ghost use Rattle.rules.specs.Available.{same_version};
 ghost use Rattle.rules.specs.Database.{Stands, pkg_of, stands};
-ghost use Rattle.rules.specs.Entry.{records_of};
+ghost use Rattle.rules.specs.FileRecord.{records_of};
 ghost use Rattle.rules.specs.State.{is_hold, is_not_installed_state};
 ghost use Rattle.rules.specs.Universe.{start_of};
 ghost use Rattle.rules.specs.Version.{version_cmp};
@@ -14,7 +14,7 @@ ghost use Rattle.candidates.specs.RecordedLaws.{record_cmp_total};
 
 use debversion::Version;
 use relation::Pkg;
-use status_record::Record;
+use status_record::FileRecord;
 use std::alloc::{AllocError, Global};
 use std::cmp::Ordering;
 use std::marker::Model;
@@ -23,7 +23,7 @@ use universe::Start;
 /// A record of the start. Records are ordered by the bytes of their names.
 #[derive(Drop)]
 pub struct Recorded<'p, 'a> {
-    record: &'p Record<'a>,
+    record: &'p FileRecord<'a>,
 }
 
 impl<'p, 'a> Model for Recorded<'p, 'a> {
@@ -130,7 +130,7 @@ impl<'p, 'a> Recorded<'p, 'a> {
 /// The records, in their order.
 pub fn records_in<'p, 'a>(
     alloc: Global,
-    start: &[&'p Record<'a>],
+    start: &[&'p FileRecord<'a>],
 ) -> Result<Vec<Recorded<'p, 'a>>, AllocError>
     ensures { IfOk result (λ recorded. recorded.items ≡ records_of (map (λ r. r.now) start.now)) }
 {

@@ -3,12 +3,12 @@ use Rattle.std.proofs.Common.{◌≡◌, ℕ, List, [], ◌∷◌, length, map, 
 use Rattle.std.proofs.lemmas.Option.{option_and_then_some}
 use Rattle.std.specs.Option.{option_and_then, option_copied}
 use Rattle.cli.specs.Files.{AreIndices, AreKeptTextsAt, Files, IsPreferred, kept_in}
+use Rattle.cli.specs.Kept.{AreKept}
 use Rattle.cli.specs.declared.arguments.Options.{Options}
 use Rattle.cli_engine.specs.Texts.{Texts, sources_of}
 use Rattle.index.specs.Sources.{SourceText}
 use Rattle.kept_index.specs.Kept.{kept_text}
 use Rattle.kept_index.proofs.ReadBackLemmas.{reads-back}
-use Rattle.kept_texts.specs.Texts.{AreKept}
 
 -- what was kept of a text that was found
 pub kept-found : (files : Files) (path bytes : List ℕ) (kept : Option (List ℕ)) → files path ≡ Some bytes → kept_text bytes ≡ kept → kept_in files path ≡ kept

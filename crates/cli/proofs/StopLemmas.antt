@@ -5,11 +5,11 @@ use Rattle.cli.specs.Files.{Files, kept_in}
 use Rattle.cli.specs.Stop.{stop_at_preferences, stop_at_sources, stop_in, stop_of, unread}
 use Rattle.cli.specs.declared.arguments.Options.{Options}
 use Rattle.cli_engine.specs.Texts.{sources_of}
-use Rattle.cli_engine.specs.declared.refusal.Place.{Place}
-use Rattle.cli_engine.specs.declared.refusal.Place.TheVariants as place
+use Rattle.cli_engine.specs.declared.refusal.Input.{Input}
+use Rattle.cli_engine.specs.declared.refusal.Input.TheVariants as place
 
 -- where reading stops in the sources that were read, it stops in those that there are
-pub stops_in : (files : Files) (start status preferences : Option Place) (found : Option (List ℕ)) (sources : List ℕ)
+pub stops_in : (files : Files) (start status preferences : Option Input) (found : Option (List ℕ)) (sources : List ℕ)
     → (option_or (option_or start status) (unread place.Sources found) ≡ None → found ≡ Some sources)
     → option_or (option_or (option_or (option_or start status) (unread place.Sources found)) (stop_in (kept_in files) (sources_of sources))) preferences
     ≡ option_or start (option_or status (option_or (stop_at_sources files found) preferences))
@@ -20,7 +20,7 @@ stops_in files None None preferences (Some text) sources is =
     ap (λ (o : Option (List ℕ)). option_or (stop_at_sources files o) preferences) (sym (is refl))
 
 -- where reading one file after the other stops is where reading the files of the options does
-pub stops_of : (files : Files) (options : Options) (start status found indices stopped : Option Place) (sources : List ℕ)
+pub stops_of : (files : Files) (options : Options) (start status found indices stopped : Option Input) (sources : List ℕ)
     → status ≡ option_or start (unread place.Status (files options.status.now))
     → found ≡ option_or status (unread place.Sources (files options.sources.now))
     → (found ≡ None → files options.sources.now ≡ Some sources)
@@ -29,12 +29,12 @@ pub stops_of : (files : Files) (options : Options) (start status found indices s
     → stopped ≡ option_or start (stop_of files options)
 stops_of files options start status found indices stopped sources at-status at-sources is at-indices at-preferences =
     at-preferences
-    ∙ ap (λ (o : Option Place). option_or o (stop_at_preferences files (option_copied options.preferences)))
-    (at-indices ∙ ap (λ (o : Option Place). option_or o (stop_in (kept_in files) (sources_of sources))) sources-read)
+    ∙ ap (λ (o : Option Input). option_or o (stop_at_preferences files (option_copied options.preferences)))
+    (at-indices ∙ ap (λ (o : Option Input). option_or o (stop_in (kept_in files) (sources_of sources))) sources-read)
     ∙ stops_in files start (unread place.Status (files options.status.now))
     (stop_at_preferences files (option_copied options.preferences)) (files options.sources.now) sources
     (λ none. is (sources-read ∙ none))
   where
     sources-read : found ≡ option_or (option_or start (unread place.Status (files options.status.now)))
         (unread place.Sources (files options.sources.now))
-    sources-read = at-sources ∙ ap (λ (o : Option Place). option_or o (unread place.Sources (files options.sources.now))) at-status
+    sources-read = at-sources ∙ ap (λ (o : Option Input). option_or o (unread place.Sources (files options.sources.now))) at-status

@@ -1,7 +1,9 @@
--- What is printed of a verdict, of a candidate and of a comparison (this project's own form).
+-- What is printed of a verdict on a plan or a refutation, of a candidate and of a comparison (this project's own form).
 use Rattle.std.specs.Prelude.{ℕ, Bool, List, ◌++◌, Option, Some, None, codes, decimal, if◌then◌else◌}
 use Rattle.std.specs.Fmt.{signed_decimal}
 use Rattle.candidates.specs.Offer.{Offer}
+use Rattle.refutecheck.specs.declared.verdict.Verdict.{Verdict as Refuted}
+use Rattle.refutecheck.specs.declared.verdict.Verdict.TheVariants as refuted
 use Rattle.rules.specs.declared.step.Reason.{Reason}
 use Rattle.rules.specs.declared.step.Reason.TheVariants as reason
 use Rattle.rules.specs.declared.step.Rule.{Rule}
@@ -41,6 +43,11 @@ verdict_words (verdict.End found) = codes "no end F11 " ++ reason_words found
 -- the line that is printed of a verdict
 abbrev pub verdict_line : Verdict → List ℕ
 verdict_line answer = verdict_words answer ++ codes "\n"
+
+-- the line that is printed of the verdict on a refutation: yes, or no with the number of its first bad line
+abbrev pub refutation_line : Refuted → List ℕ
+refutation_line refuted.Yes = codes "yes\n"
+refutation_line (refuted.No number) = codes "no line " ++ (decimal number ++ codes "\n")
 
 -- what is found of a name: the text of its candidate's version and the priority in decimal, or `none`
 abbrev pub candidate_words : Option Offer → List ℕ

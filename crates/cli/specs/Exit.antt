@@ -4,6 +4,8 @@ use Rattle.cli.specs.declared.exit.Exit.{Exit}
 use Rattle.cli.specs.declared.exit.Exit.TheVariants as exit
 use Rattle.cli_engine.specs.declared.refusal.Fault.{Fault}
 use Rattle.cli_engine.specs.declared.refusal.Fault.TheVariants as fault
+use Rattle.refutecheck.specs.declared.verdict.Verdict.{Verdict as Refuted}
+use Rattle.refutecheck.specs.declared.verdict.Verdict.TheVariants as refuted
 use Rattle.rules.specs.declared.step.Verdict.{Verdict}
 use Rattle.rules.specs.declared.step.Verdict.TheVariants as verdict
 
@@ -21,6 +23,11 @@ exit_of_verdict verdict.Yes = exit.Success
 exit_of_verdict verdict.Start = exit.No
 exit_of_verdict (verdict.Step number rule) = exit.No
 exit_of_verdict (verdict.End reason) = exit.No
+
+-- success where a refutation is accepted, and no where it isn't
+abbrev pub exit_of_refutation : Refuted → Exit
+exit_of_refutation refuted.Yes = exit.Success
+exit_of_refutation (refuted.No number) = exit.No
 
 -- success for a yes, and no for a no
 abbrev pub exit_of_comparison : Bool → Exit
@@ -43,4 +50,5 @@ exit_of_fault (fault.Preferences refused) = exit.Refused
 exit_of_fault (fault.Request refused) = exit.Refused
 exit_of_fault (fault.UnknownName line) = exit.Refused
 exit_of_fault (fault.Plan refused) = exit.Refused
+exit_of_fault (fault.Refutation refused) = exit.Refused
 exit_of_fault fault.TooLarge = exit.Refused

@@ -1,12 +1,12 @@
 -- The files of a host, and the texts that an answer is given by where all of them can be read.
 use Rattle.std.specs.Prelude.{◌≡◌, ℕ, List, map, Option, Some, None, Ok}
 use Rattle.std.specs.Option.{option_and_then, option_copied, option_map}
+use Rattle.cli.specs.Kept.{AreKept, with_indices}
 use Rattle.cli.specs.declared.arguments.Arguments.{Arguments}
 use Rattle.cli.specs.declared.arguments.Options.{Options}
 use Rattle.cli_engine.specs.Texts.{Texts, sources_of}
 use Rattle.index.specs.Sources.{SourceText}
 use Rattle.kept_index.specs.Kept.{kept_text}
-use Rattle.kept_texts.specs.Texts.{AreKept, with_indices}
 
 -- what there is at a path, and nothing where none can be read
 abbrev pub Files : Type 0
@@ -48,11 +48,11 @@ pub record AreTextsAt (files : Files) (options : Options) (texts : Texts) : Type
   pub preferences : IsPreferred files (option_copied options.preferences) texts.preferences
   pub target : texts.target ≡ option_copied options.target
 
--- the texts and the plan are what the files have at the paths of the arguments
-pub record AreTextsOf (files : Files) (arguments : Arguments) (texts : Texts) (plan : List ℕ) : Type 0 where
+-- the texts and the one that is judged are what the files have at the paths of the arguments
+pub record AreTextsOf (files : Files) (arguments : Arguments) (texts : Texts) (judged : List ℕ) : Type 0 where
   pub before : AreTextsAt files arguments.options texts
   pub request : files arguments.request.now ≡ Some texts.request
-  pub plan_is : files arguments.plan.now ≡ Some plan
+  pub judged_is : files arguments.judged.now ≡ Some judged
 
 -- the texts before the request are what the files have at the paths of the options, but of the indices they have what is
 -- kept
@@ -61,8 +61,9 @@ pub record AreKeptTextsAt (files : Files) (options : Options) (texts : Texts) : 
   pub kept : AreKept indices texts.indices
   pub whole : AreTextsAt files options (with_indices indices texts)
 
--- the texts and the plan are what the files have at the paths of the arguments, but of the indices they have what is kept
-pub record AreKeptTextsOf (files : Files) (arguments : Arguments) (texts : Texts) (plan : List ℕ) : Type 0 where
+-- the texts and the one that is judged are what the files have at the paths of the arguments, but of the indices they have
+-- what is kept
+pub record AreKeptTextsOf (files : Files) (arguments : Arguments) (texts : Texts) (judged : List ℕ) : Type 0 where
   pub indices : List (List ℕ)
   pub kept : AreKept indices texts.indices
-  pub whole : AreTextsOf files arguments (with_indices indices texts) plan
+  pub whole : AreTextsOf files arguments (with_indices indices texts) judged

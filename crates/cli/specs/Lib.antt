@@ -5,3 +5,4 @@ pub mod Inputs
 pub mod Outcome
 pub mod Stop
 pub mod Whole
+pub mod Kept

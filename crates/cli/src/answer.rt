@@ -1,10 +1,12 @@
-// A verdict, a candidate and the answer of a comparison as the line that is printed of it (this project's own form).
+// A verdict on a plan or a refutation, a candidate and the answer of a comparison as the line that is printed of it (this
+// project's own form).
 ghost use Rattle.std.specs.Prelude.{◌≡◌, ◌++◌, IfOk, codes, decimal};
 ghost use Rattle.std.specs.Fmt.{signed_decimal};
 ghost use Rattle.std.specs.Option.{option_copied};
 ghost use Rattle.cli.specs.Answer as Spec;
 
 use crate::candidate::Candidate;
+use cli_engine::RefutationVerdict;
 use rules::{Reason, Rule, Text, Verdict};
 use std::alloc::{AllocError, Global};
 
@@ -18,6 +20,16 @@ pub fn verdict_line(alloc: Global, verdict: &Verdict) -> Result<Vec<u8>, AllocEr
         Verdict::Start => b"no start F0 StartConflict\n".to_vec(alloc),
         Verdict::Step(number, rule) => step_line(alloc, *number, *rule),
         Verdict::End(reason) => end_line(alloc, reason),
+    }
+}
+
+/// The line that is printed of the verdict on a refutation: `yes`, or `no line NUMBER`. Memory alone can fail.
+pub fn refutation_line(alloc: Global, verdict: &RefutationVerdict) -> Result<Vec<u8>, AllocError>
+    ensures { IfOk result (λ line. line.items ≡ Spec.refutation_line verdict.now) }
+{
+    match verdict {
+        RefutationVerdict::Yes => b"yes\n".to_vec(alloc),
+        RefutationVerdict::No(number) => Ok(format!(in alloc; "no line {number}\n")?.into_bytes()),
     }
 }
 

@@ -3,7 +3,7 @@
 use crate::declare::program;
 use clap::error::ErrorKind;
 use clap::{ArgMatches, Error};
-use cli_engine::Relation;
+use cli_engine::Comparison;
 use std::alloc::{AllocError, Global};
 
 /// Where packages come from, and what is preferred among them: the architecture that packages are for, the paths of the
@@ -22,15 +22,15 @@ pub struct Options<'a> {
     pub target: Option<&'a str>,
 }
 
-/// What a plan is to be judged by.
+/// What a plan or a refutation is to be judged by.
 #[derive(Clone, Copy)]
 pub struct Arguments<'a> {
     /// Where packages come from.
     pub options: Options<'a>,
     /// The path of the request.
     pub request: &'a str,
-    /// The path of the plan.
-    pub plan: &'a str,
+    /// The path of the plan, or of the refutation.
+    pub judged: &'a str,
 }
 
 /// Of which name the candidate is asked for.
@@ -44,11 +44,11 @@ pub struct Query<'a> {
 
 /// What two versions are to be compared as.
 #[derive(Clone, Copy)]
-pub(crate) struct Comparison<'a> {
+pub(crate) struct CompareArguments<'a> {
     /// The version.
     pub(crate) version: &'a str,
     /// How it is to stand to the other.
-    pub(crate) relation: Relation,
+    pub(crate) relation: Comparison,
     /// The other version.
     pub(crate) other: &'a str,
 }
@@ -57,11 +57,13 @@ pub(crate) struct Comparison<'a> {
 #[derive(Clone, Copy)]
 pub(crate) enum Call<'a> {
     /// To compare two versions.
-    Compare(Comparison<'a>),
+    Compare(CompareArguments<'a>),
     /// To name the candidate of a name.
     Candidate(Query<'a>),
     /// To judge a plan.
     CheckPlan(Arguments<'a>),
+    /// To judge a refutation.
+    CheckRefutation(Arguments<'a>),
 }
 
 /// The words as text, unless one of them isn't UTF-8. Memory alone can fail.
@@ -85,27 +87,28 @@ pub(crate) fn call_of<'a>(alloc: Global, words: &'a [&'a str]) -> Result<Call<'a
     let call = match command {
         "compare" => comparison_in(values),
         "candidate" => query_in(values),
-        _ => arguments_in(values),
+        "check-refutation" => refutation_in(values),
+        _ => plan_in(values),
     };
     call.ok_or_else(|| mistake(alloc, "a word is missing"))
 }
 
 fn comparison_in<'a>(values: &ArgMatches<'a>) -> Option<Call<'a>> {
-    Some(Call::Compare(Comparison {
+    Some(Call::Compare(CompareArguments {
         version: values.get_str("version")?,
         relation: relation_of(values.get_str("relation")?)?,
         other: values.get_str("other")?,
     }))
 }
 
-fn relation_of(word: &str) -> Option<Relation> {
+fn relation_of(word: &str) -> Option<Comparison> {
     match word {
-        "lt" => Some(Relation::Earlier),
-        "le" => Some(Relation::EarlierOrEqual),
-        "eq" => Some(Relation::Equal),
-        "ne" => Some(Relation::NotEqual),
-        "ge" => Some(Relation::LaterOrEqual),
-        "gt" => Some(Relation::Later),
+        "lt" => Some(Comparison::Earlier),
+        "le" => Some(Comparison::EarlierOrEqual),
+        "eq" => Some(Comparison::Equal),
+        "ne" => Some(Comparison::NotEqual),
+        "ge" => Some(Comparison::LaterOrEqual),
+        "gt" => Some(Comparison::Later),
         _ => None,
     }
 }
@@ -127,12 +130,21 @@ fn query_in<'a>(values: &ArgMatches<'a>) -> Option<Call<'a>> {
     }))
 }
 
-fn arguments_in<'a>(values: &ArgMatches<'a>) -> Option<Call<'a>> {
-    Some(Call::CheckPlan(Arguments {
+fn plan_in<'a>(values: &ArgMatches<'a>) -> Option<Call<'a>> {
+    Some(Call::CheckPlan(arguments_in(values, "plan")?))
+}
+
+fn refutation_in<'a>(values: &ArgMatches<'a>) -> Option<Call<'a>> {
+    Some(Call::CheckRefutation(arguments_in(values, "refutation")?))
+}
+
+// What a text is to be judged by whose path is the value of this name.
+fn arguments_in<'a>(values: &ArgMatches<'a>, name: &str) -> Option<Arguments<'a>> {
+    Some(Arguments {
         options: options_in(values)?,
         request: values.get_str("request")?,
-        plan: values.get_str("plan")?,
-    }))
+        judged: values.get_str(name)?,
+    })
 }
 
 /// What is to be said of words that are wrong as this text says.

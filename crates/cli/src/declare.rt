@@ -6,11 +6,14 @@ use std::alloc::{AllocError, Global};
 /// The command line of the program. Memory alone can fail.
 pub(crate) fn program<'a>(alloc: Global) -> Result<Command<'a>, AllocError> {
     let program = Command::new(alloc, "debplan")
-        .about("Compares versions, names candidates and judges plans of dpkg actions")
+        .about(
+            "Compares versions, names candidates, and judges plans of dpkg actions and refutations",
+        )
         .subcommand_required(true);
     let program = with(program, compare(alloc))?;
     let program = with(program, candidate(alloc))?;
-    with(program, check_plan(alloc))
+    let program = with(program, check_plan(alloc))?;
+    with(program, check_refutation(alloc))
 }
 
 fn with<'a>(
@@ -49,6 +52,17 @@ fn check_plan<'a>(alloc: Global) -> Result<Command<'a>, AllocError> {
     with_options(alloc, command)?
         .arg(option(alloc, "request", "FILE").help("The request: a goal on each line"))?
         .arg(word(alloc, "plan", "PLAN").help("The plan: a step on each line"))
+}
+
+fn check_refutation<'a>(alloc: Global) -> Result<Command<'a>, AllocError> {
+    let command = Command::new(alloc, "check-refutation").about(
+        "Says whether a refutation proves that no choice of versions satisfies the request",
+    );
+    with_options(alloc, command)?
+        .arg(option(alloc, "request", "FILE").help("The request: a goal on each line"))?
+        .arg(word(alloc, "refutation", "REFUTATION").help(
+            "The refutation: a premise or a derived clause on each line",
+        ))
 }
 
 // The command with the options that say which packages there are, and what is preferred among them.

@@ -4,7 +4,7 @@ ghost use Rattle.std.specs.Option.{option_copied};
 ghost use Rattle.cli.specs.Exit as Spec;
 
 use crate::candidate::Candidate;
-use cli_engine::{Fault, Refusal};
+use cli_engine::{Fault, Refusal, RefutationVerdict};
 use rules::Verdict;
 
 /// How the program ends.
@@ -44,6 +44,16 @@ pub fn exit_of_verdict(verdict: &Verdict) -> Exit
     match verdict {
         Verdict::Yes => Exit::Success,
         Verdict::Start | Verdict::Step(_, _) | Verdict::End(_) => Exit::No,
+    }
+}
+
+/// How the program ends with this verdict on a refutation.
+pub fn exit_of_refutation(verdict: &RefutationVerdict) -> Exit
+    ensures { result ≡ Spec.exit_of_refutation verdict.now }
+{
+    match verdict {
+        RefutationVerdict::Yes => Exit::Success,
+        RefutationVerdict::No(_) => Exit::No,
     }
 }
 

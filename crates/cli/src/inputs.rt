@@ -6,7 +6,7 @@ ghost use Rattle.cli_engine.specs.Inputs.{texts_of};
 
 use crate::arguments::Options;
 use crate::read::Texts;
-use cli_engine::{Fault, Inputs, Place, Refusal};
+use cli_engine::{Fault, Input, Inputs, Refusal};
 use std::alloc::{AllocError, Global};
 
 /// The texts of the indices, lent.
@@ -66,7 +66,7 @@ pub(crate) fn inputs_of<'p, 't, 'a: 't>(
 /// text before that, or of more pairs than are kept.
 pub(crate) fn unless_unread<T: Drop>(
     answer: Result<T, Refusal>,
-    stopped_at: Option<Place>,
+    stopped_at: Option<Input>,
 ) -> Result<T, Refusal>
     ensures read { IfOk result (λ _. stopped_at ≡ None) }
     ensures same { IfOk result (λ value. answer ≡ Ok value) }

@@ -17,16 +17,22 @@ mod program;
 mod read;
 mod whole;
 
-pub use answer::{candidate_line, comparison_line, verdict_line};
+pub use answer::{candidate_line, comparison_line, refutation_line, verdict_line};
 pub use arguments::{Arguments, Options, Query};
 pub use candidate::Candidate;
 pub use cli_engine::{
-    Fault, Inputs, Offer, Place, Refusal, Relation, candidate_bytes, check_plan_bytes, compare,
+    Comparison, Fault, Input, Inputs, Offer, Refusal, RefutationVerdict, candidate_bytes,
+    check_plan_bytes, check_refutation_bytes, compare,
 };
-pub use exit::{Exit, exit_of_candidate, exit_of_comparison, exit_of_refusal, exit_of_verdict};
+pub use exit::{
+    Exit, exit_of_candidate, exit_of_comparison, exit_of_refusal, exit_of_refutation,
+    exit_of_verdict,
+};
 pub use find::find_candidate;
 pub use host::{Host, ReadError};
-pub use judge::check_plan;
+pub use judge::{check_plan, check_refutation};
 pub use kept_index::{ReadFailed, Source};
-pub use outcome::{Outcome, outcome_of_answer, outcome_of_candidate, outcome_of_comparison};
+pub use outcome::{
+    Outcome, outcome_of_answer, outcome_of_candidate, outcome_of_comparison, outcome_of_refutation,
+};
 pub use program::{refuse_for_memory, run};

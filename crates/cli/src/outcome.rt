@@ -1,13 +1,16 @@
 // What the program prints, and on which stream.
 ghost use Rattle.std.specs.Prelude.{◌≡◌, IfOk};
-ghost use Rattle.cli.specs.Outcome.{IsComplaint, IsOutcomeOf, IsOutcomeOfCandidate, IsOutcomeOfComparison, IsOutcomeOfRefusal};
+ghost use Rattle.cli.specs.Outcome.{IsComplaint, IsOutcomeOf, IsOutcomeOfCandidate, IsOutcomeOfComparison, IsOutcomeOfRefusal, IsOutcomeOfRefutation};
 
-use crate::answer::{candidate_line, comparison_line, verdict_line};
+use crate::answer::{candidate_line, comparison_line, refutation_line, verdict_line};
 use crate::candidate::Candidate;
-use crate::exit::{Exit, exit_of_candidate, exit_of_comparison, exit_of_refusal, exit_of_verdict};
+use crate::exit::{
+    Exit, exit_of_candidate, exit_of_comparison, exit_of_refusal, exit_of_refutation,
+    exit_of_verdict,
+};
 use clap::Error;
 use clap::error::ErrorKind;
-use cli_engine::Refusal;
+use cli_engine::{Refusal, RefutationVerdict};
 use rules::{Items, Verdict};
 use std::alloc::{AllocError, Global};
 
@@ -32,6 +35,23 @@ pub fn outcome_of_answer(
         Ok(verdict) => {
             let line = Items::new(verdict_line(alloc, verdict)?);
             Ok(Outcome::Answer(line, exit_of_verdict(verdict)))
+        }
+        Err(refusal) => outcome_of_refusal(alloc, refusal),
+    }
+}
+
+/// What is printed of a refutation's answer: a verdict's line on standard output, or a refusal's on standard error.
+/// Memory alone can fail.
+pub fn outcome_of_refutation(
+    alloc: Global,
+    answer: &Result<RefutationVerdict, Refusal>,
+) -> Result<Outcome, AllocError>
+    ensures { IfOk result (λ outcome. IsOutcomeOfRefutation answer.now outcome) }
+{
+    match answer {
+        Ok(verdict) => {
+            let line = Items::new(refutation_line(alloc, verdict)?);
+            Ok(Outcome::Answer(line, exit_of_refutation(verdict)))
         }
         Err(refusal) => outcome_of_refusal(alloc, refusal),
     }

@@ -3,13 +3,14 @@ ghost use Rattle.std.specs.Prelude.{◌≡◌};
 ghost use Rattle.cli.specs.Outcome.{IsWritten};
 ghost use Rattle.cli.specs.declared.outcome.Outcome.{Outcome as Found};
 
-use crate::arguments::{Call, Comparison, call_of, mistake, texts_of};
+use crate::arguments::{Call, CompareArguments, call_of, mistake, texts_of};
 use crate::exit::Exit;
 use crate::find::find_candidate;
 use crate::host::Host;
-use crate::judge::check_plan;
+use crate::judge::{check_plan, check_refutation};
 use crate::outcome::{
-    Outcome, outcome_of_answer, outcome_of_candidate, outcome_of_comparison, outcome_of_usage,
+    Outcome, outcome_of_answer, outcome_of_candidate, outcome_of_comparison, outcome_of_refutation,
+    outcome_of_usage,
 };
 use crate::print::{complain, print};
 use cli_engine::{Refusal, compare};
@@ -73,11 +74,14 @@ fn outcome_of_call<H: Host>(
         Call::CheckPlan(arguments) => {
             outcome_of_answer(alloc, &check_plan(alloc, host, arguments))
         }
+        Call::CheckRefutation(arguments) => {
+            outcome_of_refutation(alloc, &check_refutation(alloc, host, arguments))
+        }
     }
 }
 
-fn answer_of_comparison(comparison: &Comparison<'_>) -> Result<bool, Refusal> {
-    let Comparison {
+fn answer_of_comparison(comparison: &CompareArguments<'_>) -> Result<bool, Refusal> {
+    let CompareArguments {
         version,
         relation,
         other,

@@ -10,8 +10,8 @@ ghost use Rattle.cli_engine.specs.Texts.{sources_of};
 
 use crate::arguments::{Arguments, Options};
 use crate::host::{Host, ReadError};
-use cli_engine::{Fault, Place, read_sources};
-use index::Source;
+use cli_engine::{Fault, Input, read_sources};
+use index::IndexSource;
 use kept_index::{KeepError, keep};
 use std::alloc::{AllocError, Global};
 
@@ -25,12 +25,39 @@ pub(crate) struct Texts {
     pub(crate) preferences: Option<Vec<u8>>,
 }
 
-/// The texts that a plan is judged by, with nothing in the place of those that weren't read.
+/// The texts that a plan or a refutation is judged by, with nothing in the place of those that weren't read.
 #[derive(Drop)]
-pub(crate) struct PlanTexts {
+pub(crate) struct JudgedTexts {
     pub(crate) texts: Texts,
     pub(crate) request: Vec<u8>,
-    pub(crate) plan: Vec<u8>,
+    pub(crate) judged: Vec<u8>,
+}
+
+/// What is judged.
+#[derive(Clone, Copy)]
+pub(crate) enum Judged {
+    /// A plan.
+    Plan,
+    /// A refutation.
+    Refutation,
+}
+
+impl Judged {
+    // The place at which it is refused.
+    fn place(self) -> Input {
+        match self {
+            Judged::Plan => Input::Plan,
+            Judged::Refutation => Input::Refutation,
+        }
+    }
+
+    // The text of one without a step or a line.
+    fn empty_text(self) -> &'static [u8] {
+        match self {
+            Judged::Plan => b"plan 1\n",
+            Judged::Refutation => b"refutation 1\n",
+        }
+    }
 }
 
 /// Reads the files of these options in the order in which their texts are judged: the status file, the sources, the
@@ -40,7 +67,7 @@ pub(crate) struct PlanTexts {
 pub(crate) fn read_texts<H: Host>(
     alloc: Global,
     host: &mut H,
-    stopped_at: &mut Option<Place>,
+    stopped_at: &mut Option<Input>,
     options: &Options<'_>,
 ) -> Result<Texts, AllocError>
     ensures count { IfOk result (λ texts.
@@ -62,14 +89,14 @@ pub(crate) fn read_texts<H: Host>(
         alloc,
         host,
         stopped_at,
-        Place::Status,
+        Input::Status,
         options.status.as_bytes(),
     )?;
     let sources = read_text(
         alloc,
         host,
         stopped_at,
-        Place::Sources,
+        Input::Sources,
         options.sources.as_bytes(),
     )?;
     let indices = read_indices(alloc, host, stopped_at, sources.as_slice())?;
@@ -83,31 +110,33 @@ pub(crate) fn read_texts<H: Host>(
 }
 
 /// Reads the files of these arguments in the order in which their texts are judged: those of the options, the request,
-/// the plan. Where it stops is as `read_texts` says. Memory alone can fail.
-pub(crate) fn read_plan_texts<H: Host>(
+/// the plan or the refutation. Where it stops is as `read_texts` says. Memory alone can fail.
+pub(crate) fn read_judged_texts<H: Host>(
     alloc: Global,
     host: &mut H,
-    stopped_at: &mut Option<Place>,
+    stopped_at: &mut Option<Input>,
     arguments: &Arguments<'_>,
-) -> Result<PlanTexts, AllocError>
+    judged: Judged,
+) -> Result<JudgedTexts, AllocError>
     ensures count { IfOk result (λ read.
         HasItsIndices (sources_of read.texts.sources.items) (map (λ text. text.items) read.texts.indices.items)) }
     ensures found { (at : Files) → H.files host.old ≡ Some at → IfOk result (λ read. stopped_at.new ≡ None → AreKeptTextsOf at
-        arguments.now (texts_with arguments.now.options read.texts read.request.items) read.plan.items) }
+        arguments.now (texts_with arguments.now.options read.texts read.request.items) read.judged.items) }
 {
     let texts = read_texts(alloc, host, stopped_at, &arguments.options)?;
     let request = read_text(
         alloc,
         host,
         stopped_at,
-        Place::Request,
+        Input::Request,
         arguments.request.as_bytes(),
     )?;
-    let plan = read_plan(alloc, host, stopped_at, arguments.plan.as_bytes())?;
-    Ok(PlanTexts {
+    let path = arguments.judged.as_bytes();
+    let judged = read_judged(alloc, host, stopped_at, judged, path)?;
+    Ok(JudgedTexts {
         texts,
         request,
-        plan,
+        judged,
     })
 }
 
@@ -115,8 +144,8 @@ pub(crate) fn read_plan_texts<H: Host>(
 fn read_text<H: Host>(
     alloc: Global,
     host: &mut H,
-    stopped_at: &mut Option<Place>,
-    place: Place,
+    stopped_at: &mut Option<Input>,
+    place: Input,
     path: &[u8],
 ) -> Result<Vec<u8>, AllocError>
     ensures text { (at : Files) → H.files host.old ≡ Some at
@@ -140,7 +169,7 @@ fn read_text<H: Host>(
 }
 
 // Reading stops at this place, unless it has stopped before.
-fn stop(stopped_at: &mut Option<Place>, place: Place)
+fn stop(stopped_at: &mut Option<Input>, place: Input)
     ensures { stopped_at.new ≡ option_or stopped_at.old (Some place) }
 {
     *stopped_at = stopped_at.or(Some(place));
@@ -150,7 +179,7 @@ fn stop(stopped_at: &mut Option<Place>, place: Place)
 fn read_indices<H: Host>(
     alloc: Global,
     host: &mut H,
-    stopped_at: &mut Option<Place>,
+    stopped_at: &mut Option<Input>,
     sources: &[u8],
 ) -> Result<Vec<Vec<u8>>, AllocError>
     ensures count { IfOk result (λ texts. HasItsIndices (sources_of sources.now) (map (λ text. text.items) texts.items)) }
@@ -168,7 +197,7 @@ fn read_indices<H: Host>(
         }
         Err(Fault::OutOfMemory) => Err(AllocError),
         Err(_) => {
-            stop(stopped_at, Place::Sources);
+            stop(stopped_at, Input::Sources);
             Ok(Vec::new(alloc))
         }
     }
@@ -178,8 +207,8 @@ fn read_indices<H: Host>(
 fn read_each<H: Host>(
     alloc: Global,
     host: &mut H,
-    stopped_at: &mut Option<Place>,
-    named: &[Source<'_>],
+    stopped_at: &mut Option<Input>,
+    named: &[IndexSource<'_>],
 ) -> Result<Vec<Vec<u8>>, AllocError>
     ensures count { IfOk result (λ texts. length texts.items ≡ length named.now) }
     ensures texts { (at : Files) → H.files host.old ≡ Some at → IfOk result (λ texts. stopped_at.new ≡ None
@@ -191,7 +220,7 @@ fn read_each<H: Host>(
 {
     let mut texts = Vec::new(alloc);
     for source in named {
-        let place = Place::Index(texts.len() + 1);
+        let place = Input::Index(texts.len() + 1);
         texts.push(keep_index(alloc, host, stopped_at, place, source.file())?)?;
     }
     Ok(texts)
@@ -202,8 +231,8 @@ fn read_each<H: Host>(
 fn keep_index<H: Host>(
     alloc: Global,
     host: &mut H,
-    stopped_at: &mut Option<Place>,
-    place: Place,
+    stopped_at: &mut Option<Input>,
+    place: Input,
     path: &[u8],
 ) -> Result<Vec<u8>, AllocError>
     ensures text { (at : Files) → H.files host.old ≡ Some at
@@ -247,7 +276,7 @@ fn keep_file<H: Host>(alloc: Global, host: &mut H, path: &[u8]) -> Result<Vec<u8
 pub(crate) fn read_whole_indices<H: Host>(
     alloc: Global,
     host: &mut H,
-    stopped_at: &mut Option<Place>,
+    stopped_at: &mut Option<Input>,
     sources: &[u8],
 ) -> Result<Vec<Vec<u8>>, AllocError>
     ensures count { IfOk result (λ texts. HasItsIndices (sources_of sources.now) (map (λ text. text.items) texts.items)) }
@@ -259,7 +288,7 @@ pub(crate) fn read_whole_indices<H: Host>(
         }
         Err(Fault::OutOfMemory) => Err(AllocError),
         Err(_) => {
-            stop(stopped_at, Place::Sources);
+            stop(stopped_at, Input::Sources);
             Ok(Vec::new(alloc))
         }
     }
@@ -269,14 +298,14 @@ pub(crate) fn read_whole_indices<H: Host>(
 fn read_whole_each<H: Host>(
     alloc: Global,
     host: &mut H,
-    stopped_at: &mut Option<Place>,
-    named: &[Source<'_>],
+    stopped_at: &mut Option<Input>,
+    named: &[IndexSource<'_>],
 ) -> Result<Vec<Vec<u8>>, AllocError>
     ensures count { IfOk result (λ texts. length texts.items ≡ length named.now) }
 {
     let mut texts = Vec::new(alloc);
     for source in named {
-        let place = Place::Index(texts.len() + 1);
+        let place = Input::Index(texts.len() + 1);
         texts.push(read_text(alloc, host, stopped_at, place, source.file())?)?;
     }
     Ok(texts)
@@ -286,7 +315,7 @@ fn read_whole_each<H: Host>(
 fn read_preferences<H: Host>(
     alloc: Global,
     host: &mut H,
-    stopped_at: &mut Option<Place>,
+    stopped_at: &mut Option<Input>,
     path: Option<&str>,
 ) -> Result<Option<Vec<u8>>, AllocError>
     ensures text { (at : Files) → H.files host.old ≡ Some at → IfOk result (λ text. IsPreferredUnless stopped_at.new at
@@ -299,17 +328,18 @@ fn read_preferences<H: Host>(
     match path {
         None => Ok(None),
         Some(path) => {
-            let text = read_text(alloc, host, stopped_at, Place::Preferences, path.as_bytes())?;
+            let text = read_text(alloc, host, stopped_at, Input::Preferences, path.as_bytes())?;
             Ok(Some(text))
         }
     }
 }
 
-// The plan, or one without a step where it isn't read.
-fn read_plan<H: Host>(
+// The text that is judged, or one without a step or a line where it isn't read.
+fn read_judged<H: Host>(
     alloc: Global,
     host: &mut H,
-    stopped_at: &mut Option<Place>,
+    stopped_at: &mut Option<Input>,
+    judged: Judged,
     path: &[u8],
 ) -> Result<Vec<u8>, AllocError>
     ensures text { (at : Files) → H.files host.old ≡ Some at
@@ -317,9 +347,9 @@ fn read_plan<H: Host>(
     ensures stays { stopped_at.new ≡ None → stopped_at.old ≡ None }
     ensures unchanged { H.files host.new ≡ H.files host.old }
 {
-    let plan = read_text(alloc, host, stopped_at, Place::Plan, path)?;
+    let text = read_text(alloc, host, stopped_at, judged.place(), path)?;
     if stopped_at.is_some() {
-        return b"plan 1\n".to_vec(alloc);
+        return judged.empty_text().to_vec(alloc);
     }
-    Ok(plan)
+    Ok(text)
 }

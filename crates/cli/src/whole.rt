@@ -8,7 +8,7 @@ use crate::arguments::Options;
 use crate::host::Host;
 use crate::inputs::{inputs_of, slices_of, unless_unread};
 use crate::read::{Texts, read_whole_indices};
-use cli_engine::{Place, Refusal, candidate_bytes};
+use cli_engine::{Input, Refusal, candidate_bytes};
 use std::alloc::{AllocError, Global};
 
 /// This refusal, but where it is of an index, the first refusal by the whole texts of the indices, which are read once
@@ -23,7 +23,7 @@ pub(crate) fn with_line<H: Host>(
     ensures { is_of_index refused.place ≡ false → result ≡ refused }
 {
     match refused.place {
-        Place::Index(_) => match read_whole(alloc, host, options, texts) {
+        Input::Index(_) => match read_whole(alloc, host, options, texts) {
             Ok(Some(told)) => told,
             Ok(None) => refused,
             Err(AllocError) => Refusal::from(AllocError),

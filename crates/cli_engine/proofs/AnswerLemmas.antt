@@ -14,8 +14,8 @@ use Rattle.cli_engine.specs.Meaning.{GoodPlanIsAnswered, HasOneAnswer, IsReadAs,
 use Rattle.cli_engine.specs.Reading.{out_of_memory}
 use Rattle.cli_engine.specs.Texts.{Texts, plan_of}
 use Rattle.cli_engine.specs.declared.refusal.Fault.{Fault}
-use Rattle.cli_engine.specs.declared.refusal.Place.{Place}
-use Rattle.cli_engine.specs.declared.refusal.Place.TheVariants as place
+use Rattle.cli_engine.specs.declared.refusal.Input.{Input}
+use Rattle.cli_engine.specs.declared.refusal.Input.TheVariants as place
 use Rattle.cli_engine.specs.declared.refusal.Refusal.{Refusal}
 use Rattle.cli_engine.proofs.DistinctLemmas.{distinct_start}
 use Rattle.cli_engine.proofs.MeaningLemmas.{meaning_is_not_refused, ok-same, one_meaning}
@@ -53,15 +53,15 @@ yes_keeps_promise texts plan answer = record {
 }
 
 -- a plan that is read isn't refused, so that a refusal beside a meaning is want of memory
-wanting : (texts : Texts) (plan : List ℕ) (steps : List Step) (where_ : Place) (found : Fault) → plan_of plan ≡ Ok steps
+wanting : (texts : Texts) (plan : List ℕ) (steps : List Step) (where_ : Input) (found : Fault) → plan_of plan ≡ Ok steps
     → IsFault texts plan where_ found → (where_ ≡ place.Plan) ⊎ (where_ ≡ place.Memory)
     → record { place = where_; fault = found } ≡ out_of_memory
 wanting texts plan steps where_ found read refused (inl is) = absurd
-    (let fails : plan_of plan ≡ Err found = (subst (λ (w : Place). IsFault texts plan w found) is refused).1 in
+    (let fails : plan_of plan ≡ Err found = (subst (λ (w : Input). IsFault texts plan w found) is refused).1 in
     let e : Ok steps ≡ Err found = sym read ∙ fails in cc)
 wanting texts plan steps where_ found read refused (inr is) =
-    let lacks : found ≡ out_of_memory.fault = subst (λ (w : Place). IsFault texts plan w found) is refused in
-    ap (λ (w : Place). record { place = w; fault = found }) is
+    let lacks : found ≡ out_of_memory.fault = subst (λ (w : Input). IsFault texts plan w found) is refused in
+    ap (λ (w : Input). record { place = w; fault = found }) is
     ∙ ap (λ (f : Fault). record { place = place.Memory; fault = f }) lacks
 
 pub good_plan_is_answered : GoodPlanIsAnswered

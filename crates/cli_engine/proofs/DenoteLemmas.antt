@@ -7,7 +7,7 @@ use Rattle.index.specs.declared.error.IndexFault.{IndexFault}
 use Rattle.pins.specs.Prefs.{Preferences}
 use Rattle.rules.specs.Available.{Index}
 use Rattle.rules.specs.Database.{HasDistinctNames}
-use Rattle.rules.specs.Entry.{Entry, records_of}
+use Rattle.rules.specs.FileRecord.{FileRecord, records_of}
 use Rattle.rules.specs.Universe.{IsUniverse, Universe}
 use Rattle.rules.specs.Verdict.{IsBuiltOn, UniverseIsBuilt}
 use Rattle.rules.specs.declared.goal.GoalLine.{GoalLine}
@@ -18,12 +18,12 @@ use Rattle.cli_engine.specs.Indices.{index_then, indices_from, read_indices, wit
 use Rattle.cli_engine.specs.Reading.{out_of_memory}
 use Rattle.cli_engine.specs.Texts.{Texts, sources_of}
 use Rattle.cli_engine.specs.declared.refusal.Fault.TheVariants as fault
-use Rattle.cli_engine.specs.declared.refusal.Place.TheVariants as place
+use Rattle.cli_engine.specs.declared.refusal.Input.TheVariants as place
 use Rattle.cli_engine.specs.declared.refusal.Refusal.{Refusal}
 use mathlib.Core.Logic.{inl, inr}
 
 -- the universe of a request over these records is built on them
-pub built_on : UniverseIsBuilt → (arch text : List ℕ) (u : Universe) (lent entries : List Entry) (indices : List Index) (prefs : Preferences)
+pub built_on : UniverseIsBuilt → (arch text : List ℕ) (u : Universe) (lent entries : List FileRecord) (indices : List Index) (prefs : Preferences)
     → lent ≡ entries → HasDistinctNames (records_of entries)
     → ((lines : List GoalLine) × IsRequested arch text (records_of lent) indices prefs lines u) → IsBuiltOn (records_of entries) u
 built_on law arch text u lent entries indices prefs same distinct requested =
@@ -45,7 +45,7 @@ index_place : (arch : List ℕ) (number before : ℕ) (sources : List SourceText
     → indices_from arch number before sources texts ≡ Err refused → IsAtAnIndex refused
 index_place arch number before [] texts refused same = absurd (let e = same in cc)
 index_place arch number before (source ∷ sources) [] refused same = absurd (let e = same in cc)
-index_place arch number before (source ∷ sources) (text ∷ texts) refused same = here (read_index arch source.release before text) same
+index_place arch number before (source ∷ sources) (text ∷ texts) refused same = here (read_index arch number source.release before text) same
     (λ count. index_place arch (number + 1) (before + count) sources texts refused)
   where
     err-same : (one other : Refusal) (made : Result (List Index) Refusal) → made ≡ Err one → made ≡ Err other → other ≡ one

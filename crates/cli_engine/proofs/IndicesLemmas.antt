@@ -3,12 +3,14 @@ use Rattle.std.proofs.Common.{◌≡◌, ◌⊎◌, ℕ, ◌+◌, ◌<◌, ◌�
 use Rattle.std.proofs.lemmas.Bool.{leb-false}
 use Rattle.std.proofs.lemmas.List.{drop_more, length-append, map-append}
 use Rattle.candidates.specs.Inputs.{indices_of}
-use Rattle.index.specs.Index.{ReadIndex, ReadStanzas, entry_then, read_index, read_item, stanzas_in, with_release, with_stanzas}
+use Rattle.index.specs.Index.{ReadIndex, ReadStanzas, entry_then, first_place, next_place, read_index, read_item, stanzas_in, with_release, with_stanzas}
 use Rattle.index.specs.Sources.{SourceText}
 use Rattle.index.specs.declared.error.IndexFault.{IndexFault}
 use Rattle.index.specs.declared.error.IndexFault.TheVariants as fault
 use Rattle.rules.specs.Available.{Index}
-use Rattle.rules.specs.Step.{Listed}
+use Rattle.rules.specs.FileRecord.{IndexStanza}
+use Rattle.rules.specs.Step.{IndexPackage}
+use Rattle.rules.specs.declared.index_place.IndexPlace.{IndexPlace}
 use Rattle.rules.specs.declared.limits.TheConstants.{PACKAGES, TEXT_BYTES}
 use Rattle.rules.specs.declared.release.Release.{Release}
 use Rattle.stanza.specs.Stanza.{StanzaText, items_of}
@@ -42,7 +44,7 @@ at_end arch number before all (source ∷ sources) texts none = absurd (omega (a
 -- the texts before these are read and the first of them is: the indices go on behind it
 step : (arch : List ℕ) (number before i : ℕ) (all : List Index) (source : SourceText) (sources : List SourceText)
     (texts : List (Bor (List ℕ))) (d : Bor (List ℕ)) (read : ReadIndex) → i < length texts
-    → read_index arch source.release before (get_or texts i d).now ≡ Ok read
+    → read_index arch number source.release before (get_or texts i d).now ≡ Ok read
     → with_indices all (indices_from arch number before (source ∷ sources) (bytes_of (drop i texts)))
     ≡ with_indices (all ++ read.index ∷ [])
     (indices_from arch (number + 1) (before + length read.index.listed) sources (bytes_of (drop (i + 1) texts)))
@@ -59,16 +61,16 @@ put_behind some more read put =
 
 -- behind an index that is read, the indices go on
 pub goes_on : (arch : List ℕ) (number before i : ℕ) (some more : List ReadIndex) (left : List SourceText) (source : SourceText)
-    (sources : List SourceText) (texts : List (Bor (List ℕ))) (d : Bor (List ℕ)) (release : Release) (read : ReadIndex) (listed : List Listed)
+    (sources : List SourceText) (texts : List (Bor (List ℕ))) (d : Bor (List ℕ)) (release : Release) (read : ReadIndex) (listed : List IndexPackage)
     → i < length texts → left ≡ source ∷ sources → release ≡ source.release
-    → read_index arch release before (get_or texts i d).now ≡ Ok read → listed ≡ read.index.listed → more ≡ some ++ read ∷ []
+    → read_index arch number release before (get_or texts i d).now ≡ Ok read → listed ≡ read.index.listed → more ≡ some ++ read ∷ []
     → with_indices (indices_of some) (indices_from arch number before left (bytes_of (drop i texts)))
     ≡ with_indices (indices_of more)
     (indices_from arch (number + 1) (before + length listed) sources (bytes_of (drop (i + 1) texts)))
 goes_on arch number before i some more left source sources texts d release read listed within next keys is those put =
     ap (λ named. with_indices (indices_of some) (indices_from arch number before named (bytes_of (drop i texts)))) next
     ∙ step arch number before i (indices_of some) source sources texts d read within
-    (ap (λ r. read_index arch r before (get_or texts i d).now) (sym keys) ∙ is)
+    (ap (λ r. read_index arch number r before (get_or texts i d).now) (sym keys) ∙ is)
     ∙ ap (λ all. with_indices all (indices_from arch (number + 1) (before + length read.index.listed) sources (bytes_of (drop (i + 1) texts))))
     (put_behind some more read put)
     ∙ ap (λ found. with_indices (indices_of more) (indices_from arch (number + 1) (before + length found) sources (bytes_of (drop (i + 1) texts)))) (sym those)
@@ -79,7 +81,7 @@ pub is_refused : (arch : List ℕ) (number before i : ℕ) (all : List Index) (l
     → i < length texts → left ≡ source ∷ sources → release ≡ source.release
     → whole ≡ with_indices all (indices_from arch number before left (bytes_of (drop i texts)))
     → ((later : ℕ → Result (List Index) Refusal) → (refused ≡ out_of_memory)
-    ⊎ (index_then number (read_index arch release before (get_or texts i d).now) later ≡ Err refused))
+    ⊎ (index_then number (read_index arch number release before (get_or texts i d).now) later ≡ Err refused))
     → (refused ≡ out_of_memory) ⊎ (whole ≡ Err refused)
 is_refused arch number before i all left source sources texts d release refused whole within next keys same is =
     elim (is (λ count. indices_from arch (number + 1) (before + count) sources (bytes_of (drop (i + 1) texts)))) [
@@ -87,7 +89,7 @@ is_refused arch number before i all left source sources texts d release refused 
       | inr found ↦ inr (same
           ∙ ap (λ named. with_indices all (indices_from arch number before named (bytes_of (drop i texts)))) next
           ∙ ap (λ rest. with_indices all (indices_from arch number before (source ∷ sources) rest)) (bytes_more texts i d within)
-          ∙ ap (λ r. with_indices all (index_then number (read_index arch r before (get_or texts i d).now)
+          ∙ ap (λ r. with_indices all (index_then number (read_index arch number r before (get_or texts i d).now)
           (λ count. indices_from arch (number + 1) (before + count) sources (bytes_of (drop (i + 1) texts))))) (sym keys)
           ∙ ap (with_indices all) found)
     ]
@@ -99,11 +101,12 @@ ok-same : {A E : Type 0} (one other : A) (made : Result A E) → made ≡ Ok one
 ok-same one other made first second = let e = sym first ∙ second in cc
 
 -- stanzas that are read behind so many packages are no more than are read in all
-stanzas_fit : (arch : List ℕ) (items : List (Result StanzaText StanzaError)) (count : ℕ) (read : ReadStanzas)
-    → stanzas_in arch items count ≡ Ok read → count ≤ PACKAGES → count + length read.listed ≤ PACKAGES
-stanzas_fit arch [] count read same within =
-    subst (λ (r : ReadStanzas). count + length r.listed ≤ PACKAGES) (ok-same (record { listed = []; skipped = 0 }) read (stanzas_in arch [] count) refl same) (omega arith)
-stanzas_fit arch (item ∷ items) count read same within = at (read_item arch item) same (stanzas_fit arch items)
+stanzas_fit : (arch : List ℕ) (place : IndexPlace) (items : List (Result StanzaText StanzaError)) (count : ℕ) (read : ReadStanzas)
+    → stanzas_in arch place items count ≡ Ok read → count ≤ PACKAGES → count + length read.listed ≤ PACKAGES
+stanzas_fit arch place [] count read same within =
+    subst (λ (r : ReadStanzas). count + length r.listed ≤ PACKAGES) (ok-same (record { listed = []; skipped = 0 }) read (stanzas_in arch place [] count) refl same) (omega arith)
+stanzas_fit arch place (item ∷ items) count read same within =
+    at (read_item arch place item) same (stanzas_fit arch (next_place place) items)
   where
     behind : (some : ReadStanzas) (left : ℕ) (later : Result ReadStanzas IndexFault) → with_stanzas some later ≡ Ok read
         → count + length some.listed ≡ left
@@ -113,37 +116,37 @@ stanzas_fit arch (item ∷ items) count read same within = at (read_item arch it
         (ok-same (record { listed = some.listed ++ more.listed; skipped = some.skipped + more.skipped }) read (with_stanzas some (Ok more)) refl same)
         (let fit = fits more refl in let sum = length-append some.listed more.listed in omega (arith, fit, sum))
 
-    counted : (listed : Listed) (full : Bool) → nat_le PACKAGES count ≡ full
-        → cond full (Err fault.TooLarge) (with_stanzas (record { listed = listed ∷ []; skipped = 0 }) (stanzas_in arch items (count + 1))) ≡ Ok read
-        → ((count : ℕ) (r : ReadStanzas) → stanzas_in arch items count ≡ Ok r → count ≤ PACKAGES → count + length r.listed ≤ PACKAGES)
+    counted : (listed : IndexPackage) (full : Bool) → nat_le PACKAGES count ≡ full
+        → cond full (Err fault.TooLarge) (with_stanzas (record { listed = listed ∷ []; skipped = 0 }) (stanzas_in arch (next_place place) items (count + 1))) ≡ Ok read
+        → ((count : ℕ) (r : ReadStanzas) → stanzas_in arch (next_place place) items count ≡ Ok r → count ≤ PACKAGES → count + length r.listed ≤ PACKAGES)
         → count + length read.listed ≤ PACKAGES
     counted listed true is same later = absurd (let e = same in cc)
     counted listed false is same later =
-        behind (record { listed = listed ∷ []; skipped = 0 }) (count + 1) (stanzas_in arch items (count + 1)) same refl
+        behind (record { listed = listed ∷ []; skipped = 0 }) (count + 1) (stanzas_in arch (next_place place) items (count + 1)) same refl
         (λ r done. later (count + 1) r done (omega (arith, leb-false PACKAGES count is)))
 
-    at : (entry : Result (Option Listed) IndexFault) → entry_then count entry (stanzas_in arch items) ≡ Ok read
-        → ((count : ℕ) (r : ReadStanzas) → stanzas_in arch items count ≡ Ok r → count ≤ PACKAGES → count + length r.listed ≤ PACKAGES)
+    at : (entry : Result (Option IndexStanza) IndexFault) → entry_then count entry (stanzas_in arch (next_place place) items) ≡ Ok read
+        → ((count : ℕ) (r : ReadStanzas) → stanzas_in arch (next_place place) items count ≡ Ok r → count ≤ PACKAGES → count + length r.listed ≤ PACKAGES)
         → count + length read.listed ≤ PACKAGES
     at (Err refused) same later = absurd (let e = same in cc)
-    at (Ok None) same later = behind (record { listed = []; skipped = 1 }) (count + 0) (stanzas_in arch items (count + 0)) same refl
+    at (Ok None) same later = behind (record { listed = []; skipped = 1 }) (count + 0) (stanzas_in arch (next_place place) items (count + 0)) same refl
         (λ r done. later (count + 0) r done (omega (arith, within)))
-    at (Ok (Some listed)) same later = counted listed (nat_le PACKAGES count) refl same later
+    at (Ok (Some indexed)) same later = counted indexed.listed (nat_le PACKAGES count) refl same later
 
 -- an index that is read behind so many packages has no more than are read in all
-pub index_fits : (arch : List ℕ) (release : Release) (before : ℕ) (text : List ℕ) (read : ReadIndex)
-    → read_index arch release before text ≡ Ok read → before ≤ PACKAGES → before + length read.index.listed ≤ PACKAGES
-index_fits arch release before text read same within = at (nat_lt TEXT_BYTES (length text)) same
+pub index_fits : (arch : List ℕ) (number : ℕ) (release : Release) (before : ℕ) (text : List ℕ) (read : ReadIndex)
+    → read_index arch number release before text ≡ Ok read → before ≤ PACKAGES → before + length read.index.listed ≤ PACKAGES
+index_fits arch number release before text read same within = at (nat_lt TEXT_BYTES (length text)) same
   where
-    released : (found : Result ReadStanzas IndexFault) → stanzas_in arch (items_of false text) before ≡ found
+    released : (found : Result ReadStanzas IndexFault) → stanzas_in arch (first_place number) (items_of false text) before ≡ found
         → with_release release found ≡ Ok read → before + length read.index.listed ≤ PACKAGES
     released (Err refused) is same = absurd (let e = same in cc)
     released (Ok stanzas) is same = subst (λ (r : ReadIndex). before + length r.index.listed ≤ PACKAGES)
         (ok-same (record { index = record { release = release; listed = stanzas.listed }; skipped = stanzas.skipped }) read
         (with_release release (Ok stanzas)) refl same)
-        (stanzas_fit arch (items_of false text) before stanzas is within)
+        (stanzas_fit arch (first_place number) (items_of false text) before stanzas is within)
 
-    at : (b : Bool) → cond b (Err fault.TooLarge) (with_release release (stanzas_in arch (items_of false text) before)) ≡ Ok read
+    at : (b : Bool) → cond b (Err fault.TooLarge) (with_release release (stanzas_in arch (first_place number) (items_of false text) before)) ≡ Ok read
         → before + length read.index.listed ≤ PACKAGES
     at true same = absurd (let e = same in cc)
-    at false same = released (stanzas_in arch (items_of false text) before) refl same
+    at false same = released (stanzas_in arch (first_place number) (items_of false text) before) refl same

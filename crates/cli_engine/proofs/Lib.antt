@@ -3,3 +3,4 @@ pub mod DenoteLemmas
 pub mod DistinctLemmas
 pub mod IndicesLemmas
 pub mod MeaningLemmas
+pub mod RefutedLemmas

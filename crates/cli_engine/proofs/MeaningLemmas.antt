@@ -4,7 +4,7 @@ use Rattle.candidates.specs.Inputs.{inputs_of}
 use Rattle.pins.specs.Prefs.{Preferences}
 use Rattle.rules.specs.Available.{Index, all_listed}
 use Rattle.rules.specs.Database.{Record}
-use Rattle.rules.specs.Entry.{records_of}
+use Rattle.rules.specs.FileRecord.{records_of}
 use Rattle.rules.specs.Universe.{IsUniverse, Universe}
 use Rattle.rules.specs.declared.goal.GoalLine.{GoalLine}
 use Rattle.rules.proofs.UniverseLemmas.{one_universe}
@@ -19,8 +19,8 @@ use Rattle.cli_engine.specs.Meaning.{HasOneMeaning, MeaningIsNotRefused}
 use Rattle.cli_engine.specs.Texts.{Texts, preferences_of, sources_of, status_of}
 use Rattle.cli_engine.specs.declared.refusal.Fault.{Fault}
 use Rattle.cli_engine.specs.declared.refusal.Fault.TheVariants as fault
-use Rattle.cli_engine.specs.declared.refusal.Place.{Place}
-use Rattle.cli_engine.specs.declared.refusal.Place.TheVariants as place
+use Rattle.cli_engine.specs.declared.refusal.Input.{Input}
+use Rattle.cli_engine.specs.declared.refusal.Input.TheVariants as place
 use mathlib.Core.Logic.{inl, inr}
 
 -- a result has one value
@@ -91,6 +91,7 @@ not_requested arch text start indices prefs lines u (fault.UnknownName line) is 
     let same = one_lines arch text lines found.lines is.read found.read in
     absurd (let e : None ≡ Some line = sym is.built.known ∙ ap (first_unknown start (all_listed indices)) same ∙ found.unknown in cc)
 not_requested arch text start indices prefs lines u (fault.Plan refused) is no_fault = no_fault
+not_requested arch text start indices prefs lines u (fault.Refutation refused) is no_fault = no_fault
 not_requested arch text start indices prefs lines u fault.TooLarge is found =
     let same = one_lines arch text lines found.lines is.read found.read in
     let other = subst (λ ls. IsTooLarge start indices prefs (goals_of ls)) (sym same) found.beyond in
@@ -113,7 +114,7 @@ not_asked texts u start found is asked = not_requested texts.arch texts.request 
     (one_start texts asked.start start asked.indices is.indices asked.read.listed is.read.listed) asked.refused)))
 
 -- texts that have a meaning have no fault before the plan
-not_refused : (texts : Texts) (u : Universe) (start : List Record) (plan : List ℕ) (where_ : Place) (found : Fault)
+not_refused : (texts : Texts) (u : Universe) (start : List Record) (plan : List ℕ) (where_ : Input) (found : Fault)
     → Denotes texts u start → IsFault texts plan where_ found → (where_ ≡ place.Plan) ⊎ (where_ ≡ place.Memory)
 not_refused texts u start plan (place.Version number) found is refused = absurd refused
 not_refused texts u start plan place.Status found is refused =
@@ -128,6 +129,7 @@ not_refused texts u start plan place.Preferences found is refused =
     absurd (let e : Ok is.prefs ≡ Err found = sym is.read.preferred ∙ refused.refused in cc)
 not_refused texts u start plan place.Request found is refused = absurd (not_asked texts u start found is refused)
 not_refused texts u start plan place.Plan found is refused = inl refl
+not_refused texts u start plan place.Refutation found is refused = absurd refused
 not_refused texts u start plan place.Memory found is refused = inr refl
 
 pub meaning_is_not_refused : MeaningIsNotRefused

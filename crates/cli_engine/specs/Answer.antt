@@ -19,8 +19,8 @@ use Rattle.cli_engine.specs.Before.{AreRead, IsFaultBefore}
 use Rattle.cli_engine.specs.Texts.{Texts, plan_of}
 use Rattle.cli_engine.specs.declared.refusal.Fault.{Fault}
 use Rattle.cli_engine.specs.declared.refusal.Fault.TheVariants as fault
-use Rattle.cli_engine.specs.declared.refusal.Place.{Place}
-use Rattle.cli_engine.specs.declared.refusal.Place.TheVariants as place
+use Rattle.cli_engine.specs.declared.refusal.Input.{Input}
+use Rattle.cli_engine.specs.declared.refusal.Input.TheVariants as place
 use Rattle.cli_engine.specs.declared.refusal.Refusal.{Refusal}
 
 -- there is a text of an index for each of the sources, where these are read
@@ -81,8 +81,8 @@ pub record IsAsked (texts : Texts) (found : Fault) : Type 0 where
   pub refused : IsRequestFault texts.arch texts.request start indices prefs found
 
 -- the texts before the place are read, and the text at the place has the fault; of no text, memory was wanting; no
--- version is read for a plan
-abbrev pub IsFault : Texts → List ℕ → Place → Fault → Type 0
+-- version and no refutation is read for a plan
+abbrev pub IsFault : Texts → List ℕ → Input → Fault → Type 0
 IsFault texts plan place.Request found = IsAsked texts found
 IsFault texts plan place.Plan found =
     ((u : Universe) × (start : List Record) × Denotes texts u start) × (plan_of plan ≡ Err found)

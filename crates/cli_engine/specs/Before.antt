@@ -4,14 +4,14 @@ use Rattle.index.specs.Sources.{SourceText}
 use Rattle.pins.specs.Prefs.{Preferences}
 use Rattle.rules.specs.Available.{Index}
 use Rattle.rules.specs.Database.{Record}
-use Rattle.rules.specs.Entry.{records_of}
+use Rattle.rules.specs.FileRecord.{records_of}
 use Rattle.status_text.specs.Slot.{FileSlot, entries_of}
 use Rattle.cli_engine.specs.Indices.{read_indices}
 use Rattle.cli_engine.specs.Texts.{Texts, status_of, sources_of, preferences_of}
 use Rattle.cli_engine.specs.declared.refusal.Fault.{Fault}
 use Rattle.cli_engine.specs.declared.refusal.Fault.TheVariants as fault
-use Rattle.cli_engine.specs.declared.refusal.Place.{Place}
-use Rattle.cli_engine.specs.declared.refusal.Place.TheVariants as place
+use Rattle.cli_engine.specs.declared.refusal.Input.{Input}
+use Rattle.cli_engine.specs.declared.refusal.Input.TheVariants as place
 use Rattle.cli_engine.specs.declared.refusal.Refusal.{Refusal}
 
 -- the status file is read without refusal
@@ -48,7 +48,7 @@ pub record AreRead (texts : Texts) (start : List Record) (indices : List Index) 
 
 -- the texts before the place are read, and the text at the place, which is before the request, has the fault; of no text,
 -- memory was wanting
-abbrev pub IsFaultBefore : Texts → Place → Fault → Type 0
+abbrev pub IsFaultBefore : Texts → Input → Fault → Type 0
 IsFaultBefore texts (place.Version number) found = ⊥
 IsFaultBefore texts place.Status found = status_of texts.arch texts.status ≡ Err found
 IsFaultBefore texts place.Sources found = HasStatus texts × (sources_of texts.sources ≡ Err found)
@@ -56,6 +56,7 @@ IsFaultBefore texts (place.Index number) found = IsIndexFault texts number found
 IsFaultBefore texts place.Preferences found = IsPreferencesFault texts found
 IsFaultBefore texts place.Request found = ⊥
 IsFaultBefore texts place.Plan found = ⊥
+IsFaultBefore texts place.Refutation found = ⊥
 IsFaultBefore texts place.Memory found = found ≡ fault.OutOfMemory
 
 -- the first refusal of the texts before the request, in the order of reading

@@ -4,14 +4,14 @@ use Rattle.std.specs.Option.{option_map, option_or}
 use Rattle.std.specs.Ordering.{is_lt, is_le, is_eq, is_ge, is_gt}
 use Rattle.std.specs.declared.cmp.Ordering.{Ordering}
 use Rattle.rules.specs.VersionFault.{first_fault}
-use Rattle.cli_engine.specs.declared.comparison.Relation.{Relation}
-use Rattle.cli_engine.specs.declared.comparison.Relation.TheVariants as relation
+use Rattle.cli_engine.specs.declared.comparison.Comparison.{Comparison}
+use Rattle.cli_engine.specs.declared.comparison.Comparison.TheVariants as relation
 use Rattle.cli_engine.specs.declared.refusal.Fault.TheVariants as fault
-use Rattle.cli_engine.specs.declared.refusal.Place.TheVariants as place
+use Rattle.cli_engine.specs.declared.refusal.Input.TheVariants as place
 use Rattle.cli_engine.specs.declared.refusal.Refusal.{Refusal}
 
 -- two versions in this order stand so to each other
-abbrev pub holds : Relation → Ordering → Bool
+abbrev pub holds : Comparison → Ordering → Bool
 holds relation.Earlier ordering = is_lt ordering
 holds relation.EarlierOrEqual ordering = is_le ordering
 holds relation.Equal ordering = is_eq ordering

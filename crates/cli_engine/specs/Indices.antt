@@ -5,7 +5,7 @@ use Rattle.index.specs.Sources.{SourceText}
 use Rattle.index.specs.declared.error.IndexFault.{IndexFault}
 use Rattle.rules.specs.Available.{Index}
 use Rattle.cli_engine.specs.declared.refusal.Fault.TheVariants as fault
-use Rattle.cli_engine.specs.declared.refusal.Place.TheVariants as place
+use Rattle.cli_engine.specs.declared.refusal.Input.TheVariants as place
 use Rattle.cli_engine.specs.declared.refusal.Refusal.{Refusal}
 
 -- these indices and then the later ones, if those aren't refused
@@ -23,7 +23,7 @@ index_then number (Ok read) later = with_indices (read.index ∷ []) (later (len
 abbrev pub indices_from : List ℕ → ℕ → ℕ → List SourceText → List (List ℕ) → Result (List Index) Refusal
 indices_from arch number before [] texts = Ok []
 indices_from arch number before (source ∷ sources) [] = Ok []
-indices_from arch number before (source ∷ sources) (text ∷ texts) = index_then number (read_index arch source.release before text)
+indices_from arch number before (source ∷ sources) (text ∷ texts) = index_then number (read_index arch number source.release before text)
     (λ count. indices_from arch (number + 1) (before + count) sources texts)
 
 -- the indices that the texts of the sources are, or the first refusal; they are counted from 1

@@ -5,4 +5,5 @@ pub mod Indices
 pub mod Inputs
 pub mod Meaning
 pub mod Reading
+pub mod Refuted
 pub mod Texts

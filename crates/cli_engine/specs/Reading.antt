@@ -2,8 +2,8 @@
 use Rattle.std.specs.Prelude.{◌≡◌, ◌≢◌, ◌⊎◌, Result, Ok, Err}
 use Rattle.cli_engine.specs.declared.refusal.Fault.{Fault}
 use Rattle.cli_engine.specs.declared.refusal.Fault.TheVariants as fault
-use Rattle.cli_engine.specs.declared.refusal.Place.{Place}
-use Rattle.cli_engine.specs.declared.refusal.Place.TheVariants as place
+use Rattle.cli_engine.specs.declared.refusal.Input.{Input}
+use Rattle.cli_engine.specs.declared.refusal.Input.TheVariants as place
 use Rattle.cli_engine.specs.declared.refusal.Refusal.{Refusal}
 
 -- a reading whose refusal is one of the faults
@@ -24,6 +24,6 @@ abbrev pub out_of_memory : Refusal
 out_of_memory = record { place = place.Memory; fault = fault.OutOfMemory }
 
 -- a fault of the text at this place as a refusal: of no text, where memory was wanting
-abbrev pub IsPlaced : Place → Fault → Refusal → Type 0
+abbrev pub IsPlaced : Input → Fault → Refusal → Type 0
 IsPlaced where_ found refused = ((found ≡ fault.OutOfMemory) × (refused ≡ out_of_memory))
     ⊎ ((found ≢ fault.OutOfMemory) × (refused ≡ record { place = where_; fault = found }))

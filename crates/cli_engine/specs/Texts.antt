@@ -3,6 +3,8 @@ use Rattle.std.specs.Prelude.{ℕ, List, [], Option, Some, None, Result, Ok, Err
 use Rattle.index.specs.Sources.{SourceText, read_sources}
 use Rattle.pins.specs.Prefs.{Preferences, read_preferences}
 use Rattle.plantext.specs.Plan.{read_plan}
+use Rattle.refutation.specs.declared.line.Line.{Line}
+use Rattle.refutation_text.specs.Text.{read_refutation}
 use Rattle.rules.specs.declared.release.Preference.{Preference}
 use Rattle.rules.specs.declared.step.Step.{Step}
 use Rattle.status_text.specs.Slot.{FileSlot}
@@ -65,3 +67,9 @@ preferences_of (Some text) target = with_target target (with_fault fault.Prefere
 -- what a plan is read as
 abbrev pub plan_of : List ℕ → Result (List Step) Fault
 plan_of text = with_fault fault.Plan (read_plan text)
+
+-- The refutation
+
+-- what a refutation is read as
+abbrev pub refutation_of : List ℕ → Result (List Line) Fault
+refutation_of text = with_fault fault.Refutation (read_refutation text)

@@ -1,18 +1,20 @@
 // A plan judged by texts, read in the order status, sources, indices, preferences, request and plan.
 
-ghost use Rattle.std.specs.Prelude.{◌≡◌, IfErr, IfOk, List, ℕ};
+ghost use Rattle.std.specs.Prelude.{◌≡◌, ◌<◌, ◌^◌, IfErr, IfOk, List, length, ℕ};
 ghost use Rattle.candidates.specs.Inputs.{indices_of};
 ghost use Rattle.rules.specs.Verdict.{IsBuiltOn, IsVerdict};
 ghost use Rattle.status_store.specs.Slots.{slot_records};
+ghost use Rattle.universe.specs.Universe.{HaveDistinctNames};
 ghost use Rattle.cli_engine.specs.Answer.{Denotes, HasItsIndices, IsAnswer, IsFirstRefusal};
 ghost use Rattle.cli_engine.specs.Before.{AreRead};
 ghost use Rattle.cli_engine.specs.Inputs.{texts_of};
+ghost use Rattle.cli_engine.specs.Refuted.{IsFirstRefutationRefusal};
 ghost use Rattle.cli_engine.specs.Texts.{sources_of};
 
 use crate::inputs::Inputs;
 use crate::plan::read_steps;
 use crate::read::{ReadTexts, read_texts};
-use crate::refusal::{Place, Refusal, refused_at};
+use crate::refusal::{Input, Refusal, refused_at};
 use crate::request::read_request;
 use index::Index;
 use pins::Prefs;
@@ -23,8 +25,8 @@ use status_view::{parse_packages, view};
 use std::alloc::{AllocError, Global};
 use universe::Universe;
 
-// The universe that the request is answered from, over the database, the indices and the preferences.
-fn universe_of<'p, 'a>(
+/// The universe that the request is answered from, over the database, the indices and the preferences.
+pub(crate) fn universe_of<'p, 'a>(
     alloc: Global,
     database: &Database<'a>,
     indices: &'p [Index<'a>],
@@ -34,7 +36,11 @@ fn universe_of<'p, 'a>(
     requires { AreRead (texts_of inputs.now) (slot_records database.now.slots) (indices_of indices.now) prefs.now }
     ensures ok { IfOk result (λ u. Denotes (texts_of inputs.now) u (slot_records database.now.slots)) }
     ensures built { IfOk result (λ u. IsBuiltOn (slot_records database.now.slots) u) }
+    ensures few { IfOk result (λ u. length u.pairs < 2 ^ 32) }
+    ensures distinct { IfOk result (λ u. HaveDistinctNames u.starts) }
     ensures err { (plan : List ℕ) → IfErr result (λ refused. IsFirstRefusal (texts_of inputs.now) plan refused) }
+    ensures err_beside { (refutation : List ℕ) → IfErr result (λ refused.
+        IsFirstRefutationRefusal (texts_of inputs.now) refutation refused) }
 {
     universe_is_built();
     let _names = database.names();
@@ -48,7 +54,7 @@ fn universe_of<'p, 'a>(
         inputs.arch,
     ) {
         Ok(universe) => Ok(universe),
-        Err(fault) => Err(refused_at(Place::Request, fault)),
+        Err(fault) => Err(refused_at(Input::Request, fault)),
     }
 }
 
@@ -88,7 +94,7 @@ fn judge_by<'a>(
     let universe = universe_of(alloc, database, indices.as_slice(), prefs, inputs)?;
     let steps = match read_steps(alloc, plan) {
         Ok(steps) => steps,
-        Err(fault) => return Err(refused_at(Place::Plan, fault)),
+        Err(fault) => return Err(refused_at(Input::Plan, fault)),
     };
     let verdict = judge(alloc, database, &universe, steps.as_slice())?;
     Ok(verdict)

@@ -4,13 +4,13 @@ ghost use Rattle.std.specs.Prelude.{◌≡◌, MatchResult, None, Some};
 ghost use Rattle.rules.specs.Version.{version_cmp};
 ghost use Rattle.cli_engine.specs.Comparison.{comparison_refusal, holds, version_refusal};
 
-use crate::refusal::{Fault, Place, Refusal};
+use crate::refusal::{Fault, Input, Refusal};
 use debversion::Version;
 use std::cmp::Ordering;
 
 /// How a version may stand to another, as `dpkg --compare-versions` has it.
 #[derive(Clone, Copy, Debug, PartialEq, Eq)]
-pub enum Relation {
+pub enum Comparison {
     /// It is earlier: `lt`.
     Earlier,
     /// It is earlier or the same: `le`.
@@ -25,18 +25,18 @@ pub enum Relation {
     Later,
 }
 
-impl Relation {
+impl Comparison {
     /// Whether two versions in this order stand so to each other.
     pub fn holds(self, ordering: Ordering) -> bool
         ensures { result ≡ holds self ordering }
     {
         match self {
-            Relation::Earlier => ordering.is_lt(),
-            Relation::EarlierOrEqual => ordering.is_le(),
-            Relation::Equal => ordering.is_eq(),
-            Relation::NotEqual => ordering.is_ne(),
-            Relation::LaterOrEqual => ordering.is_ge(),
-            Relation::Later => ordering.is_gt(),
+            Comparison::Earlier => ordering.is_lt(),
+            Comparison::EarlierOrEqual => ordering.is_le(),
+            Comparison::Equal => ordering.is_eq(),
+            Comparison::NotEqual => ordering.is_ne(),
+            Comparison::LaterOrEqual => ordering.is_ge(),
+            Comparison::Later => ordering.is_gt(),
         }
     }
 }
@@ -49,7 +49,7 @@ fn version_of(number: usize, text: &[u8]) -> Result<Version<'_>, Refusal>
     match Version::parse(text) {
         Ok(version) => Ok(version),
         Err(kind) => Err(Refusal {
-            place: Place::Version(number),
+            place: Input::Version(number),
             fault: Fault::Version(kind),
         }),
     }
@@ -57,7 +57,7 @@ fn version_of(number: usize, text: &[u8]) -> Result<Version<'_>, Refusal>
 
 /// Whether the version stands so to the other; a refusal is that of the first text that is no version. One pass over
 /// both, and no memory is taken.
-pub fn compare(version: &[u8], relation: Relation, other: &[u8]) -> Result<bool, Refusal>
+pub fn compare(version: &[u8], relation: Comparison, other: &[u8]) -> Result<bool, Refusal>
     ensures { MatchResult result
         (λ answer. (comparison_refusal version.now other.now ≡ None)
         × (answer ≡ holds relation (version_cmp version.now other.now)))

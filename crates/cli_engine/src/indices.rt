@@ -9,8 +9,8 @@ ghost use Rattle.cli_engine.specs.Indices as Spec;
 ghost use Rattle.cli_engine.specs.Reading.{out_of_memory};
 ghost use Rattle.cli_engine.specs.declared.refusal.Refusal.{Refusal as RefusalOf};
 
-use crate::refusal::{Fault, Place, Refusal, refused_at};
-use index::{Index, IndexError, Source};
+use crate::refusal::{Fault, Input, Refusal, refused_at};
+use index::{Index, IndexError, IndexSource};
 use rules::Release;
 use std::alloc::Global;
 
@@ -23,16 +23,16 @@ fn index_at<'a>(
     arch: &'a [u8],
     before: usize,
 ) -> Result<Index<'a>, Refusal>
-    ensures ok { IfOk result (λ index. Read.read_index arch.now release before text.now ≡ Ok index) }
+    ensures ok { IfOk result (λ index. Read.read_index arch.now number release before text.now ≡ Ok index) }
     ensures err { (later : ℕ → Result (List IndexValue) RefusalOf) → IfErr result (λ refused. (refused ≡ out_of_memory)
-        ⊎ (index_then number (Read.read_index arch.now release before text.now) later ≡ Err refused)) }
+        ⊎ (index_then number (Read.read_index arch.now number release before text.now) later ≡ Err refused)) }
 {
-    match Index::read(alloc, text, release, arch, before) {
+    match Index::read(alloc, text, release, arch, number, before) {
         Ok(index) => Ok(index),
         Err(IndexError::Refused(refused)) => {
-            Err(refused_at(Place::Index(number), Fault::Index(refused)))
+            Err(refused_at(Input::Index(number), Fault::Index(refused)))
         }
-        Err(IndexError::OutOfMemory) => Err(refused_at(Place::Index(number), Fault::OutOfMemory)),
+        Err(IndexError::OutOfMemory) => Err(refused_at(Input::Index(number), Fault::OutOfMemory)),
     }
 }
 
@@ -40,7 +40,7 @@ fn index_at<'a>(
 /// that of the index that has the first one too many. Linear in the texts.
 pub(crate) fn read_indices<'a>(
     alloc: Global,
-    sources: Vec<Source<'a>>,
+    sources: Vec<IndexSource<'a>>,
     texts: &[&'a [u8]],
     arch: &'a [u8],
 ) -> Result<Vec<Index<'a>>, Refusal>

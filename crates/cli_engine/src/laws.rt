@@ -1,6 +1,7 @@
 // What follows from what texts denote: each function's contract is the law.
 
 ghost use Rattle.cli_engine.specs.Meaning.{GoodPlanIsAnswered, HasOneAnswer, HasOneMeaning, MeaningIsNotRefused, YesKeepsPromise};
+ghost use Rattle.cli_engine.specs.Refuted.{RefutationHasOneAnswer, YesRefutes};
 
 /// Texts have one meaning: the universe and the start that they denote.
 pub fn texts_have_one_meaning()
@@ -27,4 +28,14 @@ pub fn yes_keeps_its_promise()
 /// The plan checker says yes to every plan of which this is true, unless memory is wanting.
 pub fn a_good_plan_is_answered_with_yes()
     ensures { GoodPlanIsAnswered }
+{}
+
+/// A refutation has one answer over texts.
+pub fn a_refutation_has_one_answer()
+    ensures { RefutationHasOneAnswer }
+{}
+
+/// If the refutation checker says yes, no selection of the admitted versions satisfies the request.
+pub fn yes_refutes()
+    ensures { YesRefutes }
 {}

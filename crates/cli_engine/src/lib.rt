@@ -1,11 +1,12 @@
 // A plan judged by texts: from the bytes of the status file, the sources, the indices, the preferences, the request and
-// the plan to the verdict, or to the first refusal in the order of reading; and the candidate of a name by the same texts.
-// It stands on the readers, on `candidates` and on `plancheck`, and uses nothing of what finds plans. The main calls are
-// `check_plan_bytes` and `candidate_bytes`.
+// the plan to the verdict, or to the first refusal in the order of reading; a refutation judged so; and the candidate of a
+// name by the same texts. It stands on the readers, on `candidates`, `plancheck` and `refutecheck`, and uses nothing of what
+// finds plans and refutations. The main calls are `check_plan_bytes`, `check_refutation_bytes` and `candidate_bytes`.
 #![tactic(auto)]
 
 mod candidate;
 mod check;
+mod check_refutation;
 mod comparison;
 mod indices;
 mod inputs;
@@ -22,13 +23,15 @@ mod status_refusal;
 pub use candidate::candidate_bytes;
 pub use candidates::Offer;
 pub use check::check_plan_bytes;
-pub use comparison::{Relation, compare};
+pub use check_refutation::check_refutation_bytes;
+pub use comparison::{Comparison, compare};
 pub use inputs::Inputs;
 pub use laws::{
     a_good_plan_is_answered_with_yes, a_meaning_is_not_refused, a_plan_has_one_answer,
-    texts_have_one_meaning, yes_keeps_its_promise,
+    a_refutation_has_one_answer, texts_have_one_meaning, yes_keeps_its_promise, yes_refutes,
 };
-pub use refusal::{Fault, Place, Refusal};
+pub use refusal::{Fault, Input, Refusal};
+pub use refutecheck::Verdict as RefutationVerdict;
 pub use rules::{Reason, Rule, Verdict};
 pub use sources::read_sources;
 pub use status_refusal::{NamedPackage, StatusRefusal};

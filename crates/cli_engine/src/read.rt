@@ -11,7 +11,7 @@ ghost use Rattle.cli_engine.specs.Texts.{sources_of};
 use crate::indices::read_indices;
 use crate::inputs::Inputs;
 use crate::preferences::read_preferences;
-use crate::refusal::{Place, Refusal, refused_at};
+use crate::refusal::{Input, Refusal, refused_at};
 use crate::sources::read_sources;
 use crate::status_file::read_status;
 use index::Index;
@@ -41,11 +41,11 @@ fn read_listed<'a>(
 {
     let database = match read_status(alloc, inputs.status, inputs.arch) {
         Ok(database) => database,
-        Err(fault) => return Err(refused_at(Place::Status, fault)),
+        Err(fault) => return Err(refused_at(Input::Status, fault)),
     };
     let sources = match read_sources(alloc, inputs.sources) {
         Ok(sources) => sources,
-        Err(fault) => return Err(refused_at(Place::Sources, fault)),
+        Err(fault) => return Err(refused_at(Input::Sources, fault)),
     };
     match read_indices(alloc, sources, inputs.indices, inputs.arch) {
         Ok(indices) => Ok((database, indices)),
@@ -71,6 +71,6 @@ pub(crate) fn read_texts<'a>(
             indices,
             prefs,
         }),
-        Err(fault) => Err(refused_at(Place::Preferences, fault)),
+        Err(fault) => Err(refused_at(Input::Preferences, fault)),
     }
 }

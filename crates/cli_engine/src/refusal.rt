@@ -7,6 +7,7 @@ use crate::status_refusal::StatusRefusal;
 use index::{IndexFault, SourcesFault};
 use pins::PrefsFault;
 use plantext::PlanFault;
+use refutation_text::RefutationFault;
 use rules::BadVersion;
 use std::alloc::{AllocError, AllocFailed};
 use thiserror::Error;
@@ -14,7 +15,7 @@ use universe_request::RequestFault;
 
 /// The text that is refused.
 #[derive(Clone, Copy, Debug, PartialEq, Eq, Error)]
-pub enum Place {
+pub enum Input {
     /// The version of this number among those of a comparison, counted from 1.
     #[error("version {0}")]
     Version(usize),
@@ -36,6 +37,9 @@ pub enum Place {
     /// The plan.
     #[error("plan")]
     Plan,
+    /// The refutation.
+    #[error("refutation")]
+    Refutation,
     /// No text: memory was wanting.
     #[error("memory")]
     Memory,
@@ -68,6 +72,9 @@ pub enum Fault {
     /// The plan is refused.
     #[error("{0}")]
     Plan(PlanFault),
+    /// The refutation is refused.
+    #[error("{0}")]
+    Refutation(RefutationFault),
     /// A request that admits more pairs than are kept.
     #[error("E10 TooLarge")]
     TooLarge,
@@ -84,18 +91,18 @@ pub enum Fault {
 #[error("{place}: {fault}")]
 pub struct Refusal {
     /// The text.
-    pub place: Place,
+    pub place: Input,
     /// What is wrong with it.
     pub fault: Fault,
 }
 
 /// The refusal of the text at this place; where memory was wanting, no text is refused.
-pub(crate) fn refused_at(place: Place, fault: Fault) -> Refusal
+pub(crate) fn refused_at(place: Input, fault: Fault) -> Refusal
     ensures { IsPlaced place fault result }
 {
     match fault {
         Fault::OutOfMemory => Refusal {
-            place: Place::Memory,
+            place: Input::Memory,
             fault,
         },
         _ => Refusal { place, fault },
@@ -107,7 +114,7 @@ impl From<AllocError> for Refusal {
 
     fn from(_e: AllocError) -> Refusal {
         Refusal {
-            place: Place::Memory,
+            place: Input::Memory,
             fault: Fault::OutOfMemory,
         }
     }
@@ -118,7 +125,7 @@ impl<T: Drop> From<AllocFailed<T>> for Refusal {
 
     fn from(_e: AllocFailed<T>) -> Refusal {
         Refusal {
-            place: Place::Memory,
+            place: Input::Memory,
             fault: Fault::OutOfMemory,
         }
     }

@@ -3,7 +3,7 @@
 ghost use Rattle.std.specs.Prelude.{◌≡◌, IfErr, IfOk, List, Ok, map};
 ghost use Rattle.candidates.specs.Inputs.{indices_of};
 ghost use Rattle.rules.specs.Database.{HasDistinctNames};
-ghost use Rattle.rules.specs.Entry.{records_of};
+ghost use Rattle.rules.specs.FileRecord.{records_of};
 ghost use Rattle.rules.specs.declared.goal.GoalLine.{GoalLine as LineOf};
 ghost use Rattle.universe_build.specs.Error.{IsBuilt};
 ghost use Rattle.cli_engine.specs.Answer.{IsBuildFault, IsRequestFault, IsRequested};
@@ -15,7 +15,7 @@ use crate::refusal::Fault;
 use index::Index;
 use pins::Prefs;
 use rules::GoalLine;
-use status_record::Record;
+use status_record::FileRecord;
 use std::alloc::Global;
 use universe::Universe;
 use universe_build::{UniverseError, build};
@@ -35,7 +35,7 @@ fn goals_in(alloc: Global, text: &[u8], arch: &[u8]) -> Result<Vec<GoalLine>, Fa
 // Builds the universe of the goals.
 fn built<'p, 'a>(
     alloc: Global,
-    start: &[&Record<'a>],
+    start: &[&FileRecord<'a>],
     indices: &'p [Index<'a>],
     prefs: &Prefs,
     lines: Vec<GoalLine>,
@@ -58,7 +58,7 @@ fn built<'p, 'a>(
 /// preferences.
 pub(crate) fn read_request<'p, 'a>(
     alloc: Global,
-    start: &[&Record<'a>],
+    start: &[&FileRecord<'a>],
     indices: &'p [Index<'a>],
     prefs: &Prefs,
     text: &[u8],

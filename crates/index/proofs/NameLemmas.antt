@@ -3,7 +3,7 @@ use Rattle.std.proofs.Common.{◌≡◌, ℕ, Bool, true, false, ◌||◌, List,
 use Rattle.std.specs.List.{list_any}
 use Rattle.std.proofs.lemmas.List.{drop_more}
 use Rattle.indexmap.specs.IndexSet.{insert_key}
-use Rattle.rules.specs.Step.{Listed}
+use Rattle.rules.specs.Step.{IndexPackage}
 use Rattle.index.specs.Names.{names_of, with_name}
 
 pub list_any-map : {X Y : Type 0} (p : X → Bool) (h : Y → X) (ys : List Y) → list_any p (map h ys) ≡ list_any (λ y. p (h y)) ys
@@ -32,14 +32,14 @@ abbrev names_in : List (Bor (List ℕ)) → List (List ℕ)
 names_in keys = map (λ (key : Bor (List ℕ)). key.now) keys
 
 -- the step of a loop: the name of the package at the place is put behind those so far
-pub names-next : (listed : List Listed) (place : ℕ) (found : Listed) (keys after : List (Bor (List ℕ))) (name : Bor (List ℕ))
+pub names-next : (listed : List IndexPackage) (place : ℕ) (found : IndexPackage) (keys after : List (Bor (List ℕ))) (name : Bor (List ℕ))
     → place < length listed → found ≡ get_or listed place found → name.now ≡ found.pkg.name
     → after ≡ insert_key (λ (a b : Bor (List ℕ)). bytes_eq a.now b.now) keys name
-    → names_of listed ≡ fold with_name (names_in keys) (map (λ (found : Listed). found.pkg.name) (drop place listed))
-    → names_of listed ≡ fold with_name (names_in after) (map (λ (found : Listed). found.pkg.name) (drop (place + 1) listed))
+    → names_of listed ≡ fold with_name (names_in keys) (map (λ (found : IndexPackage). found.pkg.name) (drop place listed))
+    → names_of listed ≡ fold with_name (names_in after) (map (λ (found : IndexPackage). found.pkg.name) (drop (place + 1) listed))
 names-next listed place found keys after name within is named put so_far = so_far
-    ∙ ap (λ (rest : List Listed). fold with_name (names_in keys) (map (λ (found : Listed). found.pkg.name) rest)) (drop_more listed place found within)
-    ∙ ap (λ names. fold with_name names (map (λ (found : Listed). found.pkg.name) (drop (place + 1) listed)))
-    (ap (λ (here : Listed). with_name (names_in keys) here.pkg.name) (sym is)
+    ∙ ap (λ (rest : List IndexPackage). fold with_name (names_in keys) (map (λ (found : IndexPackage). found.pkg.name) rest)) (drop_more listed place found within)
+    ∙ ap (λ names. fold with_name names (map (λ (found : IndexPackage). found.pkg.name) (drop (place + 1) listed)))
+    (ap (λ (here : IndexPackage). with_name (names_in keys) here.pkg.name) (sym is)
     ∙ ap (with_name (names_in keys)) (sym named)
     ∙ sym (inserted keys name) ∙ ap names_in (sym put))

@@ -3,34 +3,40 @@ ghost use Rattle.std.specs.Prelude.{◌≡◌, Err, MatchResult, None, Ok, Some}
 ghost use Rattle.index.specs.Index as Spec;
 ghost use Rattle.index.specs.Walk.{found_of};
 
-use crate::entry::Entry;
 use crate::error::IndexFault;
+use crate::index_stanza::IndexStanza;
 use crate::walk::Found;
 use package_stanza::counts_for;
+use rules::IndexPlace;
 use stanza::{Stanza, StanzaError};
 
 // The stanza, which counts, with the package of the fields that were found in it.
-fn read_listed<'a>(
+fn read_indexed<'a>(
     stanza: &Stanza<'a>,
     found: &Found<'a>,
     arch: &'a [u8],
-) -> Result<Option<Entry<'a>>, IndexFault>
+    place: IndexPlace,
+) -> Result<Option<IndexStanza<'a>>, IndexFault>
     requires { found.now ≡ found_of stanza.now }
     ensures { MatchResult result
-        (λ entry. Spec.read_listed arch.now stanza.now ≡ Ok entry)
-        (λ fault. Spec.read_listed arch.now stanza.now ≡ Err fault) }
+        (λ indexed. Spec.read_indexed arch.now place stanza.now ≡ Ok indexed)
+        (λ fault. Spec.read_indexed arch.now place stanza.now ≡ Err fault) }
 {
-    match Entry::read(&found.pkg, arch, found.is_essential, stanza.again()) {
-        Ok(entry) => Ok(Some(entry)),
+    match IndexStanza::read(&found.pkg, arch, found.is_essential, place, stanza.again()) {
+        Ok(indexed) => Ok(Some(indexed)),
         Err(fault) => Err(IndexFault::Pkg(fault)),
     }
 }
 
 // What the stanza gives: nothing where its architecture doesn't count.
-fn read_entry<'a>(stanza: &Stanza<'a>, arch: &'a [u8]) -> Result<Option<Entry<'a>>, IndexFault>
+fn read_entry<'a>(
+    stanza: &Stanza<'a>,
+    arch: &'a [u8],
+    place: IndexPlace,
+) -> Result<Option<IndexStanza<'a>>, IndexFault>
     ensures { MatchResult result
-        (λ entry. Spec.read_entry arch.now stanza.now ≡ Ok entry)
-        (λ fault. Spec.read_entry arch.now stanza.now ≡ Err fault) }
+        (λ indexed. Spec.read_entry arch.now place stanza.now ≡ Ok indexed)
+        (λ fault. Spec.read_entry arch.now place stanza.now ≡ Err fault) }
 {
     let found = Found::in_stanza(stanza);
     if let Err(fault) = found.pkg.name() {
@@ -40,7 +46,7 @@ fn read_entry<'a>(stanza: &Stanza<'a>, arch: &'a [u8]) -> Result<Option<Entry<'a
         None => Err(IndexFault::MissingArchitecture(stanza.line())),
         Some(value) => {
             if counts_for(arch, value) {
-                read_listed(stanza, &found, arch)
+                read_indexed(stanza, &found, arch, place)
             } else {
                 Ok(None)
             }
@@ -48,17 +54,18 @@ fn read_entry<'a>(stanza: &Stanza<'a>, arch: &'a [u8]) -> Result<Option<Entry<'a
     }
 }
 
-// What an item of the text gives.
+// What an item of the text gives, whose stanza is at the place.
 pub fn read_item<'a>(
     item: &Result<Stanza<'a>, StanzaError>,
     arch: &'a [u8],
-) -> Result<Option<Entry<'a>>, IndexFault>
+    place: IndexPlace,
+) -> Result<Option<IndexStanza<'a>>, IndexFault>
     ensures { MatchResult result
-        (λ entry. Spec.read_item arch.now item.now ≡ Ok entry)
-        (λ fault. Spec.read_item arch.now item.now ≡ Err fault) }
+        (λ indexed. Spec.read_item arch.now place item.now ≡ Ok indexed)
+        (λ fault. Spec.read_item arch.now place item.now ≡ Err fault) }
 {
     match item {
-        Ok(stanza) => read_entry(stanza, arch),
+        Ok(stanza) => read_entry(stanza, arch, place),
         Err(fault) => Err(IndexFault::Stanza(*fault)),
     }
 }

@@ -4,10 +4,11 @@
 #![tactic(auto)]
 
 mod alone;
-mod entry;
 mod error;
+mod index_entry;
+mod index_package;
+mod index_stanza;
 mod item;
-mod listed;
 mod name_at;
 mod names;
 mod providers;
@@ -17,9 +18,10 @@ mod stanzas;
 mod walk;
 
 pub use alone::read_alone;
-pub use entry::Entry;
 pub use error::{IndexError, IndexFault, SourcesError, SourcesFault};
-pub use listed::Listed;
+pub use index_entry::IndexEntry;
+pub use index_package::IndexPackage;
+pub use index_stanza::IndexStanza;
 pub use providers::Providers;
 pub use read::Index;
-pub use sources::{Source, read_sources};
+pub use sources::{IndexSource, read_sources};

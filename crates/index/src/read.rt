@@ -7,8 +7,8 @@ ghost use Rattle.index.specs.Names.{names_of};
 ghost use Rattle.index.specs.declared.error.IndexError.TheVariants as error;
 ghost use Rattle.index.specs.declared.error.IndexFault.TheVariants as fault;
 
-use crate::entry::Entry;
 use crate::error::{IndexError, IndexFault};
+use crate::index_entry::IndexEntry;
 use crate::names::distinct_names;
 use crate::stanzas::stanzas_in;
 use indexmap::IndexSet;
@@ -21,7 +21,7 @@ use std::marker::Model;
 #[derive(Drop)]
 pub struct Index<'a> {
     release: Release,
-    entries: Vec<Entry<'a>>,
+    entries: Vec<IndexEntry<'a>>,
     skipped: usize,
 }
 
@@ -36,7 +36,8 @@ impl<'a> Model for Index<'a> {
 impl<'a> Index<'a> {
     /// The index that a Packages file is for the configured architecture `arch`, with the release keys that the sources
     /// text gives it. A stanza counts where its Architecture is `all` or `arch`, byte for byte; the others are skipped and
-    /// counted. `before` is the number of packages of the earlier indices: over all of them four million are read.
+    /// counted. `number` is that of the index, counted from 1: a package is at the place of this index and of its stanza.
+    /// `before` is the number of packages of the earlier indices: over all of them four million are read.
     /// The first refusal is answered: of a text that is too long, or else of the first stanza that has one: of its lines,
     /// then of Package, then of Architecture, and of a stanza that counts then of Version and of the relation fields, and
     /// last that it is a package too many. What was read borrows the text and `arch`. Linear in the text.
@@ -45,16 +46,17 @@ impl<'a> Index<'a> {
         text: &'a [u8],
         release: Release,
         arch: &'a [u8],
+        number: usize,
         before: usize,
     ) -> Result<Index<'a>, IndexError>
-        ensures ok { IfOk result (λ index. Spec.read_index arch.now release before text.now ≡ Ok index) }
-        ensures err { IfErr result (λ e. IsIndexFault e (Spec.read_index arch.now release before text.now)) }
+        ensures ok { IfOk result (λ index. Spec.read_index arch.now number release before text.now ≡ Ok index) }
+        ensures err { IfErr result (λ e. IsIndexFault e (Spec.read_index arch.now number release before text.now)) }
         ensures too_long { TEXT_BYTES < length text.now → result ≡ Err (error.Refused fault.TooLarge) }
     {
         if text.len() > TEXT_BYTES {
             return Err(IndexFault::TooLarge.into());
         }
-        let stanzas = stanzas_in(alloc, text, arch, before)?;
+        let stanzas = stanzas_in(alloc, text, arch, number, before)?;
         Ok(Index {
             release,
             entries: stanzas.entries,
@@ -70,7 +72,7 @@ impl<'a> Index<'a> {
     }
 
     /// The stanzas that count, in the order of the text.
-    pub fn packages(&self) -> &[Entry<'a>]
+    pub fn packages(&self) -> &[IndexEntry<'a>]
         ensures { result.now ≡ self.now.index.listed }
     {
         self.entries.as_slice()

@@ -17,12 +17,12 @@ use std::marker::Model;
 
 /// An index as the sources text names it: the path of its text, and its release keys.
 #[derive(Drop)]
-pub struct Source<'a> {
+pub struct IndexSource<'a> {
     file: &'a [u8],
     release: Release,
 }
 
-impl<'a> Model for Source<'a> {
+impl<'a> Model for IndexSource<'a> {
     ghost use Rattle.index.specs.Sources.{SourceText};
 
     ghost Value = { SourceText };
@@ -30,7 +30,7 @@ impl<'a> Model for Source<'a> {
     ghost view = { λ s. record { file = s.file.now; release = s.release } };
 }
 
-impl<'a> Source<'a> {
+impl<'a> IndexSource<'a> {
     /// The path, as the text spells it.
     pub fn file(&self) -> &'a [u8]
         ensures { result.now ≡ self.now.file }
@@ -101,13 +101,13 @@ fn release_of(alloc: Global, stanza: &Stanza<'_>) -> Result<Release, AllocError>
 }
 
 // The index of a stanza.
-fn read_source<'a>(alloc: Global, stanza: &Stanza<'a>) -> Result<Source<'a>, SourcesError>
+fn read_source<'a>(alloc: Global, stanza: &Stanza<'a>) -> Result<IndexSource<'a>, SourcesError>
     ensures ok { IfOk result (λ source. Spec.read_source stanza.now ≡ Ok source) }
     ensures err { IfErr result (λ e. IsSourcesFault e (Spec.read_source stanza.now)) }
 {
     match stanza.get(b"File") {
         None => Err(SourcesFault::MissingFile(stanza.line()).into()),
-        Some(file) => Ok(Source {
+        Some(file) => Ok(IndexSource {
             file,
             release: release_of(alloc, stanza)?,
         }),
@@ -118,7 +118,7 @@ fn read_source<'a>(alloc: Global, stanza: &Stanza<'a>) -> Result<Source<'a>, Sou
 fn read_source_item<'a>(
     alloc: Global,
     item: &Result<Stanza<'a>, StanzaError>,
-) -> Result<Source<'a>, SourcesError>
+) -> Result<IndexSource<'a>, SourcesError>
     ensures ok { IfOk result (λ source. Spec.read_source_item item.now ≡ Ok source) }
     ensures err { IfErr result (λ e. IsSourcesFault e (Spec.read_source_item item.now)) }
 {
@@ -129,7 +129,7 @@ fn read_source_item<'a>(
 }
 
 // The indices of a text that isn't too long.
-fn sources_in<'a>(alloc: Global, text: &'a [u8]) -> Result<Vec<Source<'a>>, SourcesError>
+fn sources_in<'a>(alloc: Global, text: &'a [u8]) -> Result<Vec<IndexSource<'a>>, SourcesError>
     ensures ok { IfOk result (λ sources. Spec.sources_in (items_of true text.now) 0 ≡ Ok sources.items) }
     ensures err { IfErr result (λ e. IsSourcesFault e (Spec.sources_in (items_of true text.now) 0)) }
 {
@@ -147,7 +147,7 @@ fn sources_in<'a>(alloc: Global, text: &'a [u8]) -> Result<Vec<Source<'a>>, Sour
 /// The indices that a sources text names, in order. Each stanza is one: control text with comments, in which
 /// the field File is required and fields that aren't release keys are ignored. The first refusal is answered:
 /// of a text that is too long, or else of the first stanza that has one. Linear in the text.
-pub fn read_sources<'a>(alloc: Global, text: &'a [u8]) -> Result<Vec<Source<'a>>, SourcesError>
+pub fn read_sources<'a>(alloc: Global, text: &'a [u8]) -> Result<Vec<IndexSource<'a>>, SourcesError>
     ensures ok { IfOk result (λ sources. Spec.read_sources text.now ≡ Ok sources.items) }
     ensures err { IfErr result (λ e. IsSourcesFault e (Spec.read_sources text.now)) }
     ensures too_long { TEXT_BYTES < length text.now → result ≡ Err (error.Refused fault.TooLarge) }

@@ -7,10 +7,11 @@ ghost use Rattle.index.specs.Error.{IsIndexFault};
 ghost use Rattle.index.specs.Index as Spec;
 ghost use Rattle.index.specs.Index.{ReadStanzas as Read};
 
-use crate::entry::Entry;
 use crate::error::{IndexError, IndexFault};
+use crate::index_entry::IndexEntry;
+use crate::index_stanza::IndexStanza;
 use crate::item::read_item;
-use rules::PACKAGES;
+use rules::{IndexPlace, PACKAGES};
 use stanza::Stanzas;
 use std::alloc::Global;
 use std::marker::Model;
@@ -18,7 +19,7 @@ use std::marker::Model;
 // The stanzas that count, in the order of the text, and how many were skipped.
 #[derive(Drop)]
 pub struct ReadStanzas<'a> {
-    pub(crate) entries: Vec<Entry<'a>>,
+    pub(crate) entries: Vec<IndexEntry<'a>>,
     pub(crate) skipped: usize,
 }
 
@@ -48,7 +49,7 @@ impl<'a> ReadStanzas<'a> {
     }
 
     // Adds what a stanza gives, behind so many packages of earlier indices.
-    fn add(&mut self, found: Option<Entry<'a>>, before: usize) -> Result<(), IndexError>
+    fn add(&mut self, found: Option<IndexStanza<'a>>, before: usize) -> Result<(), IndexError>
         requires { self.old.skipped + 1 < 2 ^ 64 }
         ensures ok { OnOk result (
             (Spec.is_too_many (before + length self.old.listed) found.entry ≡ false) × (self.new ≡ Spec.joined self.old (Spec.stanzas_of found.entry))) }
@@ -57,32 +58,38 @@ impl<'a> ReadStanzas<'a> {
     {
         match found {
             None => self.skipped += 1,
-            Some(entry) => {
+            Some(indexed) => {
                 if is_full(before, self.entries.len()) {
                     return Err(IndexFault::TooLarge.into());
                 }
-                self.entries.push(entry)?;
+                self.entries.push(IndexEntry::new(indexed))?;
             }
         }
         Ok(())
     }
 }
 
-// The stanzas of a text that isn't too long, behind so many packages of earlier indices.
+// The stanzas of a text that isn't too long, as the index of this number, behind so many packages of earlier indices.
 pub fn stanzas_in<'a>(
     alloc: Global,
     text: &'a [u8],
     arch: &'a [u8],
+    number: usize,
     before: usize,
 ) -> Result<ReadStanzas<'a>, IndexError>
     requires { length text.now < 2 ^ 32 }
-    ensures ok { IfOk result (λ stanzas. Spec.stanzas_in arch.now (items_of false text.now) before ≡ Ok stanzas) }
-    ensures err { IfErr result (λ e. IsIndexFault e (Spec.stanzas_in arch.now (items_of false text.now) before)) }
+    ensures ok { IfOk result (λ stanzas. Spec.stanzas_in arch.now (Spec.first_place number) (items_of false text.now) before ≡ Ok stanzas) }
+    ensures err { IfErr result (λ e. IsIndexFault e (Spec.stanzas_in arch.now (Spec.first_place number) (items_of false text.now) before)) }
 {
     let mut stanzas = ReadStanzas::new(alloc);
+    let mut place = IndexPlace {
+        index: number,
+        stanza: 1,
+    };
     for item in Stanzas::new(text) {
-        let entry = read_item(&item, arch)?;
-        stanzas.add(entry, before)?;
+        let found = read_item(&item, arch, place)?;
+        stanzas.add(found, before)?;
+        place.stanza += 1;
     }
     Ok(stanzas)
 }

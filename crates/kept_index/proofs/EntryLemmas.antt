@@ -4,20 +4,21 @@ use Rattle.std.proofs.Math.Bool.{or-true}
 use Rattle.std.proofs.lemmas.Bool.{cases_Bool}
 use Rattle.std.specs.List.{filter}
 use Rattle.std.specs.Option.{option_and_then, option_map, option_or}
-use Rattle.index.specs.Index.{listed_with, read_entry, read_listed, read_native, unless_name_fault}
+use Rattle.index.specs.Index.{indexed_at, indexed_with, read_entry, read_indexed, read_native, unless_name_fault}
 use Rattle.index.specs.declared.error.IndexFault.{IndexFault}
 use Rattle.package_stanza.specs.Stanza.{counts_for, field_of, is_essential, read_stanza}
 use Rattle.relation.specs.PkgFields.{field_named, fields_of}
 use Rattle.relation.specs.PkgText.{name_fault_in, on_line, pkg_fault, pkg_name_fault, pkg_of, relations_fault, unless_fault, value_in, version_fault_in}
 use Rattle.relation.specs.declared.error.PkgFault.{PkgFault}
+use Rattle.rules.specs.FileRecord.{IndexStanza}
 use Rattle.rules.specs.Name.{is_name}
 use Rattle.rules.specs.VersionFault.{first_fault}
 use Rattle.rules.specs.Package.{Pkg}
 use Rattle.rules.specs.Stanza.{Field, Stanza, is_called, is_called_one_of, marks_essential}
-use Rattle.rules.specs.Step.{Listed}
+use Rattle.rules.specs.Step.{IndexPackage}
+use Rattle.rules.specs.declared.index_place.IndexPlace.{IndexPlace}
 use Rattle.stanza.specs.Field.{FieldText, same_name, value_named}
 use Rattle.stanza.specs.Stanza.{StanzaText}
-use Rattle.unjudged_text.specs.Rewritten.{rewritten}
 use Rattle.kept_index.specs.Kept.{kept_fields, kept_names, kept_stanza}
 
 -- ---- what is found among the fields that are kept
@@ -224,34 +225,38 @@ pkg-same arch s t alike =
 
 -- ---- what the stanzas give
 
--- what the whole stanza gives, where its kept fields give this
-abbrev Gives : Option Listed → Result (Option Listed) IndexFault → Type 0
-Gives left read = (whole : Option Listed) × (read ≡ Ok whole) × (left ≡ option_map (rewritten kept_stanza) whole)
+-- the package of what was read, if there is one
+abbrev pub listed_in : Option IndexStanza → Option IndexPackage
+listed_in read = option_map (λ indexed. indexed.listed) read
 
-listed-kept : (s t : StanzaText) (pkg other : Pkg) (refused fault : Option PkgFault) (left : Option Listed)
-    → AreAlike s t → (refused ≡ None → fault ≡ None) → pkg ≡ other → listed_with t (unless_fault refused pkg) ≡ Ok left
-    → Gives left (listed_with s (unless_fault fault other))
-listed-kept s t pkg other (Some refused) fault left alike sound same h = absurd (let e = h in cc)
-listed-kept s t pkg other None fault left alike sound same h =
-    let whole : Listed = record { pkg = other; is_essential = is_essential s.fields; stanza = read_stanza s } in
-    let read : Listed = record { pkg = pkg; is_essential = is_essential t.fields; stanza = read_stanza t } in
-    let shown : read ≡ rewritten kept_stanza whole =
-    λ i. record { pkg = same i; is_essential = alike.essential i; stanza = alike.stanza i } in
-    (Some whole, rw (sound refl) refl, (let e : left ≡ Some read = cc in e ∙ ap Some shown))
+-- what the whole stanza gives is that package which its kept fields give, or none where they give none
+abbrev Gives : Option IndexStanza → Result (Option IndexStanza) IndexFault → Type 0
+Gives left read = (whole : Option IndexStanza) × (read ≡ Ok whole) × (listed_in left ≡ listed_in whole)
 
-native-kept : (arch : List ℕ) (s t : StanzaText) (value : Option (List ℕ)) (left : Option Listed)
-    → AreAlike s t → read_native arch t value ≡ Ok left → Gives left (read_native arch s value)
-native-kept arch s t None left alike h = absurd (let e = h in cc)
-native-kept arch s t (Some value) left alike h = by (counts_for arch value) h
+indexed-kept : (place : IndexPlace) (s t : StanzaText) (pkg other : Pkg) (refused fault : Option PkgFault) (left : Option IndexStanza)
+    → AreAlike s t → (refused ≡ None → fault ≡ None) → pkg ≡ other → indexed_with place t (unless_fault refused pkg) ≡ Ok left
+    → Gives left (indexed_with place s (unless_fault fault other))
+indexed-kept place s t pkg other (Some refused) fault left alike sound same h = absurd (let e = h in cc)
+indexed-kept place s t pkg other None fault left alike sound same h =
+    let whole : IndexStanza = indexed_at place s other in
+    let read : IndexStanza = indexed_at place t pkg in
+    let shown : read.listed ≡ whole.listed =
+    λ i. record { pkg = same i; is_essential = alike.essential i; place = place } in
+    (Some whole, rw (sound refl) refl, (let e : left ≡ Some read = cc in ap listed_in e ∙ ap Some shown))
+
+native-kept : (arch : List ℕ) (place : IndexPlace) (s t : StanzaText) (value : Option (List ℕ)) (left : Option IndexStanza)
+    → AreAlike s t → read_native arch place t value ≡ Ok left → Gives left (read_native arch place s value)
+native-kept arch place s t None left alike h = absurd (let e = h in cc)
+native-kept arch place s t (Some value) left alike h = by (counts_for arch value) h
   where
-    by : (counts : Bool) → (if counts then read_listed arch t else Ok None) ≡ Ok left
-        → Gives left (if counts then read_listed arch s else Ok None)
-    by true h = listed-kept s t (pkg_of arch (fields_of t)) (pkg_of arch (fields_of s))
+    by : (counts : Bool) → (if counts then read_indexed arch place t else Ok None) ≡ Ok left
+        → Gives left (if counts then read_indexed arch place s else Ok None)
+    by true h = indexed-kept place s t (pkg_of arch (fields_of t)) (pkg_of arch (fields_of s))
         (pkg_fault (fields_of t)) (pkg_fault (fields_of s)) left alike
         (fields-sound s t alike) (pkg-same arch s t alike) h
-    by false h = (None, refl, (let e = h in cc))
+    by false h = (None, refl, (let e : ◌≡◌ {A = Result (Option IndexStanza) IndexFault} (Ok None) (Ok left) = h in let f : left ≡ None = cc in ap listed_in f))
 
-named-kept : (refused fault : Option PkgFault) (read later : Result (Option Listed) IndexFault) (left : Option Listed)
+named-kept : (refused fault : Option PkgFault) (read later : Result (Option IndexStanza) IndexFault) (left : Option IndexStanza)
     → (refused ≡ None → fault ≡ None) → (read ≡ Ok left → Gives left later)
     → unless_name_fault refused read ≡ Ok left
     → Gives left (unless_name_fault fault later)
@@ -259,13 +264,13 @@ named-kept (Some refused) fault read later left sound step h = absurd (let e = h
 named-kept None fault read later left sound step h = rw (sound refl) (step h)
 
 -- what a stanza gives, where the stanza of its kept fields gives something
-pub entry-kept : (arch : List ℕ) (s t : StanzaText) (left : Option Listed)
-    → read_stanza t ≡ kept_stanza (read_stanza s) → read_entry arch t ≡ Ok left → Gives left (read_entry arch s)
-entry-kept arch s t left kept =
+pub entry-kept : (arch : List ℕ) (place : IndexPlace) (s t : StanzaText) (left : Option IndexStanza)
+    → read_stanza t ≡ kept_stanza (read_stanza s) → read_entry arch place t ≡ Ok left → Gives left (read_entry arch place s)
+entry-kept arch place s t left kept =
     let alike = alike-kept s t kept in
     let value = value_named (codes "Architecture") s.fields in
-    let read = read_native arch t (value_named (codes "Architecture") t.fields) in
-    let native : read ≡ Ok left → Gives left (read_native arch s value) =
-    λ h. native-kept arch s t value left alike (sym (ap (read_native arch t) alike.architecture) ∙ h) in
-    named-kept (pkg_name_fault (fields_of t)) (pkg_name_fault (fields_of s)) read (read_native arch s value) left
+    let read = read_native arch place t (value_named (codes "Architecture") t.fields) in
+    let native : read ≡ Ok left → Gives left (read_native arch place s value) =
+    λ h. native-kept arch place s t value left alike (sym (ap (read_native arch place t) alike.architecture) ∙ h) in
+    named-kept (pkg_name_fault (fields_of t)) (pkg_name_fault (fields_of s)) read (read_native arch place s value) left
     (name-sound t.line s.line (fields_of t).name (fields_of s).name alike.called) native

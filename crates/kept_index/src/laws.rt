@@ -6,7 +6,7 @@ pub fn kept_reads_back()
     ensures { KeptReadsBack }
 {}
 
-/// Where what is kept is read as an index, the text is that index but for the texts of its stanzas.
+/// Where what is kept is read as an index, the text is read as that index.
 pub fn kept_is_enough()
     ensures { KeptIsEnough }
 {}

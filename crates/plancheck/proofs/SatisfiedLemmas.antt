@@ -2,6 +2,7 @@
 use Rattle.std.proofs.Common.{◌≡◌, List, ℕ, Option, None, Some, MatchOption, inl, inr, true}
 use Rattle.rules.specs.Database.{Record}
 use Rattle.rules.specs.Package.{Atom}
+use Rattle.rules.specs.Step.{last_configured}
 use Rattle.rules.specs.Unpack.{FitsFromBefore, FitsThenAndNow, SatisfiesAtom}
 use Rattle.status.specs.HolderLaws.{matching-holds, named-holds, providing-holds}
 use Rattle.status.specs.Holders.{is_holder}
@@ -16,7 +17,7 @@ then-and-now-holds found atom version fits = elim fits [
 
 from-before-holds : (found : Record) (atom : Atom) → FitsFromBefore found atom → is_holder atom.name found ≡ true
 unfolding FitsFromBefore
-from-before-holds found atom fits = by found.config_version fits.1
+from-before-holds found atom fits = by (last_configured found) fits.1
   where
     by : (version : Option (List ℕ)) → MatchOption version ⊥ (FitsThenAndNow found atom) → is_holder atom.name found ≡ true
     by None never = absurd never

@@ -10,7 +10,7 @@ ghost use Rattle.plancheck.specs.End.{IsEndVerdict};
 use crate::quiet::is_quiet;
 use crate::stanzas::{stanza_at, stanzas_for};
 use crate::step::{apply, legal};
-use index::Listed;
+use index::IndexPackage;
 use plancheck_end::first_against;
 use rules::{Rule, Step, Verdict, good_where_nothing_is_against};
 use status::{Records, try_copy};
@@ -24,7 +24,7 @@ fn run<'p, 'a>(
     db: &mut Records<'p, 'a>,
     universe: &Universe<'_, 'a>,
     steps: &[Step],
-    stanzas: &'p [Option<Listed<'a>>],
+    stanzas: &'p [Option<IndexPackage<'a>>],
 ) -> Result<Option<(usize, Rule)>, AllocError>
     requires distinct { HasDistinctNames db.old }
     requires stanzas { stanzas.now ≡ map (listed_for universe.now) steps.now }
@@ -64,7 +64,7 @@ fn run_verdict<'p, 'a>(
     start: &Records<'p, 'a>,
     universe: &Universe<'_, 'a>,
     steps: &[Step],
-    stanzas: &'p [Option<Listed<'a>>],
+    stanzas: &'p [Option<IndexPackage<'a>>],
 ) -> Result<Verdict, AllocError>
     requires built { IsBuiltOn start.now universe.now }
     requires quiet { IsQuiet start.now }

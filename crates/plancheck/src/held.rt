@@ -9,9 +9,9 @@ ghost use Rattle.rules.specs.Version.{SameVersion};
 
 use debversion::Version;
 use plancheck_end::is_same;
-use status::{Holders, PackageRecord, Records};
+use status::{Holders, Records, StateRecord};
 
-fn is_held_name(found: &PackageRecord<'_, '_>, name: &[u8]) -> bool
+fn is_held_name(found: &StateRecord<'_, '_>, name: &[u8]) -> bool
     ensures { IsTrue result ↔ ((found.now.name ≡ name.now) × IsHeld found.now) }
 {
     is_same(found.name(), name) && found.want().is_hold()
@@ -38,7 +38,7 @@ pub fn is_not_held(db: &Records<'_, '_>, name: &[u8]) -> bool
 }
 
 // Whether the package of the record has this version.
-fn is_version(found: &PackageRecord<'_, '_>, version: &Version<'_>) -> bool
+fn is_version(found: &StateRecord<'_, '_>, version: &Version<'_>) -> bool
     ensures { IsTrue result ↔ (Stands found.now × SameVersion found.now.version version.now) }
 {
     match found.present_pkg() {
@@ -47,7 +47,7 @@ fn is_version(found: &PackageRecord<'_, '_>, version: &Version<'_>) -> bool
     }
 }
 
-fn is_named_version(found: &PackageRecord<'_, '_>, name: &[u8], version: &Version<'_>) -> bool
+fn is_named_version(found: &StateRecord<'_, '_>, name: &[u8], version: &Version<'_>) -> bool
     ensures { IsTrue result
         ↔ ((found.now.name ≡ name.now) × (Stands found.now × SameVersion found.now.version version.now)) }
 {

@@ -7,10 +7,10 @@ ghost use Rattle.rules.specs.Package.{Matches};
 
 use plancheck_end::is_same;
 use relation::{Atom, Pkg};
-use status::{Holders, PackageRecord, Records};
+use status::{Holders, Records, StateRecord};
 
 // Whether the record isn't present, has the package's name, or doesn't match the atom.
-fn is_spared_by(pkg: &Pkg<'_>, atom: &Atom<'_>, other: &PackageRecord<'_, '_>) -> bool
+fn does_not_match(pkg: &Pkg<'_>, atom: &Atom<'_>, other: &StateRecord<'_, '_>) -> bool
     ensures { IsTrue result ↔ (IsPresent other.now → pkg.now.name ≢ other.now.name → ¬ Matches (pkg_of other.now) atom.now) }
 {
     match other.present_pkg() {
@@ -19,34 +19,34 @@ fn is_spared_by(pkg: &Pkg<'_>, atom: &Atom<'_>, other: &PackageRecord<'_, '_>) -
     }
 }
 
-fn are_spared_by(pkg: &Pkg<'_>, atom: &Atom<'_>, mut others: Holders<'_, '_, '_>) -> bool
+fn none_matches(pkg: &Pkg<'_>, atom: &Atom<'_>, mut others: Holders<'_, '_, '_>) -> bool
     ensures { IsTrue result ↔ All (λ other. IsPresent other → pkg.now.name ≢ other.name
         → ¬ Matches (pkg_of other) atom.now) others.entry }
 {
-    others.all(|other| is_spared_by(pkg, atom, other))
+    others.all(|other| does_not_match(pkg, atom, other))
 }
 
-fn spares_all_by(db: &Records<'_, '_>, pkg: &Pkg<'_>, atom: &Atom<'_>) -> bool
+fn no_holder_matches(db: &Records<'_, '_>, pkg: &Pkg<'_>, atom: &Atom<'_>) -> bool
     ensures { IsTrue result ↔ All (λ other. IsPresent other → pkg.now.name ≢ other.name
         → ¬ Matches (pkg_of other) atom.now) db.now }
 {
-    are_spared_by(pkg, atom, db.holders(atom.name()))
+    none_matches(pkg, atom, db.holders(atom.name()))
 }
 
-fn spares_all(db: &Records<'_, '_>, pkg: &Pkg<'_>, atoms: &[Atom<'_>]) -> bool
+fn no_atom_matches(db: &Records<'_, '_>, pkg: &Pkg<'_>, atoms: &[Atom<'_>]) -> bool
     ensures { IsTrue result ↔ All (λ atom. All (λ other. IsPresent other → pkg.now.name ≢ other.name
         → ¬ Matches (pkg_of other) atom) db.now) atoms.now }
 {
-    atoms.iter().all(|atom| spares_all_by(db, pkg, atom))
+    atoms.iter().all(|atom| no_holder_matches(db, pkg, atom))
 }
 
 // Whether the package of the record, if it is present, isn't in conflict with any other.
-fn is_at_peace(db: &Records<'_, '_>, found: &PackageRecord<'_, '_>) -> bool
+fn conflicts_with_none(db: &Records<'_, '_>, found: &StateRecord<'_, '_>) -> bool
     ensures { IsTrue result ↔ All (IsAtPeaceWith found.now) db.now }
 {
     match found.present_pkg() {
         None => true,
-        Some(pkg) => spares_all(db, pkg, pkg.conflicts()),
+        Some(pkg) => no_atom_matches(db, pkg, pkg.conflicts()),
     }
 }
 
@@ -56,5 +56,7 @@ fn is_at_peace(db: &Records<'_, '_>, found: &PackageRecord<'_, '_>) -> bool
 pub fn is_quiet(db: &Records<'_, '_>) -> bool
     ensures { IsTrue result ↔ IsQuiet db.now }
 {
-    db.as_slice().iter().all(|found| is_at_peace(db, found))
+    db.as_slice()
+        .iter()
+        .all(|found| conflicts_with_none(db, found))
 }

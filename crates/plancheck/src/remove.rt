@@ -4,13 +4,13 @@ ghost use Rattle.std.specs.Prelude.{◌≡◌, ◌≢◌, ◌↔◌, ◌++◌, I
 ghost use Rattle.std.specs.List.{All, Any};
 ghost use Rattle.rules.specs.Database.{ForOthers, HasRecord, HasSoundFlag, IsEssential, IsInstalled, IsPresent, IsRemoved, SomeOther, Stands, pkg_of};
 ghost use Rattle.rules.specs.Package.{Matches, MatchesSome};
-ghost use Rattle.rules.specs.Remove.{IsExpendable, IsNotNeeded, ManagesWithout, NeedsNot};
+ghost use Rattle.rules.specs.Remove.{IsNeededByNone, IsNotNeeded, IsMetWithout, NeedsNot};
 
 use plancheck_end::{is_same, matches_some};
 use relation::{Atom, Clause, Pkg};
-use status::{Holders, PackageRecord, Records};
+use status::{Holders, Records, StateRecord};
 
-fn is_present_and_sound(found: &PackageRecord<'_, '_>, name: &[u8]) -> bool
+fn is_present_and_sound(found: &StateRecord<'_, '_>, name: &[u8]) -> bool
     ensures { IsTrue result ↔ ((found.now.name ≡ name.now) × (IsPresent found.now × HasSoundFlag found.now)) }
 {
     is_same(found.name(), name) && found.state().is_present() && found.flag().is_sound()
@@ -29,7 +29,7 @@ pub fn can_be_removed(db: &Records<'_, '_>, name: &[u8]) -> bool
     some_can_be_removed(db.holders(name), name)
 }
 
-fn is_essential_name(found: &PackageRecord<'_, '_>, name: &[u8]) -> bool
+fn is_essential_name(found: &StateRecord<'_, '_>, name: &[u8]) -> bool
     ensures { IsTrue result ↔ ((found.now.name ≡ name.now) × IsEssential found.now) }
 {
     is_same(found.name(), name) && found.is_essential()
@@ -48,7 +48,7 @@ pub fn is_essential(db: &Records<'_, '_>, name: &[u8]) -> bool
     some_is_essential(db.holders(name), name)
 }
 
-fn is_installed_name(found: &PackageRecord<'_, '_>, name: &[u8]) -> bool
+fn is_installed_name(found: &StateRecord<'_, '_>, name: &[u8]) -> bool
     ensures { IsTrue result ↔ ((found.now.name ≡ name.now) × IsInstalled found.now) }
 {
     is_same(found.name(), name) && found.state().is_installed()
@@ -67,7 +67,7 @@ pub fn is_installed(db: &Records<'_, '_>, name: &[u8]) -> bool
     some_is_installed(db.holders(name), name)
 }
 
-fn is_removed_name(found: &PackageRecord<'_, '_>, name: &[u8]) -> bool
+fn is_removed_name(found: &StateRecord<'_, '_>, name: &[u8]) -> bool
     ensures { IsTrue result ↔ ((found.now.name ≡ name.now) × IsRemoved found.now) }
 {
     is_same(found.name(), name) && found.state().is_removed()
@@ -87,7 +87,7 @@ pub fn is_removed(db: &Records<'_, '_>, name: &[u8]) -> bool
 }
 
 // Whether the record is of another name, stands and matches the atom.
-fn stands_in(other: &PackageRecord<'_, '_>, name: &[u8], atom: &Atom<'_>) -> bool
+fn stands_in(other: &StateRecord<'_, '_>, name: &[u8], atom: &Atom<'_>) -> bool
     ensures { IsTrue result ↔ (((other.now.name ≢ name.now) × Stands other.now)
         × Matches (pkg_of other.now) atom.now) }
 {
@@ -126,27 +126,27 @@ fn some_stands_in(db: &Records<'_, '_>, name: &[u8], clause: &Clause<'_>) -> boo
 }
 
 // Whether the clause, if the package to be removed matches it, is matched by another that stands.
-#[tactic(auto, unfolding(rules::specs::Remove::ManagesWithout))]
+#[tactic(auto, unfolding(rules::specs::Remove::IsMetWithout))]
 fn manages_without(
     db: &Records<'_, '_>,
-    removed: &PackageRecord<'_, '_>,
+    removed: &StateRecord<'_, '_>,
     there: &Pkg<'_>,
     clause: &Clause<'_>,
 ) -> bool
     requires { there.now ≡ pkg_of removed.now }
-    ensures { IsTrue result ↔ ManagesWithout db.now removed.now clause.now }
+    ensures { IsTrue result ↔ IsMetWithout db.now removed.now clause.now }
 {
     !matches_some(there, clause.as_slice()) || some_stands_in(db, removed.name(), clause)
 }
 
 fn manages_without_all(
     db: &Records<'_, '_>,
-    removed: &PackageRecord<'_, '_>,
+    removed: &StateRecord<'_, '_>,
     there: &Pkg<'_>,
     clauses: &[Clause<'_>],
 ) -> bool
     requires { there.now ≡ pkg_of removed.now }
-    ensures { IsTrue result ↔ All (ManagesWithout db.now removed.now) clauses.now }
+    ensures { IsTrue result ↔ All (IsMetWithout db.now removed.now) clauses.now }
 {
     clauses
         .iter()
@@ -156,12 +156,12 @@ fn manages_without_all(
 // Whether each clause of the other record that the package matches is matched by another.
 fn manages_without_needs(
     db: &Records<'_, '_>,
-    removed: &PackageRecord<'_, '_>,
+    removed: &StateRecord<'_, '_>,
     there: &Pkg<'_>,
-    other: &PackageRecord<'_, '_>,
+    other: &StateRecord<'_, '_>,
 ) -> bool
     requires { there.now ≡ pkg_of removed.now }
-    ensures { IsTrue result ↔ All (ManagesWithout db.now removed.now)
+    ensures { IsTrue result ↔ All (IsMetWithout db.now removed.now)
         (other.now.relations.pre_depends ++ other.now.relations.depends) }
 {
     manages_without_all(db, removed, there, other.pre_depends())
@@ -172,9 +172,9 @@ fn manages_without_needs(
 #[tactic(auto, unfolding(rules::specs::Remove::NeedsNot))]
 fn needs_not(
     db: &Records<'_, '_>,
-    removed: &PackageRecord<'_, '_>,
+    removed: &StateRecord<'_, '_>,
     there: &Pkg<'_>,
-    other: &PackageRecord<'_, '_>,
+    other: &StateRecord<'_, '_>,
 ) -> bool
     requires { there.now ≡ pkg_of removed.now }
     ensures { IsTrue result ↔ NeedsNot db.now removed.now other.now }
@@ -184,9 +184,9 @@ fn needs_not(
 
 fn is_own_or_needs_not(
     db: &Records<'_, '_>,
-    removed: &PackageRecord<'_, '_>,
+    removed: &StateRecord<'_, '_>,
     there: &Pkg<'_>,
-    other: &PackageRecord<'_, '_>,
+    other: &StateRecord<'_, '_>,
 ) -> bool
     requires { there.now ≡ pkg_of removed.now }
     ensures { IsTrue result ↔ (other.now.name ≢ removed.now.name → NeedsNot db.now removed.now other.now) }
@@ -195,22 +195,18 @@ fn is_own_or_needs_not(
 }
 
 // Whether no installed package of another name needs the package of the record.
-#[tactic(auto, unfolding(rules::specs::Remove::IsExpendable))]
-fn is_expendable(db: &Records<'_, '_>, removed: &PackageRecord<'_, '_>, there: &Pkg<'_>) -> bool
+#[tactic(auto, unfolding(rules::specs::Remove::IsNeededByNone))]
+fn is_expendable(db: &Records<'_, '_>, removed: &StateRecord<'_, '_>, there: &Pkg<'_>) -> bool
     requires { there.now ≡ pkg_of removed.now }
-    ensures { IsTrue result ↔ IsExpendable db.now removed.now }
+    ensures { IsTrue result ↔ IsNeededByNone db.now removed.now }
 {
     db.as_slice()
         .iter()
         .all(|other| is_own_or_needs_not(db, removed, there, other))
 }
 
-fn is_other_or_expendable(
-    db: &Records<'_, '_>,
-    name: &[u8],
-    removed: &PackageRecord<'_, '_>,
-) -> bool
-    ensures { IsTrue result ↔ (removed.now.name ≡ name.now → IsPresent removed.now → IsExpendable db.now removed.now) }
+fn is_other_or_expendable(db: &Records<'_, '_>, name: &[u8], removed: &StateRecord<'_, '_>) -> bool
+    ensures { IsTrue result ↔ (removed.now.name ≡ name.now → IsPresent removed.now → IsNeededByNone db.now removed.now) }
 {
     match removed.present_pkg() {
         None => true,

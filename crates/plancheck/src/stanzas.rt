@@ -2,11 +2,11 @@
 
 ghost use Rattle.std.specs.Prelude.{◌≡◌, ◌<◌, IfOk, Option, get_or, length, map};
 ghost use Rattle.std.specs.Option.{option_copied};
-ghost use Rattle.rules.specs.Step.{Listed as ListedValue};
+ghost use Rattle.rules.specs.Step.{IndexPackage as IndexPackageValue};
 ghost use Rattle.rules.specs.Universe.{listed_for, listed_of};
 
 use debversion::Version;
-use index::Listed;
+use index::IndexPackage;
 use rules::{Name, Step, VersionText};
 use std::alloc::{AllocError, Global};
 use universe::Universe;
@@ -27,13 +27,13 @@ fn listed_of<'a>(
     universe: &Universe<'_, 'a>,
     name: &Name,
     version: &VersionText,
-) -> Result<Option<Listed<'a>>, AllocError>
+) -> Result<Option<IndexPackage<'a>>, AllocError>
     ensures { IfOk result (λ listed. listed ≡ listed_of universe.now name.now version.now) }
 {
     match universe.listed_of(name.as_bytes(), &version_of(version)) {
         None => Ok(None),
         Some(entry) => {
-            let listed = entry.listed(alloc)?;
+            let listed = entry.package(alloc)?;
             Ok(Some(listed))
         }
     }
@@ -44,7 +44,7 @@ fn listed_for<'a>(
     alloc: Global,
     universe: &Universe<'_, 'a>,
     step: &Step,
-) -> Result<Option<Listed<'a>>, AllocError>
+) -> Result<Option<IndexPackage<'a>>, AllocError>
     ensures { IfOk result (λ listed. listed ≡ listed_for universe.now step.now) }
 {
     match step {
@@ -59,7 +59,7 @@ pub fn stanzas_for<'a>(
     alloc: Global,
     universe: &Universe<'_, 'a>,
     steps: &[Step],
-) -> Result<Vec<Option<Listed<'a>>>, AllocError>
+) -> Result<Vec<Option<IndexPackage<'a>>>, AllocError>
     ensures { IfOk result (λ stanzas. stanzas.items ≡ map (listed_for universe.now) steps.now) }
 {
     let mut stanzas = Vec::new(alloc);
@@ -71,9 +71,12 @@ pub fn stanzas_for<'a>(
 }
 
 /// The stanza at this place, counted from 0.
-pub fn stanza_at<'p, 'a>(stanzas: &'p [Option<Listed<'a>>], place: usize) -> Option<&'p Listed<'a>>
+pub fn stanza_at<'p, 'a>(
+    stanzas: &'p [Option<IndexPackage<'a>>],
+    place: usize,
+) -> Option<&'p IndexPackage<'a>>
     requires { place < length stanzas.now }
-    ensures { (none : Option ListedValue) → option_copied result ≡ get_or stanzas.now place none }
+    ensures { (none : Option IndexPackageValue) → option_copied result ≡ get_or stanzas.now place none }
 {
     stanzas[place].as_ref()
 }

@@ -14,7 +14,7 @@ use crate::stanzas::version_of;
 use crate::table::{
     configure_failing, deconfigure_failing, purge_failing, remove_failing, unpack_failing,
 };
-use index::Listed;
+use index::IndexPackage;
 use rules::{Name, Rule, Step, VersionText, allowed_acts_on_present, distinct_names_kept};
 use status::Records;
 use std::alloc::{AllocError, Global};
@@ -25,7 +25,7 @@ use universe::Universe;
 fn unpack_stop(
     db: &Records<'_, '_>,
     universe: &Universe<'_, '_>,
-    listed: Option<&Listed<'_>>,
+    listed: Option<&IndexPackage<'_>>,
     name: &Name,
     version: &VersionText,
 ) -> Option<Rule>
@@ -53,7 +53,7 @@ pub fn legal(
     alloc: Global,
     db: &Records<'_, '_>,
     universe: &Universe<'_, '_>,
-    listed: Option<&Listed<'_>>,
+    listed: Option<&IndexPackage<'_>>,
     step: &Step,
 ) -> Result<Option<Rule>, AllocError>
     requires { option_copied listed ≡ listed_for universe.now step.now }
@@ -72,7 +72,7 @@ pub fn legal(
 // Unpacks the package, if it is there.
 fn unpack_listed<'p, 'a>(
     db: &mut Records<'p, 'a>,
-    listed: Option<&'p Listed<'a>>,
+    listed: Option<&'p IndexPackage<'a>>,
 ) -> Result<(), AllocError>
     requires { HasDistinctNames db.old }
     ensures unchanged { OnErr result (db.new ≡ db.old) }
@@ -89,7 +89,7 @@ fn unpack_listed<'p, 'a>(
 fn leave<'p, 'a>(
     db: &mut Records<'p, 'a>,
     universe: &Universe<'_, 'a>,
-    listed: Option<&'p Listed<'a>>,
+    listed: Option<&'p IndexPackage<'a>>,
     step: &Step,
 ) -> Result<(), AllocError>
     requires listed { option_copied listed ≡ listed_for universe.now step.now }
@@ -113,7 +113,7 @@ fn leave<'p, 'a>(
 pub fn apply<'p, 'a>(
     db: &mut Records<'p, 'a>,
     universe: &Universe<'_, 'a>,
-    listed: Option<&'p Listed<'a>>,
+    listed: Option<&'p IndexPackage<'a>>,
     step: &Step,
 ) -> Result<(), AllocError>
     requires listed { option_copied listed ≡ listed_for universe.now step.now }

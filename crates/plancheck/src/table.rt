@@ -10,7 +10,7 @@ use crate::held::{is_not_held, stands_as};
 use crate::remove::{can_be_removed, is_essential, is_installed, is_not_needed, is_removed};
 use crate::unpack::{breaks_none, has_no_conflict, has_pre_depends};
 use debversion::Version;
-use index::Listed;
+use index::IndexPackage;
 use plancheck_group::{
     are_configurable, are_depends_installed, are_pre_depends_installed, are_unbroken,
     is_indivisible,
@@ -22,7 +22,7 @@ use std::alloc::{AllocError, Global};
 // Whether the unpacking keeps the rule.
 fn unpack_keeps(
     db: &Records<'_, '_>,
-    listed: Option<&Listed<'_>>,
+    listed: Option<&IndexPackage<'_>>,
     name: &[u8],
     version: &Version<'_>,
     rule: Rule,
@@ -77,7 +77,7 @@ pub fn remove_failing(db: &Records<'_, '_>, name: &[u8]) -> Option<Rule>
 /// relations.
 pub fn unpack_failing(
     db: &Records<'_, '_>,
-    listed: Option<&Listed<'_>>,
+    listed: Option<&IndexPackage<'_>>,
     name: &[u8],
     version: &Version<'_>,
 ) -> Option<Rule>

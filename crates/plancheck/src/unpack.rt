@@ -9,12 +9,12 @@ ghost use Rattle.rules.specs.Unpack.{BreaksNone, FitsFromBefore, FitsThenAndNow,
 use debversion::Version;
 use plancheck_end::{breaks_other, conflicts_with, is_same};
 use relation::{Atom, Clause, Pkg};
-use status::{Holders, PackageRecord, Records};
+use status::{Holders, Records, StateRecord};
 
 // Whether the record fits the atom as it is now and as it was when this version of it was configured.
 #[tactic(auto, unfolding(rules::specs::Unpack::FitsThenAndNow))]
 fn fits_then_and_now(
-    found: &PackageRecord<'_, '_>,
+    found: &StateRecord<'_, '_>,
     there: &Pkg<'_>,
     atom: &Atom<'_>,
     configured: &Version<'_>,
@@ -26,21 +26,22 @@ fn fits_then_and_now(
         || atom.provided_by(there)
 }
 
-// Whether the record is unpacked or half-configured, was configured before, and fits the atom.
+// Whether the record is unconfigured, was configured before, and fits the atom.
 #[tactic(auto, unfolding(rules::specs::Unpack::FitsFromBefore))]
-fn fits_from_before(found: &PackageRecord<'_, '_>, atom: &Atom<'_>) -> bool
+fn fits_from_before(found: &StateRecord<'_, '_>, atom: &Atom<'_>) -> bool
     ensures { IsTrue result ↔ FitsFromBefore found.now atom.now }
 {
-    match (found.present_pkg(), found.config_version()) {
-        (Some(there), Some(configured)) if found.state().is_unconfigured() => {
-            fits_then_and_now(found, there, atom, configured)
-        }
+    match found.present_pkg() {
+        Some(there) if found.state().is_unconfigured() => match found.last_configured() {
+            Some(configured) => fits_then_and_now(found, there, atom, &configured),
+            None => false,
+        },
         _ => false,
     }
 }
 
 // Whether the record is installed and matches the atom.
-fn matches_installed(found: &PackageRecord<'_, '_>, atom: &Atom<'_>) -> bool
+fn matches_installed(found: &StateRecord<'_, '_>, atom: &Atom<'_>) -> bool
     ensures { IsTrue result ↔ (IsInstalled found.now × Matches (pkg_of found.now) atom.now) }
 {
     match found.present_pkg() {
@@ -51,13 +52,13 @@ fn matches_installed(found: &PackageRecord<'_, '_>, atom: &Atom<'_>) -> bool
 
 // Whether the record satisfies the atom of a Pre-Depends.
 #[tactic(auto, unfolding(rules::specs::Unpack::SatisfiesAtom))]
-fn satisfies_atom(found: &PackageRecord<'_, '_>, atom: &Atom<'_>) -> bool
+fn satisfies_atom(found: &StateRecord<'_, '_>, atom: &Atom<'_>) -> bool
     ensures { IsTrue result ↔ SatisfiesAtom found.now atom.now }
 {
     !atom.is_foreign() && (matches_installed(found, atom) || fits_from_before(found, atom))
 }
 
-fn is_other_and_satisfies(found: &PackageRecord<'_, '_>, name: &[u8], atom: &Atom<'_>) -> bool
+fn is_other_and_satisfies(found: &StateRecord<'_, '_>, name: &[u8], atom: &Atom<'_>) -> bool
     ensures { IsTrue result ↔ ((found.now.name ≢ name.now) × SatisfiesAtom found.now atom.now) }
 {
     !is_same(found.name(), name) && satisfies_atom(found, atom)
@@ -98,7 +99,7 @@ pub fn has_pre_depends(db: &Records<'_, '_>, pkg: &Pkg<'_>) -> bool
 
 // Whether neither of the two conflicts with the other.
 #[tactic(auto, unfolding(rules::specs::Unpack::IsCompatible))]
-fn is_compatible(pkg: &Pkg<'_>, other: &PackageRecord<'_, '_>) -> bool
+fn is_compatible(pkg: &Pkg<'_>, other: &StateRecord<'_, '_>) -> bool
     ensures { IsTrue result ↔ IsCompatible pkg.now other.now }
 {
     match other.present_pkg() {
@@ -108,7 +109,7 @@ fn is_compatible(pkg: &Pkg<'_>, other: &PackageRecord<'_, '_>) -> bool
 }
 
 // Whether the record is of the package's own name or compatible with it.
-fn is_own_or_compatible(pkg: &Pkg<'_>, other: &PackageRecord<'_, '_>) -> bool
+fn is_own_or_compatible(pkg: &Pkg<'_>, other: &StateRecord<'_, '_>) -> bool
     ensures { IsTrue result ↔ (other.now.name ≢ pkg.now.name → IsCompatible pkg.now other.now) }
 {
     is_same(other.name(), pkg.name()) || is_compatible(pkg, other)
@@ -126,7 +127,7 @@ pub fn has_no_conflict(db: &Records<'_, '_>, pkg: &Pkg<'_>) -> bool
 }
 
 // Whether the record is of the package's own name, isn't installed, or isn't broken by it.
-fn is_own_or_spared(pkg: &Pkg<'_>, other: &PackageRecord<'_, '_>) -> bool
+fn is_own_or_unbroken(pkg: &Pkg<'_>, other: &StateRecord<'_, '_>) -> bool
     ensures { IsTrue result
         ↔ (other.now.name ≢ pkg.now.name → IsInstalled other.now → ¬ BreaksOther pkg.now (pkg_of other.now)) }
 {
@@ -146,5 +147,5 @@ pub fn breaks_none(db: &Records<'_, '_>, pkg: &Pkg<'_>) -> bool
 {
     db.as_slice()
         .iter()
-        .all(|other| is_own_or_spared(pkg, other))
+        .all(|other| is_own_or_unbroken(pkg, other))
 }

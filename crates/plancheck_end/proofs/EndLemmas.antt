@@ -11,8 +11,8 @@ use Rattle.std.proofs.lemmas.List.Elements.{All-contains}
 use Rattle.rules.specs.Database.{Record, HasRecord, IsInstalled, IsUnfinished, installed_of, is_unfinished, pkg_of}
 use Rattle.rules.specs.ElementLaws.{Any-elim, Any-weaker}
 use Rattle.rules.specs.Name.{name_cmp}
-use Rattle.rules.specs.Run.{IsAgainst, IsFirstAgainst, IsDiscontent, HasNothingAgainst, reason_cmp}
-use Rattle.rules.specs.Sound.{IsContent, KeepsEssential}
+use Rattle.rules.specs.Run.{IsAgainst, IsFirstAgainst, LacksARelation, HasNothingAgainst, reason_cmp}
+use Rattle.rules.specs.Sound.{HasItsRelations, KeepsEssential}
 use Rattle.rules.specs.State.{is_installed_state}
 use Rattle.rules.specs.Universe.{Universe, Start}
 use Rattle.rules.specs.declared.step.Reason.{Reason}
@@ -22,7 +22,7 @@ use Rattle.plancheck_end.specs.Least.{IsLeastWithout}
 
 -- the record isn't installed or its package is content
 abbrev IsSettled : List Record → Record → Type 0
-IsSettled db found = IsInstalled found → IsContent (installed_of db) (pkg_of found)
+IsSettled db found = IsInstalled found → HasItsRelations (installed_of db) (pkg_of found)
 
 -- what a test doesn't fail, it passes
 not_failed : (b : Bool) → ¬ (¬ IsTrue b) → IsTrue b
@@ -63,19 +63,19 @@ lacks_unfinished db name some = Any-weaker (λ (found : Record). (found.name ≡
     (λ found within both. (both.0, not_failed (is_unfinished found) both.1)) some
 
 -- a name is discontent where its record isn't settled
-discontent_lacks : (db : List Record) (name : List ℕ) → HasRecord (IsDiscontent db) name db
+discontent_lacks : (db : List Record) (name : List ℕ) → HasRecord (LacksARelation db) name db
     → Any (λ (found : Record). (found.name ≡ name) × ¬ IsSettled db found) db
-unfolding IsDiscontent
+unfolding LacksARelation
 discontent_lacks db name has = Any-weaker
-    (λ (found : Record). (found.name ≡ name) × (IsInstalled found × ¬ IsContent (installed_of db) (pkg_of found)))
+    (λ (found : Record). (found.name ≡ name) × (IsInstalled found × ¬ HasItsRelations (installed_of db) (pkg_of found)))
     (λ (found : Record). (found.name ≡ name) × ¬ IsSettled db found) db
     (λ found within both. (both.0, λ settled. both.1.1 (settled both.1.0))) has
 
 lacks_discontent : (db : List Record) (name : List ℕ)
-    → Any (λ (found : Record). (found.name ≡ name) × ¬ IsSettled db found) db → HasRecord (IsDiscontent db) name db
-unfolding IsDiscontent
+    → Any (λ (found : Record). (found.name ≡ name) × ¬ IsSettled db found) db → HasRecord (LacksARelation db) name db
+unfolding LacksARelation
 lacks_discontent db name some = Any-weaker (λ (found : Record). (found.name ≡ name) × ¬ IsSettled db found)
-    (λ (found : Record). (found.name ≡ name) × (IsInstalled found × ¬ IsContent (installed_of db) (pkg_of found))) db
+    (λ (found : Record). (found.name ≡ name) × (IsInstalled found × ¬ HasItsRelations (installed_of db) (pkg_of found))) db
     (λ found within both. (
       both.0,
       (

@@ -4,15 +4,15 @@ ghost use Rattle.std.specs.Prelude.{◌≡◌, ◌≢◌, ◌↔◌, IsTrue};
 ghost use Rattle.std.specs.List.{All};
 ghost use Rattle.rules.specs.Database.{IsInstalled, installed_of, pkg_of};
 ghost use Rattle.rules.specs.Package.{Matches};
-ghost use Rattle.rules.specs.Sound.{IsContent, MatchedByNoOther, MeetsClauses};
+ghost use Rattle.rules.specs.Sound.{HasItsRelations, MatchedByNoOther, MeetsClauses};
 
 use crate::installed::are_met;
 use crate::matching::is_same;
 use relation::{Atom, Pkg};
-use status::{Holders, PackageRecord, Records};
+use status::{Holders, Records, StateRecord};
 
 // Whether the record isn't installed, is of the name, or doesn't match the atom.
-fn is_apart(other: &PackageRecord<'_, '_>, name: &[u8], atom: &Atom<'_>) -> bool
+fn is_apart(other: &StateRecord<'_, '_>, name: &[u8], atom: &Atom<'_>) -> bool
     ensures { IsTrue result
         ↔ (IsInstalled other.now → other.now.name ≢ name.now → ¬ Matches (pkg_of other.now) atom.now) }
 {
@@ -71,7 +71,7 @@ fn is_at_peace(db: &Records<'_, '_>, pkg: &Pkg<'_>) -> bool
 /// another name. For each of its atoms linear in the records that have or provide its name, and in what they
 /// provide.
 pub fn is_content(db: &Records<'_, '_>, pkg: &Pkg<'_>) -> bool
-    ensures { IsTrue result ↔ IsContent (installed_of db.now) pkg.now }
+    ensures { IsTrue result ↔ HasItsRelations (installed_of db.now) pkg.now }
 {
     has_needs(db, pkg) && is_at_peace(db, pkg)
 }

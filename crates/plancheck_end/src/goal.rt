@@ -15,7 +15,7 @@ use crate::installed::{has_member, has_version};
 use crate::matching::is_same;
 use debversion::Version;
 use rules::{Goal, Restriction, VersionText};
-use status::{Holders, PackageRecord, Records};
+use status::{Holders, Records, StateRecord};
 use universe::{Start, Universe};
 
 // The owned text as a version, which it is.
@@ -36,11 +36,7 @@ fn meets(version: &Version<'_>, restriction: &Option<Restriction>) -> bool
 }
 
 // Whether the record is installed, of the name, and of a version that meets the restriction.
-fn is_asked_for(
-    found: &PackageRecord<'_, '_>,
-    name: &[u8],
-    restriction: &Option<Restriction>,
-) -> bool
+fn is_asked_for(found: &StateRecord<'_, '_>, name: &[u8], restriction: &Option<Restriction>) -> bool
     ensures { IsTrue result ↔ (IsInstalled found.now
         × ((found.now.name ≡ name.now) × Meets found.now.version restriction.now)) }
 {
@@ -71,7 +67,7 @@ fn has_installed(db: &Records<'_, '_>, name: &[u8], restriction: &Option<Restric
     some_is_asked_for(db.holders(name), name, restriction)
 }
 
-fn is_other_or_gone(found: &PackageRecord<'_, '_>, name: &[u8]) -> bool
+fn is_other_or_gone(found: &StateRecord<'_, '_>, name: &[u8]) -> bool
     ensures { IsTrue result ↔ (found.now.name ≡ name.now → IsTrue (is_not_installed_state found.now.state)) }
 {
     !is_same(found.name(), name) || found.state().is_not_installed()

@@ -10,10 +10,10 @@ ghost use Rattle.rules.specs.Universe.{IsOf};
 use crate::matching::is_same;
 use debversion::Version;
 use relation::{Atom, Clause, Pkg};
-use status::{Holders, PackageRecord, Records};
+use status::{Holders, Records, StateRecord};
 
 // Whether the record is installed and matches the atom.
-fn matches_installed(found: &PackageRecord<'_, '_>, atom: &Atom<'_>) -> bool
+fn matches_installed(found: &StateRecord<'_, '_>, atom: &Atom<'_>) -> bool
     ensures { IsTrue result ↔ (IsInstalled found.now × Matches (pkg_of found.now) atom.now) }
 {
     match found.present_pkg() {
@@ -57,7 +57,7 @@ pub fn are_met(db: &Records<'_, '_>, clauses: &[Clause<'_>]) -> bool
     clauses.iter().all(|clause| is_met(db, clause))
 }
 
-fn is_installed_name(found: &PackageRecord<'_, '_>, name: &[u8]) -> bool
+fn is_installed_name(found: &StateRecord<'_, '_>, name: &[u8]) -> bool
     ensures { IsTrue result ↔ (IsInstalled found.now × (found.now.name ≡ name.now)) }
 {
     found.state().is_installed() && is_same(found.name(), name)
@@ -82,7 +82,7 @@ fn is_of(pkg: &Pkg<'_>, name: &[u8], version: &Version<'_>) -> bool
     is_same(pkg.name(), name) && pkg.version() == version
 }
 
-fn is_installed_version(found: &PackageRecord<'_, '_>, name: &[u8], version: &Version<'_>) -> bool
+fn is_installed_version(found: &StateRecord<'_, '_>, name: &[u8], version: &Version<'_>) -> bool
     ensures { IsTrue result ↔ (IsInstalled found.now × IsOf name.now version.now (pkg_of found.now)) }
 {
     match found.present_pkg() {

@@ -3,12 +3,12 @@
 ghost use Rattle.std.specs.Prelude.{◌≡◌, ◌↔◌, IsTrue};
 ghost use Rattle.std.specs.Option.{option_copied};
 ghost use Rattle.rules.specs.Database.{IsInstalled, IsUnfinished, installed_of, pkg_of};
-ghost use Rattle.rules.specs.Sound.{IsContent, KeepsEssential};
+ghost use Rattle.rules.specs.Sound.{HasItsRelations, KeepsEssential};
 ghost use Rattle.plancheck_end.specs.Least.{IsLeastWithout, least_with, lesser};
 
 use crate::content::is_content;
 use crate::installed::has_member;
-use status::{PackageRecord, Records};
+use status::{Records, StateRecord};
 use std::cmp::Ordering;
 use universe::Start;
 
@@ -32,13 +32,13 @@ fn least_with<'n>(least: Option<&'n [u8]>, is_fine: bool, name: &'n [u8]) -> Opt
     }
 }
 
-fn is_finished(found: &PackageRecord<'_, '_>) -> bool
+fn is_finished(found: &StateRecord<'_, '_>) -> bool
     ensures { IsTrue result ↔ (¬ IsUnfinished found.now) }
 {
     !found.is_unfinished()
 }
 
-/// The least name that is half-installed, unpacked, half-configured or to be installed again, if there is one.
+/// The least name that is half-installed, unconfigured or to be installed again, if there is one.
 /// Linear in the records.
 pub fn least_unfinished<'a>(db: &Records<'_, 'a>) -> Option<&'a [u8]>
     ensures { IsLeastWithout (λ found. ¬ IsUnfinished found) (λ found. found.name) db.now (option_copied result) }
@@ -52,8 +52,8 @@ pub fn least_unfinished<'a>(db: &Records<'_, 'a>) -> Option<&'a [u8]>
 }
 
 // Whether the record isn't installed or its package is content.
-fn is_settled(db: &Records<'_, '_>, found: &PackageRecord<'_, '_>) -> bool
-    ensures { IsTrue result ↔ (IsInstalled found.now → IsContent (installed_of db.now) (pkg_of found.now)) }
+fn is_settled(db: &Records<'_, '_>, found: &StateRecord<'_, '_>) -> bool
+    ensures { IsTrue result ↔ (IsInstalled found.now → HasItsRelations (installed_of db.now) (pkg_of found.now)) }
 {
     match found.present_pkg() {
         Some(here) if found.state().is_installed() => is_content(db, here),
@@ -64,7 +64,7 @@ fn is_settled(db: &Records<'_, '_>, found: &PackageRecord<'_, '_>) -> bool
 /// The least name of an installed package that has an unmet clause, or that conflicts with or breaks another, if
 /// there is one. For each atom of an installed package linear in the records that have or provide its name.
 pub fn least_discontent<'a>(db: &Records<'_, 'a>) -> Option<&'a [u8]>
-    ensures { IsLeastWithout (λ found. IsInstalled found → IsContent (installed_of db.now) (pkg_of found))
+    ensures { IsLeastWithout (λ found. IsInstalled found → HasItsRelations (installed_of db.now) (pkg_of found))
         (λ found. found.name) db.now (option_copied result) }
 {
     let records = db.as_slice();

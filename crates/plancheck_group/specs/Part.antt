@@ -2,8 +2,13 @@
 use Rattle.std.specs.Prelude.{◌≡◌, ℕ, List, [], ◌∷◌, ◌++◌, ◌↔◌}
 use Rattle.std.specs.List.{All, Contains}
 use Rattle.rules.specs.Configure.{AreConfigurable, ArePreDependsInstalled, AreUnbroken, GroupPasses, IsGreatestPart, members_of, others_of}
-use Rattle.rules.specs.Database.{Record, ForMembers, installed_of}
+use Rattle.rules.specs.Database.{Record, ForMembers, IsPresent, installed_of, pkg_of}
+use Rattle.rules.specs.Package.{BreaksOther}
 use Rattle.rules.specs.Sound.{MeetsClauses}
+
+-- the package of the other record, if it is present, doesn't break the member
+unfoldable pub DoesNotBreak : Record → Record → Type 0
+DoesNotBreak member other = IsPresent other → ¬ BreaksOther (pkg_of other) (pkg_of member)
 
 -- the name passes the tests that ask nothing of the other names of its group
 unfoldable pub IsReady : List Record → List ℕ → Type 0

@@ -3,18 +3,18 @@
 ghost use Rattle.std.specs.Prelude.{◌≡◌, ◌≢◌, ◌↔◌, ◌++◌, IsTrue, true};
 ghost use Rattle.std.specs.List.{All, Any, Contains};
 ghost use Rattle.rules.specs.Configure.{AreConfigurable, HasConfigurable, AreDependsInstalled, ArePreDependsInstalled, AreUnbroken, IsConfigurable, IsUnbroken, is_present_among, members_of};
-ghost use Rattle.rules.specs.Database.{ForMembers, ForOthers, HasRecord, IsInstalled, IsPresent, installed_of, pkg_of};
-ghost use Rattle.rules.specs.Package.{BreaksOther, Matches, MatchesSome, MeetsClause};
+ghost use Rattle.rules.specs.Database.{ForMembers, ForOthers, HasRecord, IsInstalled, installed_of, pkg_of};
+ghost use Rattle.rules.specs.Package.{Matches, MatchesSome, MeetsClause};
 ghost use Rattle.rules.specs.Sound.{MeetsClauses};
 ghost use Rattle.rules.specs.Step.{is_among};
-ghost use Rattle.plancheck_group.specs.Part.{AreSupplied};
+ghost use Rattle.plancheck_group.specs.Part.{AreSupplied, DoesNotBreak};
 
 use plancheck_end::{are_met, breaks_other, is_met, is_same};
 use relation::{Atom, Clause, Pkg};
 use rules::Name;
-use status::{Holders, PackageRecord, Records};
+use status::{Holders, Records, StateRecord};
 
-fn is_configurable(found: &PackageRecord<'_, '_>, name: &[u8]) -> bool
+fn is_configurable(found: &StateRecord<'_, '_>, name: &[u8]) -> bool
     ensures { IsTrue result ↔ ((found.now.name ≡ name.now) × IsConfigurable found.now) }
 {
     is_same(found.name(), name) && found.state().is_unconfigured() && found.flag().is_sound()
@@ -44,21 +44,21 @@ pub fn are_configurable(db: &Records<'_, '_>, names: &[Name]) -> bool
 }
 
 // Whether the record is of one of the names.
-fn is_among(names: &[Name], found: &PackageRecord<'_, '_>) -> bool
+fn is_among(names: &[Name], found: &StateRecord<'_, '_>) -> bool
     ensures { result ≡ is_among names.now found.now }
 {
     names.iter().any(|name| found.name() == name.as_bytes())
 }
 
 // Whether the names contain the record's.
-fn is_member(names: &[Name], found: &PackageRecord<'_, '_>) -> bool
+fn is_member(names: &[Name], found: &StateRecord<'_, '_>) -> bool
     ensures { IsTrue result ↔ Contains names.now found.now.name }
 {
     is_among(names, found)
 }
 
 // Whether the record is of another name, or its Pre-Depends are met by installed packages.
-fn is_other_or_prepared(db: &Records<'_, '_>, name: &[u8], member: &PackageRecord<'_, '_>) -> bool
+fn is_other_or_prepared(db: &Records<'_, '_>, name: &[u8], member: &StateRecord<'_, '_>) -> bool
     ensures { IsTrue result ↔ (member.now.name ≡ name.now
         → MeetsClauses (installed_of db.now) member.now.relations.pre_depends) }
 {
@@ -100,14 +100,14 @@ pub fn are_pre_depends_installed(db: &Records<'_, '_>, names: &[Name]) -> bool
 }
 
 // Whether a present package of another name breaks the package of the record.
-fn is_spared_by(
-    other: &PackageRecord<'_, '_>,
-    member: &PackageRecord<'_, '_>,
+#[tactic(auto, unfolding(crate::specs::Part::DoesNotBreak))]
+fn is_not_broken_by(
+    other: &StateRecord<'_, '_>,
+    member: &StateRecord<'_, '_>,
     here: &Pkg<'_>,
 ) -> bool
     requires { here.now ≡ pkg_of member.now }
-    ensures { IsTrue result ↔ (other.now.name ≢ member.now.name → IsPresent other.now
-        → ¬ BreaksOther (pkg_of other.now) (pkg_of member.now)) }
+    ensures { IsTrue result ↔ (other.now.name ≢ member.now.name → DoesNotBreak member.now other.now) }
 {
     match other.present_pkg() {
         None => true,
@@ -115,32 +115,27 @@ fn is_spared_by(
     }
 }
 
-fn is_spared(db: &Records<'_, '_>, member: &PackageRecord<'_, '_>, here: &Pkg<'_>) -> bool
+fn is_broken_by_none(db: &Records<'_, '_>, member: &StateRecord<'_, '_>, here: &Pkg<'_>) -> bool
     requires { here.now ≡ pkg_of member.now }
-    ensures { IsTrue result ↔ ForOthers (λ other. IsPresent other → ¬ BreaksOther (pkg_of other) (pkg_of member.now))
-        member.now.name db.now }
+    ensures { IsTrue result ↔ ForOthers (DoesNotBreak member.now) member.now.name db.now }
 {
     db.as_slice()
         .iter()
-        .all(|other| is_spared_by(other, member, here))
+        .all(|other| is_not_broken_by(other, member, here))
 }
 
 // Whether no present package of another name breaks the package of the record, if it is present.
-#[tactic(auto, unfolding(rules::specs::Configure::IsUnbroken))]
-fn is_unbroken(db: &Records<'_, '_>, member: &PackageRecord<'_, '_>) -> bool
+#[tactic(auto, unfolding(crate::specs::Part::DoesNotBreak, rules::specs::Configure::IsUnbroken))]
+fn is_unbroken(db: &Records<'_, '_>, member: &StateRecord<'_, '_>) -> bool
     ensures { IsTrue result ↔ IsUnbroken db.now member.now }
 {
     match member.present_pkg() {
         None => true,
-        Some(here) => is_spared(db, member, here),
+        Some(here) => is_broken_by_none(db, member, here),
     }
 }
 
-fn is_other_or_unbroken(
-    db: &Records<'_, '_>,
-    names: &[Name],
-    member: &PackageRecord<'_, '_>,
-) -> bool
+fn is_other_or_unbroken(db: &Records<'_, '_>, names: &[Name], member: &StateRecord<'_, '_>) -> bool
     ensures { IsTrue result ↔ (Contains names.now member.now.name → IsUnbroken db.now member.now) }
 {
     !is_member(names, member) || is_unbroken(db, member)
@@ -158,7 +153,7 @@ pub fn are_unbroken(db: &Records<'_, '_>, names: &[Name]) -> bool
 }
 
 // Whether the record is present, of one of the names, and matches the atom.
-fn matches_among(names: &[Name], found: &PackageRecord<'_, '_>, atom: &Atom<'_>) -> bool
+fn matches_among(names: &[Name], found: &StateRecord<'_, '_>, atom: &Atom<'_>) -> bool
     ensures { IsTrue result
         ↔ ((is_present_among names.now found.now ≡ true) × Matches (pkg_of found.now) atom.now) }
 {
@@ -216,7 +211,7 @@ fn is_other_or_supplied(
     db: &Records<'_, '_>,
     part: &[Name],
     name: &[u8],
-    member: &PackageRecord<'_, '_>,
+    member: &StateRecord<'_, '_>,
 ) -> bool
     ensures { IsTrue result ↔ (member.now.name ≡ name.now
         → MeetsClauses (installed_of db.now ++ members_of part.now db.now) member.now.relations.depends) }

@@ -20,7 +20,7 @@ use Rattle.plantext.proofs.PlanLemmas.{read_steps_more}
 -- Words
 
 -- the first of joined words stands before the others, each with the separator before it
-joined_behind : (separator : ℕ) (word : List ℕ) (later : List (List ℕ))
+pub joined_behind : (separator : ℕ) (word : List ℕ) (later : List (List ℕ))
     → join_with_byte separator (word ∷ later) ≡ word ++ flat_map (λ next. separator ∷ next) later
 joined_behind separator word [] = sym (append-nil word)
 joined_behind separator word (next ∷ later) = ap (λ text. word ++ separator ∷ text) (joined_behind separator next later)
@@ -32,7 +32,7 @@ group_written text names =
     ∙ ap (λ written. text ++ written) (sym (joined_behind 32 (codes "configure") names))
 
 -- words that are joined are parted again
-joined_parts : (separator : ℕ) (word : List ℕ) (later : List (List ℕ)) → AreFree separator (word ∷ later)
+pub joined_parts : (separator : ℕ) (word : List ℕ) (later : List (List ℕ)) → AreFree separator (word ∷ later)
     → parts_at separator (join_with_byte separator (word ∷ later)) ≡ word ∷ later
 joined_parts separator word [] free = slice_split_none (λ b. eqb b separator) word free.0
 joined_parts separator word (next ∷ later) free =

@@ -45,13 +45,13 @@ other_byte test byte b fails passes = elim (cases_Bool (eqb b byte)) [
 ]
 
 -- bytes that pass a test are free of one that fails it
-passing_free : (test : ℕ → Bool) (byte : ℕ) (text : List ℕ) → test byte ≡ false → list_all test text ≡ true → IsFree byte text
+pub passing_free : (test : ℕ → Bool) (byte : ℕ) (text : List ℕ) → test byte ≡ false → list_all test text ≡ true → IsFree byte text
 passing_free test byte [] fails all = All-nil (λ b. eqb b byte ≡ false)
 passing_free test byte (b ∷ bs) fails all =
     let both = and_parts (test b) (list_all test bs) all in
     All-cons (λ x. eqb x byte ≡ false) b bs (other_byte test byte b fails both.0) (passing_free test byte bs fails both.1)
 
-name_free : (byte : ℕ) (name : List ℕ) → IsOutside byte → is_name name ≡ true → IsFree byte name
+pub name_free : (byte : ℕ) (name : List ℕ) → IsOutside byte → is_name name ≡ true → IsFree byte name
 name_free byte [] outside h = absurd (false≢true h)
 name_free byte (b ∷ bs) outside h =
     let both = and_parts (is_ascii_alphanumeric b) (list_all is_name_byte bs) h in
@@ -105,7 +105,7 @@ names_free byte [] outside h = tt
 names_free byte (name ∷ later) outside h =
     (name_free byte name outside (ascending_name name later h), names_free byte later outside (ascending_rest name later h))
 
-letters_free : (byte : ℕ) (word : List ℕ) → IsOutside byte → list_all is_ascii_alphanumeric word ≡ true → IsFree byte word
+pub letters_free : (byte : ℕ) (word : List ℕ) → IsOutside byte → list_all is_ascii_alphanumeric word ≡ true → IsFree byte word
 letters_free byte word outside h = passing_free is_ascii_alphanumeric byte word outside.letter h
 
 pub words_free : (byte : ℕ) (step : Step) → IsOutside byte → is_spelled step ≡ true → AreFree byte (words_of step)

@@ -6,7 +6,7 @@ use Rattle.std.proofs.lemmas.List.Splits.{length-slice_split, slice_split_none, 
 use Rattle.std.proofs.lemmas.List.{length-take-le, length-drop}
 use Rattle.std.specs.List.{position, position_or_len, slice_split, onto_first}
 use Rattle.plantext.specs.Cut.{SplitsPart, parts_at}
-use Rattle.plantext.specs.StepLine.{only_word}
+use Rattle.plantext.specs.Word.{only_word}
 
 position-inside : (test : ℕ → Bool) (bytes : List ℕ) → ltb (position_or_len test bytes) (length bytes) ≡ true
     → position test bytes ≡ Some (position_or_len test bytes)

@@ -15,7 +15,8 @@ use Rattle.rules.specs.declared.step.Step.TheVariants.{Unpack, Deconfigure, Conf
 use Rattle.plantext.specs.Cut.{parts_at}
 use Rattle.plantext.specs.Group.{is_group}
 use Rattle.plantext.specs.Plan.{header, numbered_step, only_line, plan_text, put_step, read_end, read_lines, read_plan, read_step, read_steps, step_in_line}
-use Rattle.plantext.specs.StepLine.{configure_of, name_in, only_name, only_version, step_by, step_line, step_of, step_of_words, unpack_of, version_in, words_of}
+use Rattle.plantext.specs.StepLine.{configure_of, only_version, step_by, step_line, step_of, step_of_words, unpack_of, version_in, words_of}
+use Rattle.plantext.specs.Word.{name_in, only_name}
 use Rattle.plantext.specs.declared.error.PlanFault.{PlanFault}
 use Rattle.plantext.specs.declared.error.PlanFault.TheVariants.{BadPlan}
 
@@ -27,7 +28,7 @@ name_is word name h = elim (cases_Bool (is_name word)) [ inl e ↦ cc (rw e at h
 version_is : (word version : List ℕ) → version_in word ≡ Some version → word ≡ version
 version_is word version h = elim (cases_Bool (is_none (first_fault word))) [ inl e ↦ cc (rw e at h) | inr e ↦ cc (rw e at h) ]
 
-only_name_is : (words : List (List ℕ)) (name : List ℕ) → only_name words ≡ Some name → words ≡ name ∷ []
+pub only_name_is : (words : List (List ℕ)) (name : List ℕ) → only_name words ≡ Some name → words ≡ name ∷ []
 only_name_is [] name h = cc
 only_name_is (word ∷ []) name h = ap (λ (w : List ℕ). w ∷ []) (name_is word name h)
 only_name_is (word ∷ next ∷ later) name h = cc

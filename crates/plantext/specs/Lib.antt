@@ -3,3 +3,4 @@ pub mod Error
 pub mod Group
 pub mod Plan
 pub mod StepLine
+pub mod Word

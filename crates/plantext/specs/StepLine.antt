@@ -10,27 +10,14 @@ use Rattle.rules.specs.declared.step.Step.{Step}
 use Rattle.rules.specs.declared.step.Step.TheVariants.{Unpack, Deconfigure, Configure, Remove, Purge}
 use Rattle.plantext.specs.Cut.{parts_at}
 use Rattle.plantext.specs.Group.{is_group}
+use Rattle.plantext.specs.Word.{name_in, only_name, only_word}
 use Rattle.plantext.specs.declared.cut.TheConstants.{NEWLINE, SPACE}
 
 -- Reading
 
--- the word that stands alone, if one does
-abbrev pub only_word : List (List ℕ) → Option (List ℕ)
-only_word [] = None
-only_word (word ∷ []) = Some word
-only_word (word ∷ next ∷ later) = None
-
--- the word as a name, if it is one
-abbrev pub name_in : List ℕ → Option (List ℕ)
-name_in word = if is_name word then Some word else None
-
 -- the word as a version, if it is one
 abbrev pub version_in : List ℕ → Option (List ℕ)
 version_in word = if is_none (first_fault word) then Some word else None
-
--- the name that stands alone, if one does
-abbrev pub only_name : List (List ℕ) → Option (List ℕ)
-only_name words = option_and_then name_in (only_word words)
 
 -- the version that stands alone, if one does
 abbrev pub only_version : List (List ℕ) → Option (List ℕ)

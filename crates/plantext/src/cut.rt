@@ -16,8 +16,9 @@ fn first_at(separator: u8, text: &[u8]) -> Option<usize>
     text.iter().position(|byte| *byte == separator)
 }
 
-/// The text up to the first such byte and what follows the byte, if there is one.
+/// The text up to the first such byte and what follows the byte, if there is one. Linear in the text up to it.
 pub fn split_part(separator: u8, text: &[u8]) -> Option<(&[u8], &[u8])>
+    // None only where the text has no such byte; else the text is its first part, the byte, and the rest.
     ensures { MatchOption result (parts_at separator text.now ≡ text.now ∷ [])
         (λ cut. SplitsPart separator text.now cut.0.now cut.1.now) }
 {
@@ -27,8 +28,10 @@ pub fn split_part(separator: u8, text: &[u8]) -> Option<(&[u8], &[u8])>
     }
 }
 
-/// The text up to the first such byte, and what is left behind the byte, if anything is.
+/// The text up to the first such byte, or all of it where there is none, and what is left behind the byte. Linear in
+/// the text up to it.
 pub fn cut_part(separator: u8, text: &[u8]) -> (&[u8], Option<&[u8]>)
+    // The text is its first part and what is left.
     ensures { CutsPart separator text.now result.0.now result.1 }
 {
     match split_part(separator, text) {

@@ -8,9 +8,12 @@ mod group;
 mod laws;
 mod plan;
 mod step_line;
+mod word;
 mod write;
 
+pub use cut::{NEWLINE, SPACE, cut_part, split_part};
 pub use error::{PlanError, PlanFault};
 pub use laws::{a_plan_is_the_text_of_its_steps, a_step_is_its_line};
 pub use plan::{read_plan, read_step};
+pub use word::{only_name, only_word};
 pub use write::{write_plan, write_step};

@@ -1,39 +1,20 @@
 // The step in a line, which is its action and the words that it is about.
 
-ghost use Rattle.std.specs.Prelude.{◌≡◌, IfOk, IfSome, IsTrue, None};
+ghost use Rattle.std.specs.Prelude.{◌≡◌, IfOk, IfSome, None};
 ghost use Rattle.std.specs.Option.{is_none, option_copied, option_map};
 ghost use Rattle.std.specs.Str.{bytes_eq};
-ghost use Rattle.rules.specs.Name.{is_name};
 ghost use Rattle.rules.specs.VersionFault.{first_fault};
 ghost use Rattle.plantext.specs.Cut.{parts_left};
 ghost use Rattle.plantext.specs.StepLine as Spec;
-ghost use Rattle.plantext.specs.StepLine.{configure_of, only_name, only_version, only_word, step_by, step_of, unpack_of};
+ghost use Rattle.plantext.specs.StepLine.{configure_of, only_version, step_by, step_of, unpack_of};
 ghost use Rattle.plantext.specs.declared.cut.TheConstants.{SPACE};
 
 use crate::cut::{SPACE, cut_part};
 use crate::group::{is_group, names_of};
+use crate::word::{name_in, only_name, only_word};
 use debversion::Version;
-use rules::{Name, Step, VersionText, is_name};
+use rules::{Name, Step, VersionText};
 use std::alloc::{AllocError, Global};
-
-// The word that is all that is left.
-#[tactic(auto, using(crate::proofs::PartLemmas::only_word_more))]
-fn only_word(words: Option<&[u8]>) -> Option<&[u8]>
-    ensures { option_copied result ≡ only_word (parts_left SPACE words.entry) }
-{
-    let (word, after) = cut_part(SPACE, words?);
-    match after {
-        None => Some(word),
-        Some(_) => None,
-    }
-}
-
-fn name_in(word: &[u8]) -> Option<&[u8]>
-    ensures name { option_copied result ≡ Spec.name_in word.now }
-    ensures valid { IfSome result (λ name. IsTrue (is_name name.now)) }
-{
-    if is_name(word) { Some(word) } else { None }
-}
 
 fn version_in(word: &[u8]) -> Option<&[u8]>
     ensures version { option_copied result ≡ Spec.version_in word.now }
@@ -42,19 +23,6 @@ fn version_in(word: &[u8]) -> Option<&[u8]>
     match Version::parse(word) {
         Ok(_) => Some(word),
         Err(_) => None,
-    }
-}
-
-// The name that is all that is left.
-fn only_name(alloc: Global, words: Option<&[u8]>) -> Result<Option<Name>, AllocError>
-    ensures { IfOk result (λ name. name ≡ only_name (parts_left SPACE words.entry)) }
-{
-    let Some(word) = only_word(words) else {
-        return Ok(None);
-    };
-    match name_in(word) {
-        None => Ok(None),
-        Some(name) => Ok(Some(Name::copied_from(alloc, name)?)),
     }
 }
 

@@ -8,7 +8,7 @@ use Rattle.std.proofs.lemmas.Option.{same_Some, slice_get_read}
 use Rattle.rules.specs.ElementLaws.{All-intro, Any-elim, Any-intro}
 use Rattle.rules.specs.Package.{Pkg, Atom, MatchesSome, MeetsClause, ConflictsWith, BreaksOther}
 use Rattle.rules.specs.PlanLaws.{IsEssentialIn}
-use Rattle.rules.specs.Sound.{selected, HasMember, HasVersion, IsAcceptable, IsAdmittedIn, IsFitting, IsContent, IsSound, MeetsClauses, MatchedByNoOther, HasOneVersionEach, AgreesWith, FulfilsAll, Fulfils, IsUpgraded, IsKept, KeepsHold, KeepsEssential}
+use Rattle.rules.specs.Sound.{selected, HasMember, HasVersion, IsAcceptable, IsAdmittedIn, IsFitting, HasItsRelations, IsSound, MeetsClauses, MatchedByNoOther, HasOneVersionEach, AgreesWith, FulfilsAll, Fulfils, IsUpgraded, IsKept, KeepsHold, KeepsEssential}
 use Rattle.rules.specs.Universe.{Universe, Pair, Start, IsOf, candidate_of}
 use Rattle.rules.specs.Verdict.{HasPair}
 use Rattle.rules.specs.Version.{SameVersion}
@@ -110,7 +110,7 @@ module _ (u : Universe) (selection : ℕ → Bool) (needed : HasNeededPairs u) (
 
   sound : IsSound members
   unfolding IsSound MatchedByNoOther ConflictsWith BreaksOther
-  sound = each_member (IsContent members) (λ number pair there chosen. record {
+  sound = each_member (HasItsRelations members) (λ number pair there chosen. record {
     pre_depends = met number pair there chosen (λ pkg. pkg.relations.pre_depends)
         (λ clause has. premises (premise.PreDepends number clause) (pair, there, has));
     depends = met number pair there chosen (λ pkg. pkg.relations.depends)

@@ -6,7 +6,7 @@ use Rattle.std.proofs.lemmas.List.Elements.{All-contains}
 use Rattle.rules.specs.ElementLaws.{Any-contains, Any-elim, Any-intro}
 use Rattle.rules.specs.Package.{Pkg, Atom, Meets, MatchesSome, MeetsClause, ConflictsWith, BreaksOther}
 use Rattle.rules.specs.PlanLaws.{IsEssentialIn}
-use Rattle.rules.specs.Sound.{selected, HasMember, HasVersion, IsAcceptable, IsFitting, IsContent, IsSound, MeetsClauses, MatchedByNoOther, HasOneVersionEach, AgreesWith, FulfilsAll, Fulfils, IsUpgraded, IsKept, KeepsHold, KeepsEssential}
+use Rattle.rules.specs.Sound.{selected, HasMember, HasVersion, IsAcceptable, IsFitting, HasItsRelations, IsSound, MeetsClauses, MatchedByNoOther, HasOneVersionEach, AgreesWith, FulfilsAll, Fulfils, IsUpgraded, IsKept, KeepsHold, KeepsEssential}
 use Rattle.rules.specs.Universe.{Universe, Pair, Start, IsOf, candidate_of}
 use Rattle.rules.specs.Version.{SameVersion}
 use Rattle.rules.specs.VersionOrderLaws.{SameVersion-symm, SameVersion-trans}
@@ -67,9 +67,9 @@ is_chosen u selection ascending number pair there name version of has =
 module _ (u : Universe) (selection : ℕ → Bool) (ascending : HasAscendingPairs u) (fits : IsFitting u (selected u selection)) where
   -- a selected pair's package is content
   content : (number : ℕ) (pair : Pair) → item_at u.pairs number ≡ Some pair → IsTrue (selection number)
-      → IsContent (selected u selection) pair.pkg
+      → HasItsRelations (selected u selection) pair.pkg
   unfolding IsSound
-  content number pair there chosen = All-contains (IsContent (selected u selection)) (selected u selection) pair.pkg fits.sound
+  content number pair there chosen = All-contains (HasItsRelations (selected u selection)) (selected u selection) pair.pkg fits.sound
       (is_member u selection number pair there chosen)
 
   -- two pairs of one name

@@ -1,6 +1,9 @@
+pub mod AgainLemmas
+pub mod ByteLemmas
 pub mod DigitLemmas
 pub mod DistinctLemmas
 pub mod LineLemmas
-pub mod PartLemmas
+pub mod NumberLemmas
+pub mod ReadLemmas
 mod RefutationRows
 pub mod WrittenLemmas

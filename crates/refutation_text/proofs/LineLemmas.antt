@@ -1,14 +1,14 @@
 -- Lines read so far, and those that are read behind them.
 use Rattle.std.proofs.Common.{◌≡◌, ℕ, ◌+◌, List, [], ◌∷◌, ◌++◌, Result, Ok, Err, refl, sym, ap, subst, ◌∙◌, append_assoc}
 use Rattle.refutation.specs.declared.line.Line.{Line}
-use Rattle.refutation_text.specs.Cut.{SplitsPart, parts_at}
+use Rattle.plantext.specs.Cut.{SplitsPart, parts_at}
 use Rattle.refutation_text.specs.Error.{IsRefutationFault}
 use Rattle.refutation_text.specs.Text.{put_line, put_lines, line_in_text, read_lines}
-use Rattle.refutation_text.specs.declared.cut.TheConstants.{NEWLINE}
+use Rattle.plantext.specs.declared.cut.TheConstants.{NEWLINE}
 use Rattle.refutation_text.specs.declared.error.RefutationError.{RefutationError}
 use Rattle.refutation_text.specs.declared.error.RefutationError.TheVariants as error
 use Rattle.refutation_text.specs.declared.error.RefutationFault.{RefutationFault}
-use Rattle.refutation_text.proofs.PartLemmas.{parts_some}
+use Rattle.plantext.proofs.PartLemmas.{parts_some}
 
 -- a line that has its newline is read before what is behind it
 pub read_lines_more : (number : ℕ) (line rest : List ℕ) → read_lines number (line ∷ parts_at NEWLINE rest)

@@ -1,5 +1,5 @@
 -- Words with spaces between them, as they are written one behind the other.
-use Rattle.std.proofs.Common.{◌≡◌, ℕ, List, [], ◌∷◌, ◌++◌, map, sym, ap, ◌∙◌, append_assoc, append-nil}
+use Rattle.std.proofs.Common.{◌≡◌, ℕ, List, [], ◌∷◌, ◌++◌, map, sym, ap, ◌∙◌, append_assoc}
 use Rattle.std.proofs.lemmas.Grind.{flat_map-append}
 use Rattle.std.proofs.lemmas.List.Folds.{flat_map-map}
 use Rattle.std.specs.List.{flat_map, join_with_byte}
@@ -8,12 +8,7 @@ use Rattle.refutation.specs.declared.line.Line.TheVariants.{Derived}
 use Rattle.refutation.specs.declared.literal.Literal.{Literal}
 use Rattle.refutation_text.specs.LineText.{words_of}
 use Rattle.refutation_text.specs.Number.{literal_word}
-
--- the first of joined words stands before the others, each with the separator before it
-pub joined_behind : (separator : ℕ) (word : List ℕ) (later : List (List ℕ))
-    → join_with_byte separator (word ∷ later) ≡ word ++ flat_map (λ next. separator ∷ next) later
-joined_behind separator word [] = sym (append-nil word)
-joined_behind separator word (next ∷ later) = ap (λ text. word ++ separator ∷ text) (joined_behind separator next later)
+use Rattle.plantext.proofs.AgainLemmas.{joined_behind}
 
 others_written : (literals : List Literal) (hints : List ℕ)
     → flat_map (λ word. 32 ∷ word) (map literal_word literals ++ codes ":" ∷ map decimal hints)

@@ -1,4 +1,3 @@
-pub mod Cut
 pub mod Derived
 pub mod Error
 pub mod LineText

@@ -8,11 +8,11 @@ use Rattle.refutation.specs.declared.line.Line.{Line}
 use Rattle.refutation.specs.declared.line.Line.TheVariants as line
 use Rattle.refutation.specs.declared.line.Premise.{Premise}
 use Rattle.refutation.specs.declared.line.Premise.TheVariants.{Same, PreDepends, Depends, Conflicts, Breaks, Goal, GoalOn, Hold, Essential, Keep}
-use Rattle.refutation_text.specs.Cut.{parts_at}
+use Rattle.plantext.specs.Cut.{parts_at}
 use Rattle.refutation_text.specs.Derived.{are_distinct, derived_from, is_some_hint}
 use Rattle.refutation_text.specs.Number.{is_literal, is_number, literal_word}
 use Rattle.refutation_text.specs.PremiseWords.{premise_by}
-use Rattle.refutation_text.specs.declared.cut.TheConstants.{NEWLINE, SPACE}
+use Rattle.plantext.specs.declared.cut.TheConstants.{NEWLINE, SPACE}
 use Rattle.refutation_text.specs.declared.limits.TheConstants.{NUMBER, PAIR}
 
 -- Reading

@@ -1,26 +1,12 @@
 -- The words of a premise (this project's own): the word of its kind, and then numbers, or a name.
-use Rattle.std.specs.Prelude.{ℕ, List, [], ◌∷◌, Option, Some, None, codes, if◌then◌else◌}
+use Rattle.std.specs.Prelude.{ℕ, List, [], ◌∷◌, Option, None, codes, if◌then◌else◌}
 use Rattle.std.specs.Option.{option_and_then, option_map, option_or}
 use Rattle.std.specs.Str.{bytes_eq}
-use Rattle.rules.specs.Name.{is_name}
+use Rattle.plantext.specs.Word.{only_name, only_word}
 use Rattle.refutation.specs.declared.line.Premise.{Premise}
 use Rattle.refutation.specs.declared.line.Premise.TheVariants.{Same, PreDepends, Depends, Conflicts, Breaks, Goal, GoalOn, Hold, Essential, Keep}
 use Rattle.refutation_text.specs.Number.{number_in}
 use Rattle.refutation_text.specs.declared.limits.TheConstants.{NUMBER, PAIR}
-
--- the word that stands alone, if one does
-abbrev pub only_word : List (List ℕ) → Option (List ℕ)
-only_word [] = None
-only_word (word ∷ []) = Some word
-only_word (word ∷ next ∷ later) = None
-
--- the word as a name, if it is one
-abbrev pub name_in : List ℕ → Option (List ℕ)
-name_in word = if is_name word then Some word else None
-
--- the name that stands alone, if one does
-abbrev pub only_name : List (List ℕ) → Option (List ℕ)
-only_name words = option_and_then name_in (only_word words)
 
 -- the number up to this bound that stands alone, if one does
 abbrev pub only_number : ℕ → List (List ℕ) → Option ℕ

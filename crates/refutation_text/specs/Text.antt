@@ -6,9 +6,9 @@ use Rattle.std.specs.Str.{bytes_eq}
 use Rattle.rules.specs.declared.limits.TheConstants.{TEXT_BYTES}
 use Rattle.refutation.specs.declared.line.Line.{Line}
 use Rattle.refutation.specs.declared.line.Line.TheVariants as line
-use Rattle.refutation_text.specs.Cut.{parts_at}
+use Rattle.plantext.specs.Cut.{parts_at}
 use Rattle.refutation_text.specs.LineText.{is_writable, line_of, line_text}
-use Rattle.refutation_text.specs.declared.cut.TheConstants.{NEWLINE}
+use Rattle.plantext.specs.declared.cut.TheConstants.{NEWLINE}
 use Rattle.refutation_text.specs.declared.limits.TheConstants.{LINES, WIDTH}
 use Rattle.refutation_text.specs.declared.error.RefutationFault.{RefutationFault}
 use Rattle.refutation_text.specs.declared.error.RefutationFault.TheVariants.{BadRefutation, TooLarge}

@@ -3,14 +3,14 @@
 ghost use Rattle.std.specs.Prelude.{◌≡◌, [], IfOk};
 ghost use Rattle.std.specs.Str.{bytes_eq};
 ghost use Rattle.std.specs.Prelude.{codes};
-ghost use Rattle.refutation_text.specs.Cut.{parts_left};
+ghost use Rattle.plantext.specs.Cut.{parts_left};
 ghost use Rattle.refutation_text.specs.Derived.{derived_from, derived_line, hints_from, hinted_line};
-ghost use Rattle.refutation_text.specs.declared.cut.TheConstants.{SPACE};
+ghost use Rattle.plantext.specs.declared.cut.TheConstants.{SPACE};
 
-use crate::cut::{SPACE, cut_part};
 use crate::distinct::are_distinct;
 use crate::limits::NUMBER;
 use crate::number::{literal_in, number_in};
+use plantext::{SPACE, cut_part};
 use refutation::{Line, Literal};
 use rules::Items;
 use std::alloc::{AllocError, Global};

@@ -1,11 +1,11 @@
 // The text of a refutation: the line `refutation 1`, and then a line for each premise and each derived line. It stands
-// on `rules` and on `refutation`, which has the lines. The main calls are `read_refutation` and `write_refutation`.
+// on `rules`, on `refutation`, which has the lines, and on `plantext`, which cuts lines into words. The main calls are `read_refutation` and `write_refutation`.
 #![tactic(auto)]
 
-mod cut;
 mod derived;
 mod distinct;
 mod error;
+mod laws;
 mod limits;
 mod line;
 mod number;
@@ -14,6 +14,7 @@ mod read;
 mod write;
 
 pub use error::{RefutationError, RefutationFault};
+pub use laws::a_refutation_is_the_text_of_its_lines;
 pub use limits::{LINES, NUMBER, PAIR, WIDTH};
 pub use read::read_refutation;
 pub use write::write_refutation;

@@ -2,13 +2,13 @@
 
 ghost use Rattle.std.specs.Prelude.{◌≡◌, IfOk, codes};
 ghost use Rattle.std.specs.Str.{bytes_eq};
-ghost use Rattle.refutation_text.specs.Cut.{parts_left};
+ghost use Rattle.plantext.specs.Cut.{parts_left};
 ghost use Rattle.refutation_text.specs.LineText.{line_by, line_of};
-ghost use Rattle.refutation_text.specs.declared.cut.TheConstants.{SPACE};
+ghost use Rattle.plantext.specs.declared.cut.TheConstants.{SPACE};
 
-use crate::cut::{SPACE, cut_part};
 use crate::derived::derived_of;
 use crate::premise::premise_by;
+use plantext::{SPACE, cut_part};
 use refutation::Line;
 use std::alloc::{AllocError, Global};
 

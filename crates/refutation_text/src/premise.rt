@@ -1,52 +1,16 @@
 // The premise in the words of a line: its kind, and then numbers or a name.
 
-ghost use Rattle.std.specs.Prelude.{◌≡◌, IfOk, IfSome, IsTrue};
-ghost use Rattle.std.specs.Option.{option_copied};
+ghost use Rattle.std.specs.Prelude.{◌≡◌, IfOk};
 ghost use Rattle.std.specs.Str.{bytes_eq};
-ghost use Rattle.rules.specs.Name.{is_name};
-ghost use Rattle.refutation_text.specs.Cut.{parts_left};
-ghost use Rattle.refutation_text.specs.PremiseWords as Spec;
-ghost use Rattle.refutation_text.specs.PremiseWords.{goal_of, numbered_by, only_name, only_number, only_word, premise_by, two_numbers};
-ghost use Rattle.refutation_text.specs.declared.cut.TheConstants.{SPACE};
+ghost use Rattle.plantext.specs.Cut.{parts_left};
+ghost use Rattle.refutation_text.specs.PremiseWords.{goal_of, numbered_by, only_number, premise_by, two_numbers};
+ghost use Rattle.plantext.specs.declared.cut.TheConstants.{SPACE};
 
-use crate::cut::{SPACE, cut_part};
 use crate::limits::{NUMBER, PAIR};
 use crate::number::number_in;
+use plantext::{SPACE, cut_part, only_name, only_word};
 use refutation::Premise;
-use rules::{Name, is_name};
 use std::alloc::{AllocError, Global};
-
-// The word that is all that is left.
-#[tactic(auto, using(crate::proofs::PartLemmas::only_word_more))]
-fn only_word(words: Option<&[u8]>) -> Option<&[u8]>
-    ensures { option_copied result ≡ only_word (parts_left SPACE words.entry) }
-{
-    let (word, after) = cut_part(SPACE, words?);
-    match after {
-        None => Some(word),
-        Some(_) => None,
-    }
-}
-
-fn name_in(word: &[u8]) -> Option<&[u8]>
-    ensures name { option_copied result ≡ Spec.name_in word.now }
-    ensures valid { IfSome result (λ name. IsTrue (is_name name.now)) }
-{
-    if is_name(word) { Some(word) } else { None }
-}
-
-// The name that is all that is left.
-fn only_name(alloc: Global, words: Option<&[u8]>) -> Result<Option<Name>, AllocError>
-    ensures { IfOk result (λ name. name ≡ only_name (parts_left SPACE words.entry)) }
-{
-    let Some(word) = only_word(words) else {
-        return Ok(None);
-    };
-    match name_in(word) {
-        None => Ok(None),
-        Some(name) => Ok(Some(Name::copied_from(alloc, name)?)),
-    }
-}
 
 // The number that is all that is left.
 fn only_number(most: u32, words: Option<&[u8]>) -> Option<u32>

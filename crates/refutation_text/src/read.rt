@@ -3,19 +3,19 @@
 ghost use Rattle.std.specs.Prelude.{◌≡◌, ◌<◌, ◌+◌, ◌^◌, [], Err, ◌≤◌, IfErr, IfOk, MatchResult, Ok, OnOk, length};
 ghost use Rattle.std.specs.Str.{bytes_eq};
 ghost use Rattle.rules.specs.declared.limits.TheConstants.{TEXT_BYTES};
-ghost use Rattle.refutation_text.specs.Cut.{parts_at};
+ghost use Rattle.plantext.specs.Cut.{parts_at};
 ghost use Rattle.refutation_text.specs.Error.{IsRefutationFault};
 ghost use Rattle.refutation_text.specs.Text as Spec;
 ghost use Rattle.refutation_text.specs.Text.{header, is_wide, line_in_text, read_lines, read_refutation};
-ghost use Rattle.refutation_text.specs.declared.cut.TheConstants.{NEWLINE};
+ghost use Rattle.plantext.specs.declared.cut.TheConstants.{NEWLINE};
 ghost use Rattle.refutation_text.specs.declared.error.RefutationError.TheVariants.{Refused};
 ghost use Rattle.refutation_text.specs.declared.error.RefutationFault.TheVariants.{TooLarge};
 ghost use Rattle.refutation_text.specs.declared.limits.TheConstants.{LINES};
 
-use crate::cut::{NEWLINE, cut_part, split_part};
 use crate::error::{RefutationError, RefutationFault};
 use crate::limits::{LINES, WIDTH};
 use crate::line::line_of;
+use plantext::{NEWLINE, cut_part, split_part};
 use refutation::{Line, Refutation};
 use rules::TEXT_BYTES;
 use std::alloc::Global;

@@ -2,14 +2,15 @@
 
 ghost use Rattle.std.specs.Prelude.{◌≡◌, ◌∷◌, ◌++◌, [], true, IfOk, OnOk, codes, decimal};
 ghost use Rattle.std.specs.List.{flat_map, join_with_byte};
-ghost use Rattle.refutation_text.specs.LineText.{line_text, premise_words, words_of};
+ghost use Rattle.rules.specs.Name.{is_name};
+ghost use Rattle.refutation_text.specs.LineText.{is_named, is_premise_named, line_text, premise_words, words_of};
 ghost use Rattle.refutation_text.specs.Number.{literal_word};
-ghost use Rattle.refutation_text.specs.Text.{refutation_text};
-ghost use Rattle.refutation_text.specs.declared.cut.TheConstants.{NEWLINE, SPACE};
+ghost use Rattle.refutation_text.specs.Text.{refutation_text, IsReadAs};
+ghost use Rattle.plantext.specs.declared.cut.TheConstants.{NEWLINE, SPACE};
 ghost use Rattle.refutation.specs.declared.line.Line.TheVariants.{Derived};
 
-use crate::cut::{NEWLINE, SPACE};
 use itoa::Buffer;
+use plantext::{NEWLINE, SPACE};
 use refutation::{Line, Literal, Premise, Refutation};
 use rules::Name;
 use std::alloc::{AllocError, Global};
@@ -79,7 +80,10 @@ fn push_two(text: &mut Vec<u8>, kind: &[u8], number: u32, other: u32) -> Result<
 
 // Writes a kind and its name behind the text.
 fn push_named(text: &mut Vec<u8>, kind: &[u8], name: &Name) -> Result<(), AllocError>
-    ensures { OnOk result (text.new.items ≡ text.old.items ++ join_with_byte SPACE (kind.now ∷ name.now ∷ [])) }
+    // The two words stand behind the text.
+    ensures written { OnOk result (text.new.items ≡ text.old.items ++ join_with_byte SPACE (kind.now ∷ name.now ∷ [])) }
+    // The name is one.
+    ensures named { OnOk result (is_name name.now ≡ true) }
 {
     text.extend_from_slice(kind)?;
     text.push(SPACE)?;
@@ -88,7 +92,10 @@ fn push_named(text: &mut Vec<u8>, kind: &[u8], name: &Name) -> Result<(), AllocE
 
 // Writes the words of a premise behind the text.
 fn push_premise(text: &mut Vec<u8>, premise: &Premise) -> Result<(), AllocError>
-    ensures { OnOk result (text.new.items ≡ text.old.items ++ join_with_byte SPACE (premise_words premise.now)) }
+    // The premise's words stand behind the text.
+    ensures written { OnOk result (text.new.items ≡ text.old.items ++ join_with_byte SPACE (premise_words premise.now)) }
+    // What the premise names is a name.
+    ensures named { OnOk result (is_premise_named premise.now ≡ true) }
 {
     match premise {
         Premise::Same(pair, other) => push_two(text, b"same", *pair, *other),
@@ -115,7 +122,10 @@ fn push_derived(text: &mut Vec<u8>, literals: &[Literal], hints: &[u32]) -> Resu
 }
 
 fn push_words(text: &mut Vec<u8>, line: &Line) -> Result<(), AllocError>
-    ensures { OnOk result (text.new.items ≡ text.old.items ++ join_with_byte SPACE (words_of line.now)) }
+    // The line's words stand behind the text.
+    ensures written { OnOk result (text.new.items ≡ text.old.items ++ join_with_byte SPACE (words_of line.now)) }
+    // What the line names is a name.
+    ensures named { OnOk result (is_named line.now ≡ true) }
 {
     match line {
         Line::Premise(premise) => push_premise(text, premise),
@@ -126,17 +136,24 @@ fn push_words(text: &mut Vec<u8>, line: &Line) -> Result<(), AllocError>
 // Writes the line with its newline behind the text.
 #[tactic(auto, unfolding(crate::specs::LineText::line_text))]
 fn push_line(text: &mut Vec<u8>, line: &Line) -> Result<(), AllocError>
-    ensures { OnOk result (text.new.items ≡ text.old.items ++ line_text line.now) }
+    // The line's text stands behind the text.
+    ensures written { OnOk result (text.new.items ≡ text.old.items ++ line_text line.now) }
+    // What the line names is a name.
+    ensures named { OnOk result (is_named line.now ≡ true) }
 {
     push_words(text, line)?;
     text.push(NEWLINE)?;
     Ok(())
 }
 
-/// The text of the refutation. Memory alone can fail; linear in the refutation.
+/// The text of the refutation. It is read again as the refutation by `read_refutation`, if its lines can be written and
+/// are within the limits. Memory alone can fail; linear in the refutation.
 #[tactic(auto, unfolding(crate::specs::Text::refutation_text))]
 pub fn write_refutation(alloc: Global, refutation: &Refutation) -> Result<Vec<u8>, AllocError>
+    // The text is that of the lines.
     ensures written { IfOk result (λ text. text.items ≡ refutation_text refutation.now) }
+    // It is read as these lines, if they can be written and are within the limits.
+    ensures read_again { IfOk result (λ text. IsReadAs refutation.now text.items) }
 {
     let mut text = Vec::new(alloc);
     text.extend_from_slice(b"refutation 1\n")?;

@@ -11,7 +11,7 @@ use Rattle.rules.specs.Available.{Inputs}
 use Rattle.rules.specs.Database.{Record}
 use Rattle.rules.specs.ElementLaws.{Any-elim, Contains-cons, Contains-head, Contains-nil}
 use Rattle.rules.specs.Priority.{HasPriority, IsCandidate, IsDowngrade, IsEligible, IsUpTo}
-use Rattle.rules.specs.Step.{Listed, no_relations}
+use Rattle.rules.specs.Step.{IndexPackage, no_relations}
 use Rattle.rules.specs.Universe.{IsAdmitted, IsOffered, NamesExactly, StandsAs}
 use Rattle.rules.specs.Version.{version_cmp}
 use Rattle.rules.specs.declared.goal.Goal.TheVariants as goal
@@ -33,14 +33,15 @@ suite name = record {
   but_automatic_upgrades = false;
 }
 
-abbrev listed : List ℕ → List ℕ → Listed
-listed name version = record { pkg = package_of name version no_relations; is_essential = false; stanza = record { fields = []; bytes = None } }
+abbrev listed : List ℕ → List ℕ → ℕ → ℕ → IndexPackage
+listed name version index stanza =
+    record { pkg = package_of name version no_relations; is_essential = false; place = record { index = index; stanza = stanza } }
 
 abbrev asking : Bool → Inputs
 asking asks_all_versions = record {
   start = [];
-  indices = record { release = suite (codes "stable"); listed = listed (codes "foo") (codes "1") ∷ listed (codes "libx") (codes "1") ∷ [] }
-      ∷ record { release = suite (codes "testing"); listed = listed (codes "libx") (codes "2") ∷ [] } ∷ [];
+  indices = record { release = suite (codes "stable"); listed = listed (codes "foo") (codes "1") 1 1 ∷ listed (codes "libx") (codes "1") 1 2 ∷ [] }
+      ∷ record { release = suite (codes "testing"); listed = listed (codes "libx") (codes "2") 2 1 ∷ [] } ∷ [];
   preferences = [];
   target = None;
   request = record { goals = goal.Install (codes "foo") None ∷ []; asks_all_versions = asks_all_versions };

@@ -5,7 +5,7 @@ use Rattle.std.specs.Prelude.{codes}
 use Rattle.std.proofs.lemmas.Int.{ints}
 use Rattle.rules.specs.Available.{Inputs}
 use Rattle.rules.specs.Priority.{HasPriority, IsEligible, IsDowngrade}
-use Rattle.rules.specs.Step.{Listed, no_relations}
+use Rattle.rules.specs.Step.{IndexPackage, no_relations}
 use Rattle.rules.specs.Version.{version_cmp}
 use Rattle.rules.specs.declared.release.Pin.TheVariants as pin
 use Rattle.rules.specs.declared.release.PinnedNames.TheVariants as pinned
@@ -28,8 +28,8 @@ stable = record {
   but_automatic_upgrades = false;
 }
 
-abbrev foo_1 : Listed
-foo_1 = record { pkg = package_of (codes "foo") (codes "1") no_relations; is_essential = false; stanza = record { fields = []; bytes = None } }
+abbrev foo_1 : IndexPackage
+foo_1 = record { pkg = package_of (codes "foo") (codes "1") no_relations; is_essential = false; place = record { index = 1; stanza = 1 } }
 
 abbrev pinned_at : ℤ → Inputs
 pinned_at priority = record {

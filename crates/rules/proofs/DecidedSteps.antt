@@ -5,10 +5,10 @@ use Rattle.rules.specs.Configure.{HasConfigurable, IsConfigurable, AreConfigurab
 use Rattle.rules.specs.Database.{Record, HasRecord, ForOthers, SomeOther, ForMembers, IsPresent, IsInstalled, Stands, IsHeld, stands, pkg_of, installed_of}
 use Rattle.rules.specs.Legal.{IsNotHeld}
 use Rattle.rules.specs.Package.{Pkg, Atom, MatchesSome, BreaksOther}
-use Rattle.rules.specs.Remove.{ManagesWithout, NeedsNot, IsExpendable, IsNotNeeded}
+use Rattle.rules.specs.Remove.{IsMetWithout, NeedsNot, IsNeededByNone, IsNotNeeded}
 use Rattle.rules.specs.Sound.{MeetsClauses}
 use Rattle.rules.specs.State.{is_present_state, is_unconfigured_state, is_installed_state, is_sound_flag, is_hold}
-use Rattle.rules.specs.Step.{Listed}
+use Rattle.rules.specs.Step.{IndexPackage, last_configured}
 use Rattle.rules.specs.Universe.{StandsAs}
 use Rattle.rules.specs.Unpack.{FitsThenAndNow, FitsFromBefore, SatisfiesAtom, IsSatisfied, HasPreDepends, IsCompatible, HasNoConflict, BreaksNone, OnListed}
 use Rattle.rules.specs.Version.{SameVersion}
@@ -45,7 +45,7 @@ dec_MatchOption P each (Some x) = each x
 unfoldable pub dec_FitsFromBefore : (found : Record) (atom : Atom) → Dec (FitsFromBefore found atom)
 unfolding FitsFromBefore
 dec_FitsFromBefore found atom = dec_and (dec_IsTrue (is_unconfigured_state found.state))
-    (dec_MatchOption (FitsThenAndNow found atom) (dec_FitsThenAndNow found atom) found.config_version)
+    (dec_MatchOption (FitsThenAndNow found atom) (dec_FitsThenAndNow found atom) (last_configured found))
 
 unfoldable pub dec_SatisfiesAtom : (found : Record) (atom : Atom) → Dec (SatisfiesAtom found atom)
 unfolding SatisfiesAtom
@@ -75,7 +75,7 @@ unfolding BreaksNone
 dec_BreaksNone db pkg = dec_ForOthers (λ other. IsInstalled other → ¬ BreaksOther pkg (pkg_of other))
     (λ other. dec_implies (dec_IsTrue (is_installed_state other.state)) (dec_not (dec_BreaksOther pkg (pkg_of other)))) pkg.name db
 
-unfoldable pub dec_OnListed : (P : Pkg → Type 0) → ((pkg : Pkg) → Dec (P pkg)) → (listed : Option Listed) → Dec (OnListed P listed)
+unfoldable pub dec_OnListed : (P : Pkg → Type 0) → ((pkg : Pkg) → Dec (P pkg)) → (listed : Option IndexPackage) → Dec (OnListed P listed)
 dec_OnListed P each None = yes tt
 dec_OnListed P each (Some found) = each found.pkg
 
@@ -112,23 +112,23 @@ unfoldable pub dec_AreUnbroken : (db : List Record) (names : List (List ℕ)) �
 unfolding AreUnbroken
 dec_AreUnbroken db names = dec_ForMembers (IsUnbroken db) (dec_IsUnbroken db) names db
 
-unfoldable pub dec_ManagesWithout : (db : List Record) (removed : Record) (clause : List Atom) → Dec (ManagesWithout db removed clause)
-unfolding ManagesWithout
-dec_ManagesWithout db removed clause = dec_implies (dec_MatchesSome (pkg_of removed) clause)
+unfoldable pub dec_IsMetWithout : (db : List Record) (removed : Record) (clause : List Atom) → Dec (IsMetWithout db removed clause)
+unfolding IsMetWithout
+dec_IsMetWithout db removed clause = dec_implies (dec_MatchesSome (pkg_of removed) clause)
     (dec_SomeOther (λ other. Stands other × MatchesSome (pkg_of other) clause)
     (λ other. dec_and (dec_IsTrue (stands other)) (dec_MatchesSome (pkg_of other) clause)) removed.name db)
 
 unfoldable pub dec_NeedsNot : (db : List Record) (removed other : Record) → Dec (NeedsNot db removed other)
 unfolding NeedsNot
 dec_NeedsNot db removed other = dec_implies (dec_IsTrue (is_installed_state other.state))
-    (dec_All (ManagesWithout db removed) (dec_ManagesWithout db removed) (other.relations.pre_depends ++ other.relations.depends))
+    (dec_All (IsMetWithout db removed) (dec_IsMetWithout db removed) (other.relations.pre_depends ++ other.relations.depends))
 
-unfoldable pub dec_IsExpendable : (db : List Record) (removed : Record) → Dec (IsExpendable db removed)
-unfolding IsExpendable
-dec_IsExpendable db removed = dec_ForOthers (NeedsNot db removed) (dec_NeedsNot db removed) removed.name db
+unfoldable pub dec_IsNeededByNone : (db : List Record) (removed : Record) → Dec (IsNeededByNone db removed)
+unfolding IsNeededByNone
+dec_IsNeededByNone db removed = dec_ForOthers (NeedsNot db removed) (dec_NeedsNot db removed) removed.name db
 
 unfoldable pub dec_IsNotNeeded : (db : List Record) (name : List ℕ) → Dec (IsNotNeeded db name)
 unfolding IsNotNeeded
-dec_IsNotNeeded db name = dec_All (λ removed. removed.name ≡ name → IsPresent removed → IsExpendable db removed)
+dec_IsNotNeeded db name = dec_All (λ removed. removed.name ≡ name → IsPresent removed → IsNeededByNone db removed)
     (λ removed. dec_implies (dec_text removed.name name)
-    (dec_implies (dec_IsTrue (is_present_state removed.state)) (dec_IsExpendable db removed))) db
+    (dec_implies (dec_IsTrue (is_present_state removed.state)) (dec_IsNeededByNone db removed))) db

@@ -13,13 +13,13 @@ use Rattle.rules.specs.Legal.{Allowed, IsNotHeld}
 use Rattle.rules.specs.NamedLaws.{bytes_eq-true, contains-is_among}
 use Rattle.rules.specs.Run.{Run, after}
 use Rattle.rules.specs.State.{is_unconfigured_state, is_installed_state, is_unfinished_state, is_not_installed_state, is_sound_flag}
-use Rattle.rules.specs.Step.{Listed, is_named, is_among, changed, unpacked_over, unpacked_with, after_unpack, deconfigured, configured, removed, result_of}
+use Rattle.rules.specs.Step.{IndexPackage, is_named, is_among, changed, unpacked_over, unpacked_with, after_unpack, deconfigured, configured, removed, result_of}
 use Rattle.rules.specs.Universe.{Universe, Pair, IsOf, listed_of, listed_among, listed_for}
 use Rattle.rules.specs.Verdict.{IsBuiltOn, HasPair}
 use Rattle.rules.specs.VersionOrderLaws.{same_version_equivalence}
 use Rattle.rules.specs.declared.status.Flag.{Flag}
 use Rattle.rules.specs.declared.status.State.{State}
-use Rattle.rules.specs.declared.status.State.TheVariants.{NotInstalled, ConfigFiles, HalfInstalled, Unpacked, HalfConfigured, Installed}
+use Rattle.rules.specs.declared.status.State.TheVariants.{NotInstalled, ConfigFiles, HalfInstalled, Unpacked, HalfConfigured, TriggersAwaited, TriggersPending, Installed}
 use Rattle.rules.specs.declared.step.Rule.TheVariants as rule
 use Rattle.rules.specs.declared.step.Step.{Step}
 use Rattle.rules.specs.declared.step.Step.TheVariants as step
@@ -75,7 +75,7 @@ Any-changed P test change db found within holds changes = Any-intro P (changed t
 
 -- the stanza that a built universe lists for a pair is of an admitted pair
 listed_pair : (start : List Record) (u : Universe) → IsBuiltOn start u → (pairs : List Pair)
-    → ((pair : Pair) → Contains pairs pair → Contains u.pairs pair) → (name version : List ℕ) (listed : Listed)
+    → ((pair : Pair) → Contains pairs pair → Contains u.pairs pair) → (name version : List ℕ) (listed : IndexPackage)
     → listed_among pairs name version ≡ Some listed → (listed.pkg.name ≡ name) × HasPair u listed.pkg.name listed.pkg.version
 unfolding HasPair
 listed_pair start u built [] within name version listed found = absurd (let e : None ≡ Some listed = found in cc)
@@ -85,9 +85,9 @@ listed_pair start u built (pair ∷ rest) within name version listed found = at 
     here : is_of name version pair.pkg ≡ true → pair.listed ≡ Some listed
         → (listed.pkg.name ≡ name) × Any (λ (other : Pair). IsOf listed.pkg.name listed.pkg.version other.pkg) u.pairs
     here is same =
-        let Q : Option Listed → Type 0 = λ l. MatchOption l ⊤ (λ (l : Listed). IsOf pair.pkg.name pair.pkg.version l.pkg) in
+        let Q : Option IndexPackage → Type 0 = λ l. MatchOption l ⊤ (λ (l : IndexPackage). IsOf pair.pkg.name pair.pkg.version l.pkg) in
         let of : IsOf pair.pkg.name pair.pkg.version listed.pkg = subst Q same
-        (All-contains (λ (p : Pair). MatchOption p.listed ⊤ (λ (l : Listed). IsOf p.pkg.name p.pkg.version l.pkg)) u.pairs pair built.listed (within pair (Contains-head pair rest))) in (
+        (All-contains (λ (p : Pair). MatchOption p.listed ⊤ (λ (l : IndexPackage). IsOf p.pkg.name p.pkg.version l.pkg)) u.pairs pair built.listed (within pair (Contains-head pair rest))) in (
           of.0 ∙ bytes_eq-true pair.pkg.name name (both_true (bytes_eq pair.pkg.name name) (same_version pair.pkg.version version) is).0,
           Any-intro (λ (other : Pair). IsOf listed.pkg.name listed.pkg.version other.pkg) u.pairs pair
               (within pair (Contains-head pair rest))
@@ -103,12 +103,12 @@ listed_pair start u built (pair ∷ rest) within name version listed found = at 
     at false is same later = later same
 
 -- the stanza that an unpacking of a name takes has the name and is of an admitted pair
-taken_pair : (start : List Record) (u : Universe) → IsBuiltOn start u → (name version : List ℕ) (listed : Listed)
+taken_pair : (start : List Record) (u : Universe) → IsBuiltOn start u → (name version : List ℕ) (listed : IndexPackage)
     → listed_of u name version ≡ Some listed → (listed.pkg.name ≡ name) × HasPair u listed.pkg.name listed.pkg.version
 taken_pair start u built = listed_pair start u built u.pairs (λ pair there. there)
 
 -- what is unpacked is admissible, and so all stay
-admissible_unpack : (u : Universe) (listed : Listed) (db : List Record) → HasPair u listed.pkg.name listed.pkg.version
+admissible_unpack : (u : Universe) (listed : IndexPackage) (db : List Record) → HasPair u listed.pkg.name listed.pkg.version
     → All (IsAdmissible u) db → All (IsAdmissible u) (after_unpack listed db)
 admissible_unpack u listed db has all = at (list_any (is_named listed.pkg.name) db)
   where
@@ -130,7 +130,7 @@ admissible_kept : (start : List Record) (u : Universe) → IsBuiltOn start u →
 unfolding Allowed AreConfigurable HasConfigurable
 admissible_kept start u built db (step.Unpack name version) distinct allowed all = at (listed_of u name version) refl
   where
-    at : (listed : Option Listed) → listed_of u name version ≡ listed
+    at : (listed : Option IndexPackage) → listed_of u name version ≡ listed
         → All (IsAdmissible u) (result_of listed (step.Unpack name version) db)
     at None is = all
     at (Some listed) is = admissible_unpack u listed db (taken_pair start u built name version listed is).1 all
@@ -176,7 +176,7 @@ deconfigured_stays old found stays = (stays.0, stays.1, rw (stands_sound found s
 configured_stays : (old found : Record) → StaysHeld old found → StaysHeld old (configured found)
 configured_stays old found stays = (stays.0, stays.1, rw (stands_sound found stays.2) refl, stays.3)
 
-held_unpack : (listed : Listed) (db : List Record) (old found : Record) → Contains db found → StaysHeld old found
+held_unpack : (listed : IndexPackage) (db : List Record) (old found : Record) → Contains db found → StaysHeld old found
     → found.name ≢ listed.pkg.name → Any (StaysHeld old) (after_unpack listed db)
 held_unpack listed db old found within stays differ = at (list_any (is_named listed.pkg.name) db)
   where
@@ -193,7 +193,7 @@ held_kept : (start : List Record) (u : Universe) → IsBuiltOn start u → (db :
 unfolding Allowed
 held_kept start u built db (step.Unpack name version) allowed old found within stays = at (listed_of u name version) refl
   where
-    at : (listed : Option Listed) → listed_of u name version ≡ listed
+    at : (listed : Option IndexPackage) → listed_of u name version ≡ listed
         → Any (StaysHeld old) (result_of listed (step.Unpack name version) db)
     at None is = Any-intro (StaysHeld old) db found within stays
     at (Some listed) is = held_unpack listed db old found within stays
@@ -234,6 +234,8 @@ finished_installed found finished is = at found.state found.flag (λ unfinished.
     at HalfInstalled flag done stands = absurd (done refl)
     at Unpacked flag done stands = absurd (done refl)
     at HalfConfigured flag done stands = absurd (done refl)
+    at TriggersAwaited flag done stands = absurd (done refl)
+    at TriggersPending flag done stands = absurd (done refl)
     at Installed flag done stands = refl
 
 pub finished_stands : (found : Record) → ¬ IsUnfinished found → IsInstalled found → Stands found
@@ -251,4 +253,6 @@ finished_stands found finished is = at found.state found.flag (λ unfinished. fi
     at HalfInstalled flag done installed = absurd (let e : false ≡ true = installed in cc)
     at Unpacked flag done installed = absurd (let e : false ≡ true = installed in cc)
     at HalfConfigured flag done installed = absurd (let e : false ≡ true = installed in cc)
+    at TriggersAwaited flag done installed = absurd (let e : false ≡ true = installed in cc)
+    at TriggersPending flag done installed = absurd (let e : false ≡ true = installed in cc)
     at Installed flag done installed = sound flag (is_sound_flag flag) refl done

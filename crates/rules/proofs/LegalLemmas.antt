@@ -5,7 +5,7 @@ use Rattle.std.specs.List.{All}
 use Rattle.std.proofs.lemmas.List.Elements.{All-nil, All-cons, All-head, All-tail}
 use Rattle.rules.specs.Database.{Record, IsPresent, IsInstalled, IsRemoved, HasSoundFlag, IsEssential}
 use Rattle.rules.specs.Legal.{UnpackAsks, ConfigureAsks, RemoveAsks, DeconfigureAsks, PurgeAsks, Asks, rules_of, Allowed, IsFirstUnkept, IsFirstFailing}
-use Rattle.rules.specs.Step.{Listed}
+use Rattle.rules.specs.Step.{IndexPackage}
 use Rattle.rules.specs.State.{is_present_state, is_installed_state, is_config_files_state, is_sound_flag}
 use Rattle.rules.specs.Universe.{Universe, listed_of}
 use Rattle.rules.specs.Unpack.{HasPreDepends, HasNoConflict, BreaksNone}
@@ -18,7 +18,7 @@ use Rattle.rules.proofs.DecidedSteps.{dec_HasRecord, dec_HasPreDepends, dec_HasN
 use Rattle.rules.proofs.GroupLemmas.{dec_IsIndivisible}
 use mathlib.Core.Logic.{inl, inr}
 
-unfoldable pub dec_UnpackAsks : (listed : Option Listed) (db : List Record) (name version : List ℕ) (asked : Rule) → Dec (UnpackAsks listed db name version asked)
+unfoldable pub dec_UnpackAsks : (listed : Option IndexPackage) (db : List Record) (name version : List ℕ) (asked : Rule) → Dec (UnpackAsks listed db name version asked)
 dec_UnpackAsks listed db name version rule.NotAdmitted = dec_IsTrue (is_some listed)
 dec_UnpackAsks listed db name version rule.Held = dec_IsNotHeld db name
 dec_UnpackAsks listed db name version rule.WrongState = dec_not (dec_StandsAs db name version)

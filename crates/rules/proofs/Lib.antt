@@ -17,6 +17,7 @@ pub mod Rising
 pub mod Rows
 pub mod RunLemmas
 pub mod StepRows
+pub mod TriggerRows
 pub mod UniverseLemmas
 pub mod VerdictLemmas
 pub mod VersionRows

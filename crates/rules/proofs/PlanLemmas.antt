@@ -8,7 +8,7 @@ use Rattle.rules.specs.Legal.{Allowed}
 use Rattle.rules.specs.Package.{Pkg, Atom, MatchesSome, ConflictsWith, BreaksOther}
 use Rattle.rules.specs.PlanLaws.{HoldsOn, IsEssentialIn, IsSatisfiedIn, IsAsAsked, KeepsPromise}
 use Rattle.rules.specs.Run.{Run, IsGoodEnd, IsGoodPlan}
-use Rattle.rules.specs.Sound.{MatchedByNoOther, IsContent, IsSound, FulfilsAll, HasMember, HasVersion, KeepsHold, KeepsEssential}
+use Rattle.rules.specs.Sound.{MatchedByNoOther, HasItsRelations, IsSound, FulfilsAll, HasMember, HasVersion, KeepsHold, KeepsEssential}
 use Rattle.rules.specs.State.{is_installed_state}
 use Rattle.rules.specs.Universe.{Universe, Start}
 use Rattle.rules.specs.declared.step.Step.{Step}
@@ -33,8 +33,8 @@ satisfied_in : (db : List Record) → IsSound (installed_of db) → (found : Rec
     → IsSatisfiedIn db found
 unfolding IsSound ConflictsWith BreaksOther
 satisfied_in db sound found within is =
-    let content : IsContent (installed_of db) (pkg_of found) =
-    All-contains (IsContent (installed_of db)) (installed_of db) (pkg_of found) sound (installed_contains db found within is) in
+    let content : HasItsRelations (installed_of db) (pkg_of found) =
+    All-contains (HasItsRelations (installed_of db)) (installed_of db) (pkg_of found) sound (installed_contains db found within is) in
     record {
       pre_depends = content.pre_depends;
       depends = content.depends;

@@ -13,11 +13,11 @@ use Rattle.rules.specs.LegalLaws.{ActsOnPresent, AllowedActsOnPresent}
 use Rattle.rules.specs.Package.{Pkg, ConflictsWith}
 use Rattle.rules.specs.Run.{Run, after}
 use Rattle.rules.specs.State.{is_present_state, is_unconfigured_state, is_installed_state}
-use Rattle.rules.specs.Step.{Listed, is_named, is_among, changed, unpacked_over, unpacked_with, after_unpack, deconfigured, configured, removed, result_of}
+use Rattle.rules.specs.Step.{IndexPackage, is_named, is_among, changed, unpacked_over, unpacked_with, after_unpack, deconfigured, configured, removed, result_of}
 use Rattle.rules.specs.Universe.{Universe, listed_of, listed_for}
 use Rattle.rules.specs.Unpack.{IsCompatible, HasNoConflict, OnListed}
 use Rattle.rules.specs.declared.status.State.{State}
-use Rattle.rules.specs.declared.status.State.TheVariants.{NotInstalled, ConfigFiles, HalfInstalled, Unpacked, HalfConfigured, Installed}
+use Rattle.rules.specs.declared.status.State.TheVariants.{NotInstalled, ConfigFiles, HalfInstalled, Unpacked, HalfConfigured, TriggersAwaited, TriggersPending, Installed}
 use Rattle.rules.specs.declared.step.Rule.TheVariants as rule
 use Rattle.rules.specs.declared.step.Step.{Step}
 use Rattle.rules.specs.declared.step.Step.TheVariants as step
@@ -81,7 +81,7 @@ pub unnamed : (name : List ℕ) (db : List Record) → list_any (is_named name) 
 unnamed name db none found within same = absurd (let e : true ≡ false =
     sym (list_any-from_contains (is_named name) db found within (bytes_eq-same found.name name same)) ∙ none in cc)
 
-distinct_unpack : (listed : Listed) (db : List Record) → HasDistinctNames db → HasDistinctNames (after_unpack listed db)
+distinct_unpack : (listed : IndexPackage) (db : List Record) → HasDistinctNames db → HasDistinctNames (after_unpack listed db)
 unfolding HasDistinctNames
 distinct_unpack listed db distinct = at (list_any (is_named listed.pkg.name) db) refl
   where
@@ -96,7 +96,7 @@ distinct_filter : (p : Record → Bool) (db : List Record) → HasDistinctNames 
 unfolding HasDistinctNames
 distinct_filter p db distinct = AllPairs-filter (λ (a b : Record). a.name ≢ b.name) p db distinct
 
-pub distinct_names_kept : (listed : Option Listed) (taken : Step) (db : List Record) → HasDistinctNames db
+pub distinct_names_kept : (listed : Option IndexPackage) (taken : Step) (db : List Record) → HasDistinctNames db
     → HasDistinctNames (result_of listed taken db)
 distinct_names_kept None (step.Unpack name version) db distinct = distinct
 distinct_names_kept (Some found) (step.Unpack name version) db distinct = distinct_unpack found db distinct
@@ -195,6 +195,8 @@ unconfigured_present ConfigFiles is = absurd (let e : false ≡ true = is in cc)
 unconfigured_present HalfInstalled is = refl
 unconfigured_present Unpacked is = refl
 unconfigured_present HalfConfigured is = refl
+unconfigured_present TriggersAwaited is = refl
+unconfigured_present TriggersPending is = refl
 unconfigured_present Installed is = refl
 
 installed_present : (state : State) → IsTrue (is_installed_state state) → IsTrue (is_present_state state)
@@ -203,6 +205,8 @@ installed_present ConfigFiles is = absurd (let e : false ≡ true = is in cc)
 installed_present HalfInstalled is = refl
 installed_present Unpacked is = refl
 installed_present HalfConfigured is = refl
+installed_present TriggersAwaited is = refl
+installed_present TriggersPending is = refl
 installed_present Installed is = refl
 
 -- the name under which a record is found has a property, and so has the record
@@ -234,7 +238,7 @@ quiet_filter p db quiet = quiet_stems db (filter p db) quiet (λ found within pr
     record { from = found; within = (Contains-filter p db found within).0; present = present; same = refl })
 
 -- after an unpacking each record is of the package unpacked or one of another name that was there
-after_unpack_parts : (listed : Listed) (db : List Record) (found : Record) → Contains (after_unpack listed db) found
+after_unpack_parts : (listed : IndexPackage) (db : List Record) (found : Record) → Contains (after_unpack listed db) found
     → (pkg_of found ≡ listed.pkg) ⊎ (Contains db found × (found.name ≢ listed.pkg.name))
 after_unpack_parts listed db found = at (list_any (is_named listed.pkg.name) db) refl
   where
@@ -260,7 +264,7 @@ after_unpack_parts listed db found = at (list_any (is_named listed.pkg.name) db)
           [ inl same ↦ inl (ap pkg_of (sym same)) | inr none ↦ absurd (Contains-nil found none) ]
     ]
 
-quiet_unpack : (listed : Listed) (db : List Record) → HasNoConflict db listed.pkg → IsQuiet db → IsQuiet (after_unpack listed db)
+quiet_unpack : (listed : IndexPackage) (db : List Record) → HasNoConflict db listed.pkg → IsQuiet db → IsQuiet (after_unpack listed db)
 unfolding HasNoConflict IsCompatible
 quiet_unpack listed db apart quiet = quiet_from (after_unpack listed db) (λ found other within there.
     each found other (after_unpack_parts listed db found within) (after_unpack_parts listed db other there))
@@ -282,7 +286,7 @@ quiet_unpack listed db apart quiet = quiet_from (after_unpack listed db) (λ fou
         at_peace db quiet found other old.0 also.0 present is differ conflicts
 
 -- the result of an unpacking of what is there, or of nothing
-quiet_listed : (listed : Option Listed) (name version : List ℕ) (db : List Record) → OnListed (HasNoConflict db) listed → IsQuiet db
+quiet_listed : (listed : Option IndexPackage) (name version : List ℕ) (db : List Record) → OnListed (HasNoConflict db) listed → IsQuiet db
     → IsQuiet (result_of listed (step.Unpack name version) db)
 quiet_listed None name version db apart quiet = quiet
 quiet_listed (Some found) name version db apart quiet = quiet_unpack found db apart quiet

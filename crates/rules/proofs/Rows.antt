@@ -6,7 +6,7 @@ use Rattle.rules.specs.Package.{Pkg, Atom, Provided, Relations}
 use Rattle.rules.specs.Universe.{Universe, Pair, starts_of}
 use Rattle.rules.specs.declared.goal.Goal.{Goal}
 use Rattle.rules.specs.declared.op.Op.{Op}
-use Rattle.rules.specs.declared.status.Flag.TheVariants.{Sound}
+use Rattle.rules.specs.declared.status.Flag.TheVariants as flags
 use Rattle.rules.specs.declared.status.State.{State}
 use Rattle.rules.specs.declared.status.Want.TheVariants as want
 use Rattle.rules.specs.declared.step.Rule.{Rule}
@@ -76,7 +76,7 @@ record_of state config_version pkg = record {
   name = pkg.name;
   state = state;
   want = want.Install;
-  flag = Sound;
+  flag = flags.Ok;
   version = pkg.version;
   config_version = config_version;
   relations = pkg.relations;
@@ -85,7 +85,7 @@ record_of state config_version pkg = record {
 
 -- the pair of a package that an index has
 abbrev pub indexed : Pkg → Pair
-indexed pkg = record { pkg = pkg; listed = Some (record { pkg = pkg; is_essential = false; stanza = record { fields = []; bytes = None } }) }
+indexed pkg = record { pkg = pkg; listed = Some (record { pkg = pkg; is_essential = false; place = record { index = 1; stanza = 1 } }) }
 
 -- the pair of a package that no index has
 abbrev pub unindexed : Pkg → Pair

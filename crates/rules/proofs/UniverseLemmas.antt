@@ -10,7 +10,7 @@ use Rattle.rules.specs.Available.{Index, Inputs, all_listed, counting_package, i
 use Rattle.rules.specs.Database.{Record, pkg_of, stands}
 use Rattle.rules.specs.ElementLaws.{Any-elim, Any-intro}
 use Rattle.rules.specs.Package.{Pkg}
-use Rattle.rules.specs.Step.{Listed, is_named}
+use Rattle.rules.specs.Step.{IndexPackage, is_named}
 use Rattle.rules.specs.Universe.{Candidate, IsKeptCandidate, IsKeptText, IsOf, IsUniverse, Pair, Start, Universe, candidate_cmp, pair_cmp}
 use Rattle.rules.specs.UniverseLaws.{OneUniverse, candidate_cmp_total, pair_cmp_total}
 use Rattle.rules.specs.Version.{SameVersion}
@@ -30,7 +30,7 @@ find-agree p q same (x ∷ xs) =
 same_index_package : (indices : List Index) (name version other : List ℕ) → SameVersion version other
     → index_package indices name version ≡ index_package indices name other
 same_index_package indices name version other same = find-agree
-    (λ (listed : Listed). is_of name version listed.pkg) (λ (listed : Listed). is_of name other listed.pkg)
+    (λ (listed : IndexPackage). is_of name version listed.pkg) (λ (listed : IndexPackage). is_of name other listed.pkg)
     (λ listed. ap (λ (o : Ordering). bytes_eq listed.pkg.name name && is_eq o)
     (version_cmp-same_right listed.pkg.version version other same)) (all_listed indices)
 
@@ -45,16 +45,16 @@ same_standing_record db name version other same = find-agree
 pub same_counting_package : (inputs : Inputs) (name version other : List ℕ) → SameVersion version other
     → counting_package inputs name version ≡ counting_package inputs name other
 same_counting_package inputs name version other same =
-    ap (λ (r : Option Record). option_or (option_map pkg_of r) (option_map (λ (l : Listed). l.pkg) (index_package inputs.indices name version)))
+    ap (λ (r : Option Record). option_or (option_map pkg_of r) (option_map (λ (l : IndexPackage). l.pkg) (index_package inputs.indices name version)))
     (same_standing_record inputs.start name version other same)
-    ∙ ap (λ (r : Option Listed). option_or (option_map pkg_of (standing_record inputs.start name other)) (option_map (λ (l : Listed). l.pkg) r))
+    ∙ ap (λ (r : Option IndexPackage). option_or (option_map pkg_of (standing_record inputs.start name other)) (option_map (λ (l : IndexPackage). l.pkg) r))
     (same_index_package inputs.indices name version other same)
 
 -- pairs of the same parts are one
 same_parts : (pair other : Pair) → pair.pkg ≡ other.pkg → pair.listed ≡ other.listed → pair ≡ other
 same_parts pair other pkgs stanzas =
     let along : (k : Pkg) → Pair = λ k. record { pkg = k; listed = pair.listed } in
-    let past : (l : Option Listed) → Pair = λ l. record { pkg = other.pkg; listed = l } in
+    let past : (l : Option IndexPackage) → Pair = λ l. record { pkg = other.pkg; listed = l } in
     ap along pkgs ∙ ap past stanzas
 
 -- a pair of the one universe is one of the other

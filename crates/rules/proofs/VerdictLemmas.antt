@@ -10,10 +10,10 @@ use Rattle.rules.specs.Database.{Record, HasDistinctNames, IsInstalled, IsUnfini
 use Rattle.rules.specs.ElementLaws.{All-intro, Any-intro, Any-elim, Contains-map, Contains-filter}
 use Rattle.rules.specs.NamedLaws.{bytes_eq-true}
 use Rattle.rules.specs.Package.{Pkg}
-use Rattle.rules.specs.Run.{Run, StopsAt, IsGoodEnd, IsAgainst, IsDiscontent, IsUnfulfilled, HasNothingAgainst, IsPurged}
-use Rattle.rules.specs.Sound.{IsContent, IsSound, HasOneVersionEach, AgreesWith, IsAdmittedIn, FulfilsAll, Fulfils, KeepsHold, KeepsEssential, HasVersion}
+use Rattle.rules.specs.Run.{Run, StopsAt, IsGoodEnd, IsAgainst, LacksARelation, IsUnfulfilled, HasNothingAgainst, IsPurged}
+use Rattle.rules.specs.Sound.{HasItsRelations, IsSound, HasOneVersionEach, AgreesWith, IsAdmittedIn, FulfilsAll, Fulfils, KeepsHold, KeepsEssential, HasVersion}
 use Rattle.rules.specs.State.{is_installed_state}
-use Rattle.rules.specs.Step.{Listed}
+use Rattle.rules.specs.Step.{IndexPackage}
 use Rattle.rules.specs.Universe.{Universe, Pair, Start, IsOf, StandsAs, IsAdmitted, start_of, starts_of}
 use Rattle.rules.specs.Verdict.{IsBuiltOn, HasPair, UniverseIsBuilt, GoodWhereNothingIsAgainst, GoodPlanHasYes}
 use Rattle.rules.specs.Version.{SameVersion, version_cmp}
@@ -103,8 +103,8 @@ good_end u start finish steps built run none = record {
   fitting = record {
     admitted = admitted_in u finish (admissible_after_run start u built start finish steps built.distinct built.standing run) none.finished;
     one_version = one_version finish (distinct_after_run u start finish steps built.distinct run);
-    sound = All-installed (IsContent (installed_of finish)) finish (λ found within is.
-        All-contains (λ r. IsInstalled r → IsContent (installed_of finish) (pkg_of r)) finish found none.content within is);
+    sound = All-installed (HasItsRelations (installed_of finish)) finish (λ found within is.
+        All-contains (λ r. IsInstalled r → HasItsRelations (installed_of finish) (pkg_of r)) finish found none.content within is);
     goals = All-intro (Fulfils u (installed_of finish)) u.goals (λ asked within.
         (All-contains (λ asked. Fulfils u (installed_of finish) asked × IsPurged finish asked) u.goals asked none.goals within).0);
     held = keeps_holds u start finish steps built run none.finished;
@@ -118,8 +118,8 @@ nothing_against : (u : Universe) (finish : List Record) → IsGoodEnd u finish �
 unfolding IsSound FulfilsAll
 nothing_against u finish good = record {
   finished = good.finished;
-  content = All-intro (λ r. IsInstalled r → IsContent (installed_of finish) (pkg_of r)) finish (λ found within is.
-      All-contains (IsContent (installed_of finish)) (installed_of finish) (pkg_of found) good.fitting.sound
+  content = All-intro (λ r. IsInstalled r → HasItsRelations (installed_of finish) (pkg_of r)) finish (λ found within is.
+      All-contains (HasItsRelations (installed_of finish)) (installed_of finish) (pkg_of found) good.fitting.sound
       (installed_contains finish found within is));
   essential = good.fitting.essential;
   goals = All-intro (λ asked. Fulfils u (installed_of finish) asked × IsPurged finish asked) u.goals (λ asked within. (
@@ -142,13 +142,13 @@ find_passes {X} p (y ∷ ys) x found = at (p y) refl found (find_passes p ys x)
     at false is same later = later same
 
 -- the listed package of a pair is of the pair
-listed_of_pair : (indices : List Index) (pair : Pair) (listed : Option Listed)
+listed_of_pair : (indices : List Index) (pair : Pair) (listed : Option IndexPackage)
     → index_package indices pair.pkg.name pair.pkg.version ≡ listed
-    → MatchOption listed ⊤ (λ (l : Listed). IsOf pair.pkg.name pair.pkg.version l.pkg)
+    → MatchOption listed ⊤ (λ (l : IndexPackage). IsOf pair.pkg.name pair.pkg.version l.pkg)
 listed_of_pair indices pair None found = tt
 listed_of_pair indices pair (Some listed) found =
     let is = both_true (bytes_eq listed.pkg.name pair.pkg.name) (same_version listed.pkg.version pair.pkg.version)
-    (find_passes (λ (l : Listed). is_of pair.pkg.name pair.pkg.version l.pkg) (all_listed indices) listed found) in
+    (find_passes (λ (l : IndexPackage). is_of pair.pkg.name pair.pkg.version l.pkg) (all_listed indices) listed found) in
     (bytes_eq-true listed.pkg.name pair.pkg.name is.0, same_is is.1)
   where
     same_is : IsTrue (same_version listed.pkg.version pair.pkg.version) → SameVersion listed.pkg.version pair.pkg.version
@@ -162,18 +162,18 @@ universe_is_built inputs u distinct is = record {
   standing = All-intro (IsAdmissible u) inputs.start (λ found within stands. (is.admitted found.name found.version).0
       (inl (Any-intro (λ r. (r.name ≡ found.name) × (Stands r × SameVersion r.version found.version)) inputs.start found within
       (refl, (stands, same_version_equivalence.reflexive found.version)))));
-  listed = All-intro (λ (pair : Pair). MatchOption pair.listed ⊤ (λ (l : Listed). IsOf pair.pkg.name pair.pkg.version l.pkg)) u.pairs
+  listed = All-intro (λ (pair : Pair). MatchOption pair.listed ⊤ (λ (l : IndexPackage). IsOf pair.pkg.name pair.pkg.version l.pkg)) u.pairs
       (λ pair within. listed_of_pair inputs.indices pair pair.listed
       (All-contains (λ (p : Pair). index_package inputs.indices p.pkg.name p.pkg.version ≡ p.listed) u.pairs pair is.listed within));
 }
 
 -- no reason is against an end where nothing is
 no_reason : (u : Universe) (db : List Record) → HasNothingAgainst u db → (found : Reason) → ¬ IsAgainst u db found
-unfolding IsDiscontent IsUnfulfilled
+unfolding LacksARelation IsUnfulfilled
 no_reason u db none (reason.Unfinished name) against = Any-elim (λ r. (r.name ≡ name) × IsUnfinished r) db ⊥
     (λ r within both. All-contains (λ r. ¬ IsUnfinished r) db r none.finished within both.1) against
-no_reason u db none (reason.Relation name) against = Any-elim (λ r. (r.name ≡ name) × (IsInstalled r × ¬ IsContent (installed_of db) (pkg_of r))) db ⊥
-    (λ r within both. both.1.1 (All-contains (λ r. IsInstalled r → IsContent (installed_of db) (pkg_of r)) db r none.content within both.1.0)) against
+no_reason u db none (reason.Relation name) against = Any-elim (λ r. (r.name ≡ name) × (IsInstalled r × ¬ HasItsRelations (installed_of db) (pkg_of r))) db ⊥
+    (λ r within both. both.1.1 (All-contains (λ r. IsInstalled r → HasItsRelations (installed_of db) (pkg_of r)) db r none.content within both.1.0)) against
 no_reason u db none (reason.Essential name) against = Any-elim (λ (start : Start). (start.name ≡ name) × ¬ KeepsEssential (installed_of db) start) u.starts ⊥
     (λ (start : Start) within both. both.1 (All-contains (KeepsEssential (installed_of db)) u.starts start none.essential within)) against
 no_reason u db none (reason.Goal number) against = against.4

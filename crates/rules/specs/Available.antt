@@ -6,7 +6,7 @@ use Rattle.std.specs.Option.{option_map, option_or}
 use Rattle.std.specs.Ordering.{is_eq}
 use Rattle.rules.specs.Database.{Record, stands, pkg_of}
 use Rattle.rules.specs.Package.{Pkg}
-use Rattle.rules.specs.Step.{Listed, is_named}
+use Rattle.rules.specs.Step.{IndexPackage, is_named}
 use Rattle.rules.specs.Version.{version_cmp}
 use Rattle.rules.specs.declared.goal.Goal.{Goal}
 use Rattle.rules.specs.declared.release.Preference.{Preference}
@@ -15,7 +15,7 @@ use Rattle.rules.specs.declared.release.Release.{Release}
 -- an index: its release keys and its stanzas in order
 pub record Index : Type 0 where
   pub release : Release
-  pub listed : List Listed
+  pub listed : List IndexPackage
 
 -- what is asked for: the goals, and whether every version that may be chosen is admitted
 pub record Request : Type 0 where
@@ -32,7 +32,7 @@ pub record Inputs : Type 0 where
   pub request : Request
 
 -- the stanzas of all indices, those of the earlier index first
-abbrev pub all_listed : List Index → List Listed
+abbrev pub all_listed : List Index → List IndexPackage
 all_listed indices = flat_map (λ index. index.listed) indices
 
 -- the texts are one version, as a test
@@ -49,7 +49,7 @@ standing_record db name version =
     find (λ found. is_named name found && stands found && same_version found.version version) db
 
 -- the index package of a pair: that of the earliest stanza of an index
-abbrev pub index_package : List Index → List ℕ → List ℕ → Option Listed
+abbrev pub index_package : List Index → List ℕ → List ℕ → Option IndexPackage
 index_package indices name version = find (λ listed. is_of name version listed.pkg) (all_listed indices)
 
 -- the counting package of a pair: the one that stands, or else the index package

@@ -7,7 +7,7 @@ use Rattle.rules.specs.Sound.{MeetsClauses}
 use Rattle.rules.specs.State.{is_present_state}
 use Rattle.rules.specs.Step.{is_among}
 
--- the record may be configured: unpacked or half-configured, with flag ok
+-- the record may be configured: unpacked, half-configured or in a trigger state, with flag ok
 abbrev pub IsConfigurable : Record → Type 0
 IsConfigurable found = IsUnconfigured found × HasSoundFlag found
 

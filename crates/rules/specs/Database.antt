@@ -29,15 +29,16 @@ abbrev pub is_unfinished : Record → Bool
 is_unfinished found = is_unfinished_state found.state
     || (not (is_sound_flag found.flag) && not (is_not_installed_state found.state))
 
--- unfinished: half-installed, unpacked or half-configured, or to be installed again unless it is not-installed
+-- unfinished: half-installed, unpacked, half-configured or in a trigger state, or to be installed again unless it is
+-- not-installed
 abbrev pub IsUnfinished : Record → Type 0
 IsUnfinished found = IsTrue (is_unfinished found)
 
--- present: half-installed, unpacked, half-configured or installed
+-- present: half-installed, unpacked, half-configured, in a trigger state or installed
 abbrev pub IsPresent : Record → Type 0
 IsPresent found = IsTrue (is_present_state found.state)
 
--- unconfigured: unpacked or half-configured
+-- unconfigured: unpacked, half-configured or in a trigger state
 abbrev pub IsUnconfigured : Record → Type 0
 IsUnconfigured found = IsTrue (is_unconfigured_state found.state)
 
@@ -53,7 +54,7 @@ IsRemoved found = IsTrue (is_config_files_state found.state)
 abbrev pub HasSoundFlag : Record → Type 0
 HasSoundFlag found = IsTrue (is_sound_flag found.flag)
 
--- stands: unpacked, half-configured or installed, with flag ok
+-- stands: unpacked, half-configured, in a trigger state or installed, with flag ok
 abbrev pub Stands : Record → Type 0
 Stands found = IsTrue (stands found)
 

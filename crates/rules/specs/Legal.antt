@@ -6,7 +6,7 @@ use Rattle.std.specs.List.{All}
 use Rattle.rules.specs.Configure.{AreConfigurable, ArePreDependsInstalled, AreDependsInstalled, AreUnbroken, IsIndivisible}
 use Rattle.rules.specs.Database.{Record, HasRecord, IsPresent, IsInstalled, IsRemoved, HasSoundFlag, IsHeld, IsEssential}
 use Rattle.rules.specs.Remove.{IsNotNeeded}
-use Rattle.rules.specs.Step.{Listed}
+use Rattle.rules.specs.Step.{IndexPackage}
 use Rattle.rules.specs.Universe.{Universe, StandsAs, listed_of}
 use Rattle.rules.specs.Unpack.{OnListed, HasPreDepends, HasNoConflict, BreaksNone}
 use Rattle.rules.specs.declared.step.Rule.{Rule}
@@ -25,7 +25,7 @@ abbrev pub unpack_rules : List Rule
 unpack_rules = rule.NotAdmitted ∷ rule.Held ∷ rule.WrongState ∷ rule.PreDepends ∷ rule.Conflict ∷ rule.Breaks ∷ []
 
 -- what each asks of an unpacking of this version of the name from this stanza of an index, if there is one
-abbrev pub UnpackAsks : Option Listed → List Record → List ℕ → List ℕ → Rule → Type 0
+abbrev pub UnpackAsks : Option IndexPackage → List Record → List ℕ → List ℕ → Rule → Type 0
 UnpackAsks listed db name version rule.NotAdmitted = IsSome listed
 UnpackAsks listed db name version rule.Held = IsNotHeld db name
 UnpackAsks listed db name version rule.WrongState = ¬ StandsAs db name version

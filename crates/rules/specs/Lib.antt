@@ -2,7 +2,7 @@ pub mod Available
 pub mod Configure
 pub mod Database
 pub mod ElementLaws
-pub mod Entry
+pub mod FileRecord
 pub mod GroupLaws
 pub mod Legal
 pub mod LegalLaws

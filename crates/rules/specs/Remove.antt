@@ -5,19 +5,19 @@ use Rattle.rules.specs.Database.{Record, IsPresent, IsInstalled, Stands, ForOthe
 use Rattle.rules.specs.Package.{Atom, MatchesSome}
 
 -- the clause, if the package to be removed matches it, is matched by a package of another name that stands
-unfoldable pub ManagesWithout : List Record → Record → List Atom → Type 0
-ManagesWithout db removed clause = MatchesSome (pkg_of removed) clause
+unfoldable pub IsMetWithout : List Record → Record → List Atom → Type 0
+IsMetWithout db removed clause = MatchesSome (pkg_of removed) clause
     → SomeOther (λ other. Stands other × MatchesSome (pkg_of other) clause) removed.name db
 
 -- each clause of Pre-Depends and Depends of the record, if it is installed, manages without the package
 unfoldable pub NeedsNot : List Record → Record → Record → Type 0
 NeedsNot db removed other = IsInstalled other
-    → All (ManagesWithout db removed) (other.relations.pre_depends ++ other.relations.depends)
+    → All (IsMetWithout db removed) (other.relations.pre_depends ++ other.relations.depends)
 
 -- no installed package of another name needs the package of the record
-unfoldable pub IsExpendable : List Record → Record → Type 0
-IsExpendable db removed = ForOthers (NeedsNot db removed) removed.name db
+unfoldable pub IsNeededByNone : List Record → Record → Type 0
+IsNeededByNone db removed = ForOthers (NeedsNot db removed) removed.name db
 
 -- no installed package of another name needs the present package of this name (Policy 7.2)
 unfoldable pub IsNotNeeded : List Record → List ℕ → Type 0
-IsNotNeeded db name = All (λ removed. removed.name ≡ name → IsPresent removed → IsExpendable db removed) db
+IsNotNeeded db name = All (λ removed. removed.name ≡ name → IsPresent removed → IsNeededByNone db removed) db

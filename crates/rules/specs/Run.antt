@@ -8,7 +8,7 @@ use Rattle.rules.specs.Database.{Record, HasRecord, IsQuiet, IsInstalled, IsUnfi
 use Rattle.rules.specs.State.{is_not_installed_state}
 use Rattle.rules.specs.Legal.{Allowed, IsFirstFailing}
 use Rattle.rules.specs.Name.{name_cmp}
-use Rattle.rules.specs.Sound.{IsContent, IsFitting, Fulfils, KeepsEssential}
+use Rattle.rules.specs.Sound.{HasItsRelations, IsFitting, Fulfils, KeepsEssential}
 use Rattle.rules.specs.Step.{result_of}
 use Rattle.rules.specs.Universe.{Universe, listed_for}
 use Rattle.std.specs.Prelude.{IsTrue}
@@ -62,8 +62,8 @@ pub record IsGoodPlan (u : Universe) (start : List Record) (steps : List Step) :
   pub good : IsGoodEnd u finish
 
 -- the installed record isn't content with the installed packages
-unfoldable pub IsDiscontent : List Record → Record → Type 0
-IsDiscontent db found = IsInstalled found × ¬ IsContent (installed_of db) (pkg_of found)
+unfoldable pub LacksARelation : List Record → Record → Type 0
+LacksARelation db found = IsInstalled found × ¬ HasItsRelations (installed_of db) (pkg_of found)
 
 -- the goal of this number, counted from 1, isn't fulfilled
 unfoldable pub IsUnfulfilled : Universe → List Record → ℕ → Type 0
@@ -73,7 +73,7 @@ IsUnfulfilled u db number = (place : ℕ) × (asked : Goal) × (number ≡ place
 -- the end has this against it
 abbrev pub IsAgainst : Universe → List Record → Reason → Type 0
 IsAgainst u db (reason.Unfinished name) = HasRecord IsUnfinished name db
-IsAgainst u db (reason.Relation name) = HasRecord (IsDiscontent db) name db
+IsAgainst u db (reason.Relation name) = HasRecord (LacksARelation db) name db
 IsAgainst u db (reason.Essential name) =
     Any (λ start. (start.name ≡ name) × ¬ KeepsEssential (installed_of db) start) u.starts
 IsAgainst u db (reason.Goal number) = IsUnfulfilled u db number
@@ -111,6 +111,6 @@ pub record IsFirstAgainst (u : Universe) (db : List Record) (first : Reason) : T
 -- nothing is against the end: no name is unfinished, each installed package is content, and each essential name and each goal is as it should be
 pub record HasNothingAgainst (u : Universe) (db : List Record) : Type 0 where
   pub finished : All (λ found. ¬ IsUnfinished found) db
-  pub content : All (λ found. IsInstalled found → IsContent (installed_of db) (pkg_of found)) db
+  pub content : All (λ found. IsInstalled found → HasItsRelations (installed_of db) (pkg_of found)) db
   pub essential : All (KeepsEssential (installed_of db)) u.starts
   pub goals : All (λ asked. Fulfils u (installed_of db) asked × IsPurged db asked) u.goals

@@ -3,7 +3,7 @@ use Rattle.std.specs.Prelude.{◌≡◌, List, ◌++◌, ◌⊎◌, ◌↔◌, �
 use Rattle.rules.specs.Database.{Record, HasDistinctNames, IsQuiet}
 use Rattle.rules.specs.Legal.{Allowed}
 use Rattle.rules.specs.Run.{Run, StopsAt, after}
-use Rattle.rules.specs.Step.{Listed, result_of}
+use Rattle.rules.specs.Step.{IndexPackage, result_of}
 use Rattle.rules.specs.Universe.{Universe}
 use Rattle.rules.specs.declared.step.Rule.{Rule}
 use Rattle.rules.specs.declared.step.Step.{Step}
@@ -26,7 +26,7 @@ RunOrStops = (u : Universe) (start : List Record) (steps : List Step)
 
 -- every action keeps the names of the database distinct
 abbrev pub DistinctNamesKept : Type 0
-DistinctNamesKept = (listed : Option Listed) (step : Step) (db : List Record)
+DistinctNamesKept = (listed : Option IndexPackage) (step : Step) (db : List Record)
     → HasDistinctNames db → HasDistinctNames (result_of listed step db)
 
 -- every allowed action keeps a quiet database quiet

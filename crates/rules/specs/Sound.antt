@@ -26,7 +26,7 @@ unfoldable pub MatchedByNoOther : List Pkg → List ℕ → List Atom → Type 0
 MatchedByNoOther members name atoms = All (λ other. other.name ≢ name → ¬ MatchesSome other atoms) members
 
 -- the member has what it needs among the members, and conflicts with and breaks none of another name
-pub record IsContent (members : List Pkg) (member : Pkg) : Type 0 where
+pub record HasItsRelations (members : List Pkg) (member : Pkg) : Type 0 where
   pub pre_depends : MeetsClauses members member.relations.pre_depends
   pub depends : MeetsClauses members member.relations.depends
   pub conflicts : MatchedByNoOther members member.name member.relations.conflicts
@@ -34,7 +34,7 @@ pub record IsContent (members : List Pkg) (member : Pkg) : Type 0 where
 
 -- sound: each member is content
 unfoldable pub IsSound : List Pkg → Type 0
-IsSound members = All (IsContent members) members
+IsSound members = All (HasItsRelations members) members
 
 -- the second package, if it has the name of the first, is of its version
 unfoldable pub AgreesWith : Pkg → Pkg → Type 0

@@ -1,12 +1,13 @@
 -- The stanza of a package in the status file, as an action leaves it (Policy 5.1, dpkg(1)).
 -- What is written and what is left out is this project's own.
-use Rattle.std.specs.Prelude.{ℕ, Bool, not, List, [], ◌∷◌, ◌++◌, ◌&&◌, Option, Some, None, codes, bytes_eq}
+use Rattle.std.specs.Prelude.{ℕ, Bool, not, List, [], ◌∷◌, ◌++◌, ◌&&◌, Option, Some, None, codes, bytes_eq, if◌then◌else◌}
 use Rattle.std.specs.List.{filter, list_any, flat_map}
 use Rattle.std.specs.Str.{str_eq_ignore_ascii_case}
+use Rattle.rules.specs.State.{is_trigger_state}
 use Rattle.rules.specs.declared.status.Flag.{Flag}
-use Rattle.rules.specs.declared.status.Flag.TheVariants.{Sound, ReinstallRequired}
+use Rattle.rules.specs.declared.status.Flag.TheVariants as flags
 use Rattle.rules.specs.declared.status.State.{State}
-use Rattle.rules.specs.declared.status.State.TheVariants.{NotInstalled, ConfigFiles, HalfInstalled, Unpacked, HalfConfigured, Installed}
+use Rattle.rules.specs.declared.status.State.TheVariants.{NotInstalled, ConfigFiles, HalfInstalled, Unpacked, HalfConfigured, TriggersAwaited, TriggersPending, Installed}
 use Rattle.rules.specs.declared.status.Want.{Want}
 use Rattle.rules.specs.declared.status.Want.TheVariants.{Unknown, Install, Hold, Deinstall, Purge}
 
@@ -50,8 +51,8 @@ want_word Purge = codes "purge"
 
 -- the word of a flag
 abbrev pub flag_word : Flag → List ℕ
-flag_word Sound = codes "ok"
-flag_word ReinstallRequired = codes "reinstreq"
+flag_word flags.Ok = codes "ok"
+flag_word flags.ReinstallRequired = codes "reinstreq"
 
 -- the word of a state
 abbrev pub state_word : State → List ℕ
@@ -60,6 +61,8 @@ state_word ConfigFiles = codes "config-files"
 state_word HalfInstalled = codes "half-installed"
 state_word Unpacked = codes "unpacked"
 state_word HalfConfigured = codes "half-configured"
+state_word TriggersAwaited = codes "triggers-awaited"
+state_word TriggersPending = codes "triggers-pending"
 state_word Installed = codes "installed"
 
 -- the field Status of a record
@@ -71,6 +74,15 @@ status_field want flag state =
 abbrev pub config_fields : Option (List ℕ) → List Field
 config_fields None = []
 config_fields (Some version) = record { name = codes "Config-Version"; value = version } ∷ []
+
+-- the fields that say which triggers are left to be processed: the package's own, and the packages that it awaits
+abbrev pub trigger_fields : List (List ℕ)
+trigger_fields = codes "Triggers-Pending" ∷ codes "Triggers-Awaited" ∷ []
+
+-- the fields of the stanza of a package in this state that an action writes on: without those of triggers where the
+-- state is a trigger state
+abbrev pub lasting_fields : State → List Field → List Field
+lasting_fields state fields = if is_trigger_state state then fields_without trigger_fields fields else fields
 
 -- a field, with the field Config-Version behind it where it is the field Version
 abbrev pub with_config_version : Option (List ℕ) → Field → List Field

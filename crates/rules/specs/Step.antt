@@ -5,19 +5,19 @@ use Rattle.std.specs.List.{filter, list_any}
 use Rattle.std.specs.Option.{option_map_or}
 use Rattle.rules.specs.Database.{Record}
 use Rattle.rules.specs.Package.{Pkg, Relations}
-use Rattle.rules.specs.Stanza.{Stanza}
-use Rattle.rules.specs.State.{is_unconfigured_state, is_installed_state}
-use Rattle.rules.specs.declared.status.Flag.TheVariants.{Sound}
+use Rattle.rules.specs.State.{has_configured_version, is_installed_state, is_unconfigured_state}
+use Rattle.rules.specs.declared.index_place.IndexPlace.{IndexPlace}
+use Rattle.rules.specs.declared.status.Flag.TheVariants as flags
 use Rattle.rules.specs.declared.status.State.TheVariants.{ConfigFiles, Unpacked, HalfConfigured, Installed}
 use Rattle.rules.specs.declared.status.Want.TheVariants.{Install, Deinstall}
 use Rattle.rules.specs.declared.step.Step.{Step}
 use Rattle.rules.specs.declared.step.Step.TheVariants.{Unpack, Deconfigure, Configure, Remove, Purge}
 
--- a stanza of an index: its package, whether it is marked essential, and its text
-pub record Listed : Type 0 where
+-- a package of an index: the package, whether it is marked essential, and the place of its stanza in the indices
+pub record IndexPackage : Type 0 where
   pub pkg : Pkg
   pub is_essential : Bool
-  pub stanza : Stanza
+  pub place : IndexPlace
 
 -- no relations
 abbrev pub no_relations : Relations
@@ -31,9 +31,9 @@ deconfigured old = record old { state = HalfConfigured; config_version = Some ol
 abbrev pub configured : Record → Record
 configured old = record old { state = Installed; config_version = Some old.version }
 
--- the version that was configured last: of an installed package its version
+-- the version that was configured last: of an installed package, and of one in a trigger state, its version
 abbrev pub last_configured : Record → Option (List ℕ)
-last_configured old = if is_installed_state old.state then Some old.version else old.config_version
+last_configured old = if has_configured_version old.state then Some old.version else old.config_version
 
 -- removed: config files alone are left, and deinstall is wanted
 abbrev pub removed : Record → Record
@@ -41,18 +41,18 @@ removed old =
     record old { state = ConfigFiles; want = Deinstall; config_version = last_configured old; relations = no_relations }
 
 -- the config version of what is unpacked over this record: the version that was configured last, where the
--- package was unpacked, half-configured or installed
+-- package was unpacked, half-configured, in a trigger state or installed
 abbrev pub kept_config_version : Record → Option (List ℕ)
 kept_config_version old =
     if is_unconfigured_state old.state || is_installed_state old.state then last_configured old else None
 
 -- the record of a package of an index unpacked, with this config version
-abbrev pub unpacked_with : Listed → Option (List ℕ) → Record
+abbrev pub unpacked_with : IndexPackage → Option (List ℕ) → Record
 unpacked_with listed config_version = record {
   name = listed.pkg.name;
   state = Unpacked;
   want = Install;
-  flag = Sound;
+  flag = flags.Ok;
   version = listed.pkg.version;
   config_version = config_version;
   relations = listed.pkg.relations;
@@ -60,7 +60,7 @@ unpacked_with listed config_version = record {
 }
 
 -- unpacked over the record before
-abbrev pub unpacked_over : Listed → Record → Record
+abbrev pub unpacked_over : IndexPackage → Record → Record
 unpacked_over listed old = unpacked_with listed (kept_config_version old)
 
 -- the record has the name, as a test
@@ -76,15 +76,15 @@ abbrev pub changed : (Record → Bool) → (Record → Record) → List Record �
 changed test change db = map (λ found. if test found then change found else found) db
 
 -- the database after the unpacking: the record in the place of the old one of its name, or last where there is none
-abbrev pub after_unpack : Listed → List Record → List Record
+abbrev pub after_unpack : IndexPackage → List Record → List Record
 after_unpack listed db =
     if list_any (is_named listed.pkg.name) db
     then changed (is_named listed.pkg.name) (unpacked_over listed) db
     else db ++ unpacked_with listed None ∷ []
 
--- the database after the step, where an unpacked package comes from this stanza of an index
+-- the database after the step, where an unpacked package is this one of an index
 -- an unpacking without a stanza leaves all as it was
-abbrev pub result_of : Option Listed → Step → List Record → List Record
+abbrev pub result_of : Option IndexPackage → Step → List Record → List Record
 result_of listed (Unpack name version) db = option_map_or (λ found. after_unpack found db) listed db
 result_of listed (Deconfigure name) db = changed (is_named name) deconfigured db
 result_of listed (Configure names) db = changed (is_among names) configured db

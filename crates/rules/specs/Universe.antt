@@ -11,7 +11,7 @@ use Rattle.rules.specs.State.{is_present_state, is_hold}
 use Rattle.rules.specs.Name.{name_cmp}
 use Rattle.rules.specs.Package.{Pkg}
 use Rattle.rules.specs.Priority.{IsCandidate, IsEligible}
-use Rattle.rules.specs.Step.{Listed}
+use Rattle.rules.specs.Step.{IndexPackage}
 use Rattle.rules.specs.Version.{version_cmp, SameVersion}
 use Rattle.rules.specs.declared.goal.Goal.{Goal}
 use Rattle.rules.specs.declared.goal.Goal.TheVariants as goal
@@ -22,7 +22,7 @@ use Rattle.rules.specs.declared.step.Step.TheVariants as step
 -- an admitted pair of a name and a version: its counting package, and its stanza in the indices, if any
 pub record Pair : Type 0 where
   pub pkg : Pkg
-  pub listed : Option Listed
+  pub listed : Option IndexPackage
 
 -- what the start says of a name
 pub record Start : Type 0 where
@@ -133,16 +133,16 @@ candidate_of u name =
     option_map (λ candidate. candidate.version) (find (λ candidate. bytes_eq candidate.name name) u.candidates)
 
 -- the index package of this version of the name among the pairs, if there is one
-abbrev pub listed_among : List Pair → List ℕ → List ℕ → Option Listed
+abbrev pub listed_among : List Pair → List ℕ → List ℕ → Option IndexPackage
 listed_among pairs name version =
     option_and_then (λ pair. pair.listed) (find (λ pair. is_of name version pair.pkg) pairs)
 
 -- the index package of an admitted pair, if the pair is admitted and in an index
-abbrev pub listed_of : Universe → List ℕ → List ℕ → Option Listed
+abbrev pub listed_of : Universe → List ℕ → List ℕ → Option IndexPackage
 listed_of u name version = listed_among u.pairs name version
 
 -- the stanza that a step unpacks
-abbrev pub listed_for : Universe → Step → Option Listed
+abbrev pub listed_for : Universe → Step → Option IndexPackage
 listed_for u (step.Unpack name version) = listed_of u name version
 listed_for u (step.Deconfigure name) = None
 listed_for u (step.Configure names) = None

@@ -4,7 +4,7 @@ use Rattle.std.specs.Prelude.{◌≡◌, ℕ, false, List, ◌⊎◌, ⊤, Optio
 use Rattle.std.specs.List.{Any, All}
 use Rattle.rules.specs.Database.{Record, IsPresent, IsUnconfigured, IsInstalled, ForOthers, SomeOther, pkg_of}
 use Rattle.rules.specs.Package.{Pkg, Atom, Meets, Matches, FitsByProvides, ConflictsWith, BreaksOther}
-use Rattle.rules.specs.Step.{Listed}
+use Rattle.rules.specs.Step.{IndexPackage, last_configured}
 
 -- the record has the atom's name, and both its version and the one configured last meet the restriction, or
 -- something that it provides fits
@@ -13,9 +13,9 @@ FitsThenAndNow found atom config_version =
     ((found.name ≡ atom.name) × Meets found.version atom.restriction × Meets config_version atom.restriction)
     ⊎ FitsByProvides (pkg_of found) atom
 
--- the record is unpacked or half-configured, was configured before, and fits the atom
+-- the record is unpacked, half-configured or in a trigger state, was configured before, and fits the atom
 unfoldable pub FitsFromBefore : Record → Atom → Type 0
-FitsFromBefore found atom = IsUnconfigured found × MatchOption found.config_version ⊥ (FitsThenAndNow found atom)
+FitsFromBefore found atom = IsUnconfigured found × MatchOption (last_configured found) ⊥ (FitsThenAndNow found atom)
 
 -- the record satisfies the atom of a Pre-Depends: installed and matching, or fitting from before (Policy 7.2)
 unfoldable pub SatisfiesAtom : Record → Atom → Type 0
@@ -43,5 +43,5 @@ unfoldable pub BreaksNone : List Record → Pkg → Type 0
 BreaksNone db pkg = ForOthers (λ other. IsInstalled other → ¬ BreaksOther pkg (pkg_of other)) pkg.name db
 
 -- what is to be unpacked, if it is there, has the property
-abbrev pub OnListed : (Pkg → Type 0) → Option Listed → Type 0
+abbrev pub OnListed : (Pkg → Type 0) → Option IndexPackage → Type 0
 OnListed P listed = MatchOption listed ⊤ (λ found. P found.pkg)

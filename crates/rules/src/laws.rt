@@ -1,6 +1,6 @@
 // Laws that follow from the definitions: each function has an empty body, and its contract is the law.
 
-ghost use Rattle.rules.specs.Entry.{WrittenAsLeft};
+ghost use Rattle.rules.specs.FileRecord.{WrittenAsLeft};
 ghost use Rattle.rules.specs.GroupLaws.{UnionPasses, HasGreatestPart, IndivisibleByOthers};
 ghost use Rattle.rules.specs.LegalLaws.{AllowedActsOnPresent, OneFirstFailing, AllowedOrFailing, AllowedWhereNoneFails};
 ghost use Rattle.rules.specs.PlanLaws.{GoodPlanKeepsPromise};

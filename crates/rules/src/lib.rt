@@ -5,6 +5,7 @@
 
 mod bad_version;
 mod goal;
+mod index_place;
 mod laws;
 mod limits;
 mod name;
@@ -18,6 +19,7 @@ mod version_text;
 
 pub use bad_version::BadVersion;
 pub use goal::{Goal, GoalLine, Restriction};
+pub use index_place::IndexPlace;
 pub use laws::{
     allowed_acts_on_present, allowed_or_failing, allowed_where_none_fails, distinct_names_kept,
     good_plan_has_yes, good_plan_keeps_promise, good_where_nothing_is_against, has_greatest_part,

@@ -19,7 +19,7 @@ pub enum Want {
 #[derive(Clone, Copy, Debug, Eq, PartialEq)]
 pub enum Flag {
     /// `ok`
-    Sound,
+    Ok,
     /// `reinstreq`
     ReinstallRequired,
 }
@@ -37,6 +37,10 @@ pub enum State {
     Unpacked,
     /// `half-configured`
     HalfConfigured,
+    /// `triggers-awaited`
+    TriggersAwaited,
+    /// `triggers-pending`
+    TriggersPending,
     /// `installed`
     Installed,
 }
@@ -61,13 +65,13 @@ impl Flag {
     pub fn is_sound(self) -> bool
         ensures { result ≡ is_sound_flag self }
     {
-        matches!(self, Flag::Sound)
+        matches!(self, Flag::Ok)
     }
 }
 
 impl State {
     ghost use Rattle.std.specs.Prelude.{◌≡◌};
-    ghost use Rattle.rules.specs.State.{is_config_files_state, is_installed_state, is_not_installed_state, is_present_state, is_unconfigured_state, is_unfinished_state};
+    ghost use Rattle.rules.specs.State.{has_configured_version, is_config_files_state, is_installed_state, is_not_installed_state, is_present_state, is_trigger_state, is_unconfigured_state, is_unfinished_state};
 
     /// Whether files of the package are there.
     pub fn is_present(self) -> bool
@@ -76,11 +80,18 @@ impl State {
         !matches!(self, State::NotInstalled | State::ConfigFiles)
     }
 
-    /// Whether all files of the package are there and it isn't configured.
+    /// Whether triggers are left to be processed: the package's own, or those of another that it awaits.
+    pub fn is_trigger_state(self) -> bool
+        ensures { result ≡ is_trigger_state self }
+    {
+        matches!(self, State::TriggersAwaited | State::TriggersPending)
+    }
+
+    /// Whether all files of the package are there and it isn't configured, or triggers are left to be processed.
     pub fn is_unconfigured(self) -> bool
         ensures { result ≡ is_unconfigured_state self }
     {
-        matches!(self, State::Unpacked | State::HalfConfigured)
+        matches!(self, State::Unpacked | State::HalfConfigured) || self.is_trigger_state()
     }
 
     /// Whether the package is installed.
@@ -88,6 +99,13 @@ impl State {
         ensures { result ≡ is_installed_state self }
     {
         matches!(self, State::Installed)
+    }
+
+    /// Whether the version is the one that was configured last.
+    pub fn has_configured_version(self) -> bool
+        ensures { result ≡ has_configured_version self }
+    {
+        self.is_installed() || self.is_trigger_state()
     }
 
     /// Whether something is left to be done.

@@ -71,7 +71,7 @@ pub enum Rule {
 /// Why the end of a plan isn't good (F11): the first of these, and of names the first by bytes.
 #[derive(Drop)]
 pub enum Reason {
-    /// The package is half-installed, unpacked, half-configured or to be installed again.
+    /// The package is half-installed, unpacked, half-configured, in a trigger state or to be installed again.
     Unfinished(Text),
     /// The installed package has a clause that isn't met, or conflicts with or breaks another.
     Relation(Text),

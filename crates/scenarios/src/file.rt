@@ -1,8 +1,6 @@
 //! A file of scenarios: each scenario is read and its commands are judged.
 use crate::judge::judge;
-use crate::lines::{Line, lines_of};
-use crate::report::Report;
-use crate::scenario::scenario_of;
+use scenario_text::{Line, Report, lines_of, scenario_of};
 use std::alloc::{AllocError, Global};
 
 /// The report on the text of a file.

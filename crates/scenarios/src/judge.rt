@@ -1,11 +1,8 @@
 //! Each command is run, and what it does is compared with what is wanted of it.
-use crate::command::{Command, Kind};
-use crate::inputs::Inputs;
 use crate::left::{installed_after, left_of};
 use crate::memory::{Memory, Printed, run_line};
-use crate::report::Report;
-use crate::wanted::Wanted;
 use anyhow::Result;
+use scenario_text::{Command, Inputs, Kind, Report, Wanted};
 use std::alloc::{AllocError, Global};
 
 /// Runs a command, and reports where it does not hold. An error is a fault of its line.

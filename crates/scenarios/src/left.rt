@@ -1,11 +1,11 @@
 //! What the steps of a plan leave of the status file of a scenario.
-use crate::inputs::Inputs;
 use anyhow::{Result, bail};
 use debversion::Version;
 use plantext::read_plan;
 use rules::{State, Step};
+use scenario_text::Inputs;
 use stanza::Stanzas;
-use status_store::{ApplyError, Database, Record};
+use status_store::{ApplyError, Database, FileRecord};
 use std::alloc::Global;
 
 /// The records that so many first steps of a plan leave, by name, with commas between them.
@@ -99,14 +99,14 @@ fn joined(alloc: Global, mut items: Vec<String>) -> Result<String> {
     Ok(items.as_slice().join(alloc, ", ")?)
 }
 
-fn shown_installed(alloc: Global, record: &Record<'_>) -> Result<String> {
+fn shown_installed(alloc: Global, record: &FileRecord<'_>) -> Result<String> {
     let mut shown = String::from_str(alloc, str::from_utf8(record.name())?)?;
     push_version(&mut shown, "", record.version())?;
     Ok(shown)
 }
 
 // An installed package is configured in its version, and so no other one is written.
-fn shown_record(alloc: Global, record: &Record<'_>) -> Result<String> {
+fn shown_record(alloc: Global, record: &FileRecord<'_>) -> Result<String> {
     let name = str::from_utf8(record.name())?;
     let mut shown = format!(in alloc; "{name} {}", word_of(record.state()))?;
     push_version(&mut shown, "", record.version())?;
@@ -131,6 +131,8 @@ fn word_of(state: State) -> &'static str {
         State::HalfInstalled => "half-installed",
         State::Unpacked => "unpacked",
         State::HalfConfigured => "half-configured",
+        State::TriggersAwaited => "triggers-awaited",
+        State::TriggersPending => "triggers-pending",
         State::Installed => "installed",
     }
 }

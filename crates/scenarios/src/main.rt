@@ -1,26 +1,18 @@
-//! Runs scenarios of debplan that are written as texts, and says which do not hold: `scenarios [FILE ..]`, without words the
-//! files of the folder in which it runs. The program is `cli::run` over files in memory. README.md has the format.
+//! Runs scenarios of debplan that are written as texts, and says which do not hold: `scenarios [FILE ..]`, without words
+//! the files of the folder in which it runs. The program is `cli::run` over files in memory, the texts are read by
+//! `scenario_text`. README.md has the format.
 #![tactic(auto)]
 
-mod behind;
-mod command;
-mod escapes;
 mod file;
-mod inputs;
 mod judge;
 mod left;
-mod lines;
 mod memory;
-mod report;
-mod scenario;
-mod shorthand;
 #[cfg(test)]
 mod tests;
-mod wanted;
 
 use anyhow::Result;
 use file::report_on;
-use report::{Report, Tally};
+use scenario_text::{Report, Tally};
 use std::alloc::AllocError;
 use std::process::ExitCode;
 use std::{env, fs, io};

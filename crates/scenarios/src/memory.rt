@@ -1,6 +1,6 @@
 //! A host in memory over the inputs of a scenario, and runs of the program over it.
-use crate::inputs::Inputs;
 use cli::{Host, ReadError, run};
+use scenario_text::Inputs;
 use std::alloc::{AllocError, Global};
 
 /// The files of a scenario, with the one that a command has itself.

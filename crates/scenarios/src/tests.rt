@@ -1,11 +1,9 @@
 //! What is said of each fault, and of each command that does not hold.
 use crate::file::report_on;
 use crate::judge::judge_printed;
-use crate::lines::lines_of;
 use crate::memory::Printed;
-use crate::report::{Report, Tally};
 use crate::report_of_file;
-use crate::scenario::scenario_of;
+use scenario_text::{Report, Tally, lines_of, scenario_of};
 use std::alloc::{AllocError, Global};
 use std::fs;
 use std::test::Fail;

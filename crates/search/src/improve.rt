@@ -2,14 +2,12 @@
 // once as the very first, and the better set is kept with its order. Fewer lost wishes are better, and of as many, fewer
 // selected numbers that aren't the best of a wish. What is found here is tested once more in `found`.
 
-use crate::leave_out::may_leave_out;
 use crate::run::{Ended, refute, run};
 use crate::start::start;
-use crate::state::State;
-use crate::table::{at, put};
-use crate::trail::Trail;
 use crate::trim::Refutation;
 use clauses::Clauses;
+use search_state::table::{at, put};
+use search_state::{State, Trail, may_leave_out};
 use std::alloc::{AllocError, Global};
 
 /// Conflicts that are allowed once a set is in hand, in all.

@@ -5,9 +5,9 @@ ghost use Rattle.std.specs.List.{Any, filter};
 ghost use Rattle.clauses.specs.Clause.{LeavesChoice, is_unnegated};
 ghost use Rattle.search.specs.Set.{AreMadeTrue, IsMadeTrue, holds, is_true_in, numbers_from};
 
-use crate::literal::number_of;
-use crate::table::at;
 use clauses::Clauses;
+use search_state::literal::number_of;
+use search_state::table::at;
 use std::alloc::{AllocError, Global};
 
 // Whether a literal is true of the set.

@@ -1,7 +1,7 @@
 // Running on from the state at hand to a set, a refutation or the end of what is allowed.
 
-use crate::state::State;
 use crate::trim::{Refutation, refutation_of};
+use search_state::State;
 use std::alloc::{AllocError, Global};
 
 /// How a run ended: with a set once all that is undecided is left out, with a refutation, or with more conflicts than

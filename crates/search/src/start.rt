@@ -1,13 +1,9 @@
 // The state before the first decision: the clauses of the wishes, two watches for each clause of two literals or more,
 // and what clauses of one literal make true.
 
-use crate::agenda::Agenda;
-use crate::literal::{negated, selects};
-use crate::state::State;
-use crate::store::Store;
-use crate::trail::Trail;
-use crate::watch::Watches;
 use clauses::Clauses;
+use search_state::literal::{negated, selects};
+use search_state::{Agenda, State, Store, Trail, Watches};
 use std::alloc::{AllocError, Global};
 
 // The literal that a wish decides: its number where it has one alone, and else a number of its own, which no clause

@@ -1,7 +1,7 @@
 // A refutation, written trimmed: of the clauses given and the learned lines those alone that the last line needs.
 
-use crate::store::Store;
-use crate::table::{at, put};
+use search_state::Store;
+use search_state::table::{at, put};
 use std::alloc::{AllocError, Global};
 
 /// A derived clause, and the numbers of the clauses by which it follows: those of the premises from 1 on, in their

@@ -4,7 +4,7 @@ use Rattle.std.proofs.Math.ListN.{length-map}
 use Rattle.std.proofs.lemmas.List.{ext_get_or, get_or-map}
 use Rattle.rules.specs.Database.{Record}
 use Rattle.rules.specs.Step.{changed, no_relations}
-use Rattle.rules.specs.declared.status.Flag.TheVariants.{Sound}
+use Rattle.rules.specs.declared.status.Flag.TheVariants as flags
 use Rattle.rules.specs.declared.status.State.TheVariants.{NotInstalled}
 use Rattle.rules.specs.declared.status.Want.TheVariants.{Unknown}
 
@@ -21,7 +21,7 @@ blank = record {
   name = [];
   state = NotInstalled;
   want = Unknown;
-  flag = Sound;
+  flag = flags.Ok;
   version = [];
   config_version = None;
   relations = no_relations;

@@ -11,7 +11,7 @@ use Rattle.std.proofs.lemmas.Option.{get_or_from_slice_get, slice_get_within}
 use Rattle.rules.specs.Database.{Record, HasDistinctNames, IsPresent}
 use Rattle.rules.specs.ElementLaws.{All-intro, Contains-map, list_any-from_contains}
 use Rattle.rules.specs.NamedLaws.{bytes_eq-true}
-use Rattle.rules.specs.Step.{Listed, after_unpack, changed, configured, is_among, is_named, unpacked_over}
+use Rattle.rules.specs.Step.{IndexPackage, after_unpack, changed, configured, is_among, is_named, unpacked_over}
 use Rattle.status.specs.Holders.{IsPlaceOf}
 use Rattle.status.proofs.Changed.{changed_by_place}
 use Rattle.status.proofs.ListedLemmas.{at-place, place-at}
@@ -197,7 +197,7 @@ place-there name db place is = let at = place-at name db place is in
     list_any-from_contains (is_named name) db at.0 (at-place db place at.0 at.1) at.2
 
 -- what is unpacked over the record of its name is what is unpacked
-pub unpacked-there : {E : Type 0} (r : Result (Unit {0}) E) (listed : Listed) (db new : List Record) (place : ℕ)
+pub unpacked-there : {E : Type 0} (r : Result (Unit {0}) E) (listed : IndexPackage) (db new : List Record) (place : ℕ)
     → IsPlaceOf listed.pkg.name db place → OnOk r (new ≡ changed (is_named listed.pkg.name) (unpacked_over listed) db)
     → OnOk r (new ≡ after_unpack listed db)
 unpacked-there (Ok done) listed db new place is ok = rw (place-there listed.pkg.name db place is) ok

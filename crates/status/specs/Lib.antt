@@ -1,3 +1,3 @@
-pub mod PackageRecord
+pub mod StateRecord
 pub mod Holders
 pub mod HolderLaws

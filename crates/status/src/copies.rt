@@ -2,14 +2,14 @@
 
 ghost use Rattle.std.specs.Prelude.{◌≡◌, IfOk};
 
-use crate::package_record::PackageRecord;
+use crate::package_record::StateRecord;
 use std::alloc::{AllocError, Global};
 
 /// The same records once more. Linear in them. Memory alone can fail.
 pub fn try_copy<'p, 'a>(
     alloc: Global,
-    records: &[PackageRecord<'p, 'a>],
-) -> Result<Vec<PackageRecord<'p, 'a>>, AllocError>
+    records: &[StateRecord<'p, 'a>],
+) -> Result<Vec<StateRecord<'p, 'a>>, AllocError>
     ensures { IfOk result (λ copies. copies.items ≡ records.now) }
 {
     let mut copies = Vec::new(alloc);

@@ -1,6 +1,6 @@
 // The status database of dpkg: its records, as the checkers of plans read them. It stands on `rules`, which
 // says what the words of a record mean, on `relation`, and on `index` for what is unpacked. The main type is
-// `PackageRecord`.
+// `StateRecord`.
 #![tactic(auto)]
 
 mod copies;
@@ -15,5 +15,5 @@ mod unpacking;
 pub use copies::try_copy;
 pub use holder::Holders;
 pub use lookup::Records;
-pub use package_record::PackageRecord;
+pub use package_record::StateRecord;
 pub use rules::{Flag, State, Step, Want};

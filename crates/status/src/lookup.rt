@@ -6,10 +6,10 @@ ghost use Rattle.rules.specs.Step.{after_unpack, changed, configured, deconfigur
 ghost use Rattle.status.specs.Holders.{AreHolders, AreListed, IsPlaceOf, is_named_at, places_in};
 
 use crate::holder::Holders;
-use crate::package_record::PackageRecord;
+use crate::package_record::StateRecord;
 use crate::places::Places;
 use crate::step::is_named;
-use index::Listed;
+use index::IndexPackage;
 use rules::Name;
 use std::alloc::{AllocError, Global};
 use std::marker::Model;
@@ -17,7 +17,7 @@ use std::marker::Model;
 /// The records of a database, and for each name the places of those that have or provide it.
 #[derive(Drop)]
 pub struct Records<'p, 'a> {
-    records: Vec<PackageRecord<'p, 'a>>,
+    records: Vec<StateRecord<'p, 'a>>,
     places: Places<'a>,
 }
 
@@ -34,7 +34,7 @@ impl<'p, 'a> Model for Records<'p, 'a> {
 }
 
 // The places of these records.
-fn places_of<'a>(alloc: Global, records: &[PackageRecord<'_, 'a>]) -> Result<Places<'a>, AllocError>
+fn places_of<'a>(alloc: Global, records: &[StateRecord<'_, 'a>]) -> Result<Places<'a>, AllocError>
     ensures { IfOk result (λ places. AreListed (places_in places) records.now) }
 {
     let mut places = Places::new(alloc);
@@ -45,7 +45,7 @@ fn places_of<'a>(alloc: Global, records: &[PackageRecord<'_, 'a>]) -> Result<Pla
 }
 
 // Whether the record at the place is of the name.
-fn is_named_at(records: &[PackageRecord<'_, '_>], place: usize, name: &[u8]) -> bool
+fn is_named_at(records: &[StateRecord<'_, '_>], place: usize, name: &[u8]) -> bool
     ensures { result ≡ is_named_at name.now records.now place }
 {
     match records.get(place) {
@@ -55,7 +55,7 @@ fn is_named_at(records: &[PackageRecord<'_, '_>], place: usize, name: &[u8]) -> 
 }
 
 // The first of the places at which a record of the name stands.
-fn place_among(records: &[PackageRecord<'_, '_>], places: &[usize], name: &[u8]) -> Option<usize>
+fn place_among(records: &[StateRecord<'_, '_>], places: &[usize], name: &[u8]) -> Option<usize>
     ensures { MatchOption result (All (λ place. is_named_at name.now records.now place ≡ false) places.now)
         (IsPlaceOf name.now records.now) }
 {
@@ -71,7 +71,7 @@ impl<'p, 'a> Records<'p, 'a> {
     /// These records. Memory alone can fail. Linear in the records and what they provide.
     pub fn new(
         alloc: Global,
-        records: Vec<PackageRecord<'p, 'a>>,
+        records: Vec<StateRecord<'p, 'a>>,
     ) -> Result<Records<'p, 'a>, AllocError>
         ensures { IfOk result (λ made. made ≡ records.entry.items) }
     {
@@ -80,7 +80,7 @@ impl<'p, 'a> Records<'p, 'a> {
     }
 
     /// The records, in their order.
-    pub fn as_slice(&self) -> &[PackageRecord<'p, 'a>]
+    pub fn as_slice(&self) -> &[StateRecord<'p, 'a>]
         ensures { result.now ≡ self.now }
     {
         self.records.as_slice()
@@ -149,7 +149,7 @@ impl<'p, 'a> Records<'p, 'a> {
     }
 
     // Unpacks the package over the record at the place.
-    fn unpack_at(&mut self, place: usize, listed: &'p Listed<'a>) -> Result<(), AllocError>
+    fn unpack_at(&mut self, place: usize, listed: &'p IndexPackage<'a>) -> Result<(), AllocError>
         requires place { IsPlaceOf listed.now.pkg.name self.old place }
         requires distinct { HasDistinctNames self.old }
         ensures ok { OnOk result (self.new ≡ changed (is_named listed.now.pkg.name) (unpacked_over listed.now) self.old) }
@@ -162,21 +162,21 @@ impl<'p, 'a> Records<'p, 'a> {
     }
 
     // Unpacks the package behind the other records.
-    fn unpack_last(&mut self, listed: &'p Listed<'a>) -> Result<(), AllocError>
+    fn unpack_last(&mut self, listed: &'p IndexPackage<'a>) -> Result<(), AllocError>
         ensures ok { OnOk result (self.new ≡ self.old ++ unpacked_with listed.now None ∷ []) }
         ensures err { OnErr result (self.new ≡ self.old) }
     {
         let pkg = listed.pkg();
         self.places
             .enter(pkg.name(), pkg.provides(), self.records.len())?;
-        self.records.push(PackageRecord::unpacked(listed, None))?;
+        self.records.push(StateRecord::unpacked(listed, None))?;
         Ok(())
     }
 
     /// Unpacks the package: its record takes the place of the one of its name, or comes last where there is none.
     /// Linear in what it provides and in the records that have or provide its name. Memory alone can fail, and then
     /// nothing is changed.
-    pub fn unpack(&mut self, listed: &'p Listed<'a>) -> Result<(), AllocError>
+    pub fn unpack(&mut self, listed: &'p IndexPackage<'a>) -> Result<(), AllocError>
         requires { HasDistinctNames self.old }
         ensures ok { OnOk result (self.new ≡ after_unpack listed.now self.old) }
         ensures err { OnErr result (self.new ≡ self.old) }

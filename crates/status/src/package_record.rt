@@ -13,7 +13,7 @@ use std::marker::Model;
 /// What the database knows of a name, with the package of a present one, which was parsed before. It borrows
 /// the texts (`'a`) and the package (`'p`).
 #[derive(Drop)]
-pub struct PackageRecord<'p, 'a> {
+pub struct StateRecord<'p, 'a> {
     name: &'a [u8],
     state: State,
     want: Want,
@@ -24,12 +24,12 @@ pub struct PackageRecord<'p, 'a> {
     is_essential: bool,
 }
 
-impl<'p, 'a> Model for PackageRecord<'p, 'a> {
+impl<'p, 'a> Model for StateRecord<'p, 'a> {
     ghost use Rattle.std.specs.Prelude.{[], unwrap_or};
     ghost use Rattle.std.specs.Option.{option_copied, option_map_or};
     ghost use Rattle.rules.specs.Database.{Record};
     ghost use Rattle.rules.specs.Step.{no_relations};
-    ghost use Rattle.status.specs.PackageRecord.{HasItsPkg};
+    ghost use Rattle.status.specs.StateRecord.{HasItsPkg};
 
     ghost Value = { Record };
 
@@ -56,7 +56,7 @@ fn version_again<'a>(version: &Option<Version<'a>>) -> Option<Version<'a>>
     }
 }
 
-impl<'p, 'a> PackageRecord<'p, 'a> {
+impl<'p, 'a> StateRecord<'p, 'a> {
     /// The record of a present package.
     pub fn present(
         pkg: &'p Pkg<'a>,
@@ -65,7 +65,7 @@ impl<'p, 'a> PackageRecord<'p, 'a> {
         flag: Flag,
         config_version: Option<Version<'a>>,
         is_essential: bool,
-    ) -> PackageRecord<'p, 'a>
+    ) -> StateRecord<'p, 'a>
         requires { is_present_state state ≡ true }
         ensures { result ≡ record {
           name = pkg.now.name;
@@ -78,7 +78,7 @@ impl<'p, 'a> PackageRecord<'p, 'a> {
           is_essential = is_essential;
         } }
     {
-        PackageRecord {
+        StateRecord {
             name: pkg.name(),
             state,
             want,
@@ -99,7 +99,7 @@ impl<'p, 'a> PackageRecord<'p, 'a> {
         version: Option<Version<'a>>,
         config_version: Option<Version<'a>>,
         is_essential: bool,
-    ) -> PackageRecord<'p, 'a>
+    ) -> StateRecord<'p, 'a>
         requires { is_present_state state ≡ false }
         ensures { result ≡ record {
           name = name.now;
@@ -112,7 +112,7 @@ impl<'p, 'a> PackageRecord<'p, 'a> {
           is_essential = is_essential;
         } }
     {
-        PackageRecord {
+        StateRecord {
             name,
             state,
             want,
@@ -125,10 +125,10 @@ impl<'p, 'a> PackageRecord<'p, 'a> {
     }
 
     /// The same record once more.
-    pub fn again(&self) -> PackageRecord<'p, 'a>
+    pub fn again(&self) -> StateRecord<'p, 'a>
         ensures { result ≡ self.now }
     {
-        PackageRecord {
+        StateRecord {
             name: self.name,
             state: self.state,
             want: self.want,

@@ -5,19 +5,19 @@ ghost use Rattle.rules.specs.Database.{IsPresent};
 ghost use Rattle.rules.specs.State.{is_present_state};
 ghost use Rattle.rules.specs.Step.{configured, deconfigured, is_named, kept_config_version, last_configured, removed};
 
-use crate::package_record::PackageRecord;
+use crate::package_record::StateRecord;
 use debversion::Version;
 use rules::{State, Want};
 
-impl<'p, 'a> PackageRecord<'p, 'a> {
+impl<'p, 'a> StateRecord<'p, 'a> {
     // The record in this state, with its version as the one configured last.
-    fn settled(&self, state: State) -> PackageRecord<'p, 'a>
+    fn settled(&self, state: State) -> StateRecord<'p, 'a>
         requires present { IsPresent self.now }
         requires settled { is_present_state state ≡ true }
         ensures { result ≡ record self.now { state = state; config_version = Some self.now.version } }
     {
         match self.present_pkg() {
-            Some(pkg) => PackageRecord::present(
+            Some(pkg) => StateRecord::present(
                 pkg,
                 state,
                 self.want(),
@@ -30,7 +30,7 @@ impl<'p, 'a> PackageRecord<'p, 'a> {
     }
 
     /// The record once its package is configured.
-    pub(crate) fn configured(&self) -> PackageRecord<'p, 'a>
+    pub(crate) fn configured(&self) -> StateRecord<'p, 'a>
         requires { IsPresent self.now }
         ensures { result ≡ configured self.now }
     {
@@ -38,20 +38,20 @@ impl<'p, 'a> PackageRecord<'p, 'a> {
     }
 
     /// The record once its package is deconfigured.
-    pub(crate) fn deconfigured(&self) -> PackageRecord<'p, 'a>
+    pub(crate) fn deconfigured(&self) -> StateRecord<'p, 'a>
         requires { IsPresent self.now }
         ensures { result ≡ deconfigured self.now }
     {
         self.settled(State::HalfConfigured)
     }
 
-    // The version that was configured last: of an installed package its version.
-    fn last_configured(&self) -> Option<Version<'a>>
+    /// The version that was configured last: of an installed package, and of one in a trigger state, its version.
+    pub fn last_configured(&self) -> Option<Version<'a>>
         requires { IsPresent self.now }
         ensures { result ≡ last_configured self.now }
     {
         match (self.present_pkg(), self.config_version()) {
-            (Some(pkg), _) if self.state().is_installed() => Some(pkg.version().again()),
+            (Some(pkg), _) if self.state().has_configured_version() => Some(pkg.version().again()),
             (_, Some(version)) => Some(version.again()),
             (_, None) => None,
         }
@@ -69,12 +69,12 @@ impl<'p, 'a> PackageRecord<'p, 'a> {
     }
 
     /// The record once its package is removed.
-    pub(crate) fn removed(&self) -> PackageRecord<'p, 'a>
+    pub(crate) fn removed(&self) -> StateRecord<'p, 'a>
         requires { IsPresent self.now }
         ensures { result ≡ removed self.now }
     {
         match self.present_pkg() {
-            Some(pkg) => PackageRecord::absent(
+            Some(pkg) => StateRecord::absent(
                 pkg.name(),
                 State::ConfigFiles,
                 Want::Deinstall,
@@ -89,7 +89,7 @@ impl<'p, 'a> PackageRecord<'p, 'a> {
 }
 
 /// Whether the record is of the name.
-pub(crate) fn is_named(name: &[u8], found: &PackageRecord<'_, '_>) -> bool
+pub(crate) fn is_named(name: &[u8], found: &StateRecord<'_, '_>) -> bool
     ensures { result ≡ is_named name.now found.now }
 {
     found.name() == name

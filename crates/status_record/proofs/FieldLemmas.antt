@@ -4,7 +4,7 @@ use Rattle.std.proofs.lemmas.List.Elements.{filter-append}
 use Rattle.std.specs.List.{filter, flat_map}
 use Rattle.std.specs.Str.{str_eq_ignore_ascii_case, str_to_ascii_lowercase}
 use Rattle.rules.specs.Database.{Record}
-use Rattle.rules.specs.Entry.{status_of}
+use Rattle.rules.specs.FileRecord.{status_of}
 use Rattle.rules.specs.NamedLaws.{bytes_eq-true}
 use Rattle.rules.specs.Stanza.{Field, is_called, is_called_one_of, fields_called, fields_without, config_fields, with_config_version, touched_fields, unpacked_fields, index_only}
 use Rattle.status_record.specs.Written.{written_anew}

@@ -10,7 +10,7 @@ use Rattle.relation.specs.declared.error.PkgFault.TheVariants.{BadVersion}
 use Rattle.rules.specs.VersionFault.{first_fault}
 use Rattle.rules.specs.declared.bad_version.BadVersion.TheVariants.{Empty}
 use Rattle.rules.specs.Database.{Record, pkg_of}
-use Rattle.rules.specs.Entry.{Entry, touched_entry}
+use Rattle.rules.specs.FileRecord.{FileRecord, touched_entry}
 use Rattle.rules.specs.Package.{Pkg, Relations}
 use Rattle.rules.specs.State.{is_present_state}
 use Rattle.rules.specs.Step.{no_relations}
@@ -18,9 +18,9 @@ use Rattle.stanza.specs.Field.{FieldText}
 use Rattle.stanza.specs.Stanza.{StanzaText}
 use Rattle.status_record.proofs.SaysLemmas.{none-back, none-front}
 use Rattle.status_record.proofs.OriginLemmas.{read_as, touched_as}
-use Rattle.status_record.specs.Origin.{entry_by, record_after, touched_origin}
-use Rattle.status_record.specs.declared.origin.Origin.{Origin}
-use Rattle.status_record.specs.declared.origin.Origin.TheVariants.{Untouched}
+use Rattle.status_record.specs.StanzaOrigin.{IsPastTriggers, entry_by, record_after, touched_origin}
+use Rattle.status_record.specs.declared.origin.StanzaOrigin.{StanzaOrigin}
+use Rattle.status_record.specs.declared.origin.StanzaOrigin.TheVariants.{Untouched}
 use Rattle.status_text.specs.Kept.{IsKept, kept_record}
 use Rattle.status_text.specs.Record.{relations_at}
 use Rattle.status_text.specs.declared.mark.Mark.{Mark}
@@ -70,20 +70,20 @@ kept-after arch stanza name mark next version config_version next_version is_ess
     }) (relations-after (is_present_state next.state) (is_present_state mark.state) (Rattle.relation.specs.PkgText.relations_of arch (fields_of stanza)) stays)
 
 -- a record once an action has touched it
-pub entry-after : (arch : List ℕ) (stanza : StanzaText) (origin : Origin) (name : List ℕ) (mark next : Mark) (version config_version next_version : Option (List ℕ)) (is_essential : Bool)
-    → (is_present_state next.state ≡ true → is_present_state mark.state ≡ true)
-    → entry_by (touched_origin origin) stanza (kept_record arch stanza name next version next_version is_essential)
+pub entry-after : (arch : List ℕ) (stanza : StanzaText) (origin : StanzaOrigin) (name : List ℕ) (mark next : Mark) (version config_version next_version : Option (List ℕ)) (is_essential : Bool)
+    → (is_present_state next.state ≡ true → is_present_state mark.state ≡ true) → IsPastTriggers origin mark.state
+    → entry_by (touched_origin mark.state origin) stanza (kept_record arch stanza name next version next_version is_essential)
     ≡ touched_entry (record_after next next_version) (entry_by origin stanza (kept_record arch stanza name mark version config_version is_essential))
-entry-after arch stanza origin name mark next version config_version next_version is_essential stays =
-    ap (entry_by (touched_origin origin) stanza) (kept-after arch stanza name mark next version config_version next_version is_essential stays)
+entry-after arch stanza origin name mark next version config_version next_version is_essential stays past =
+    ap (entry_by (touched_origin mark.state origin) stanza) (kept-after arch stanza name mark next version config_version next_version is_essential stays)
     ∙ ap (λ written. record { found = record_after next next_version found; stanza = written })
-    (touched_as origin stanza found (record_after next next_version found))
+    (touched_as origin stanza found (record_after next next_version found) past)
   where
     found : Record
     found = kept_record arch stanza name mark version config_version is_essential
 
 -- a record as it was read
-pub entry-read : (arch : List ℕ) (stanza : StanzaText) (name : List ℕ) (mark : Mark) (version config_version : Option (List ℕ)) (is_essential : Bool) (read : Entry)
+pub entry-read : (arch : List ℕ) (stanza : StanzaText) (name : List ℕ) (mark : Mark) (version config_version : Option (List ℕ)) (is_essential : Bool) (read : FileRecord)
     → name ≡ read.found.name → mark.want ≡ read.found.want → mark.flag ≡ read.found.flag → mark.state ≡ read.found.state
     → unwrap_or version [] ≡ read.found.version → config_version ≡ read.found.config_version
     → relations_at mark.state arch stanza ≡ read.found.relations → is_essential ≡ read.found.is_essential → read_stanza stanza ≡ read.stanza

@@ -5,6 +5,7 @@ pub mod KeptLemmas
 pub mod WrittenLemmas
 pub mod PassLemmas
 pub mod WordRows
+pub mod PlainLemmas
 pub mod ValueLemmas
 pub mod SaysLemmas
 pub mod ReadLemmas

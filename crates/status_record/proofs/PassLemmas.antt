@@ -5,7 +5,7 @@ use Rattle.std.proofs.lemmas.List.Elements.{filter-append}
 use Rattle.std.specs.List.{filter, flat_map, list_any}
 use Rattle.std.specs.Str.{str_eq_ignore_ascii_case}
 use Rattle.rules.specs.Database.{Record}
-use Rattle.rules.specs.Entry.{status_of}
+use Rattle.rules.specs.FileRecord.{status_of}
 use Rattle.rules.specs.Stanza.{Field, is_called, is_called_one_of, fields_called, fields_without, index_only, marks_essential, with_config_version, touched_fields, unpacked_fields}
 use Rattle.status_record.proofs.FieldLemmas.{config-same, is_kept, other_name}
 use Rattle.status_record.proofs.FilterLemmas.{filter_within, left_out, none_of_both, same_in_parts}

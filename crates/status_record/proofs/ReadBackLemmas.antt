@@ -1,26 +1,29 @@
 -- What is written of a record that was read, touched or unpacked says that record.
 use Rattle.std.proofs.Common.{◌≡◌, ℕ, Bool, true, false, true≢false, not, ◌||◌, List, [], ◌∷◌, map, Option, None, Some, Result, Ok, refl, sym, ap, ◌∙◌, subst, is_some, unwrap_or, codes, if◌then◌else◌}
 use Rattle.std.specs.Option.{option_and_then, option_or}
-use Rattle.index.specs.Index.{listed_with, read_entry, read_listed, read_native, unless_name_fault}
+use Rattle.index.specs.Index.{indexed_at, indexed_with, read_entry, read_indexed, read_native, unless_name_fault}
 use Rattle.package_stanza.specs.Stanza.{counts_for, field_of, is_essential, read_stanza}
 use Rattle.index.specs.declared.error.IndexFault.{IndexFault}
 use Rattle.relation.specs.PkgFields.{fields_of}
 use Rattle.relation.specs.PkgText.{pkg_fault, pkg_name_fault, pkg_of, pkg_version_fault, relations_fault, unless_fault}
 use Rattle.relation.specs.declared.error.PkgFault.{PkgFault}
 use Rattle.rules.specs.Database.{Record}
-use Rattle.rules.specs.Entry.{Entry, status_of, touched_entry, written_config_version}
+use Rattle.rules.specs.FileRecord.{FileRecord, IndexStanza, status_of, touched_entry, touched_stanza, written_config_version}
 use Rattle.rules.specs.Package.{Pkg, Relations}
 use Rattle.rules.specs.Stanza.{Field, Stanza, unpacked_fields}
-use Rattle.rules.specs.State.{is_installed_state, is_present_state, is_unconfigured_state}
-use Rattle.rules.specs.Step.{Listed, configured, deconfigured, kept_config_version, last_configured, no_relations, removed, unpacked_with}
+use Rattle.rules.specs.State.{has_configured_version, is_installed_state, is_present_state, is_trigger_state, is_unconfigured_state}
+use Rattle.rules.specs.Step.{configured, deconfigured, kept_config_version, last_configured, no_relations, removed, unpacked_with}
 use Rattle.rules.specs.VersionFault.{first_fault}
+use Rattle.rules.specs.declared.index_place.IndexPlace.{IndexPlace}
 use Rattle.rules.specs.declared.status.State.{State}
-use Rattle.rules.specs.declared.status.State.TheVariants.{NotInstalled, ConfigFiles, HalfInstalled, Unpacked, HalfConfigured, Installed}
+use Rattle.rules.specs.declared.status.State.TheVariants.{NotInstalled, ConfigFiles, HalfInstalled, Unpacked, HalfConfigured, TriggersAwaited, TriggersPending, Installed}
 use Rattle.stanza.specs.Field.{FieldText, value_named}
 use Rattle.stanza.specs.Stanza.{StanzaText}
 use Rattle.status_record.proofs.SaysLemmas.{AreSound, Says, counts_value, none-back, none-front, relations-same, relations_in, sound-name, sound-relations, sound-there, text-value}
 use Rattle.status_record.proofs.ReadLemmas.{read_says, says_read}
 use Rattle.status_record.proofs.ValueLemmas.{Values, behind_version, values-read, values-touched, values-unpacked, values_in, values_of, written_values}
+use Rattle.status_record.proofs.OriginLemmas.{lasting-all}
+use Rattle.status_record.proofs.PlainLemmas.{plain-status}
 use Rattle.status_record.proofs.WordRows.{words-read}
 use Rattle.status_record.specs.ReadBack.{ReadReadsBack, ReadsBack, TouchedReadsBack, UnpackedReadsBack}
 use Rattle.status_text.specs.Record.{config_version_at}
@@ -33,6 +36,8 @@ sound-config ConfigFiles version config_version v c = c
 sound-config HalfInstalled version config_version v c = c
 sound-config Unpacked version config_version v c = c
 sound-config HalfConfigured version config_version v c = c
+sound-config TriggersAwaited version config_version v c = v
+sound-config TriggersPending version config_version v c = v
 sound-config Installed version config_version v c = v
 
 some-value : (value : Option (List ℕ)) (text : List ℕ) → is_some value ≡ true → unwrap_or value [] ≡ text → value ≡ Some text
@@ -63,6 +68,7 @@ sound-written status config_version values sound = record {
 
 -- what an action makes of a present record
 record Follows (old next : Record) : Type 0 where
+  past : is_trigger_state next.state ≡ false
   name : next.name ≡ old.name
   version : next.version ≡ old.version
   essential : next.is_essential ≡ old.is_essential
@@ -79,7 +85,7 @@ says-later arch values old next present says follows =
     record {
       name = says.name ∙ ap Some (sym follows.name);
       valid = ap Rattle.rules.specs.Name.is_name follows.name ∙ says.valid;
-      status = words-read next.want next.flag next.state;
+      status = words-read next.want next.flag next.state follows.past;
       counted = counts-later arch old.state next.state values.architecture present says.counted;
       version = says.version ∙ sym follows.version;
       there = λ _. there;
@@ -106,24 +112,24 @@ last-sound true version config_version v c = v
 last-sound false version config_version v c = c
 
 last-read : (arch : List ℕ) (values : Values) (old : Record) → is_present_state old.state ≡ true → Says arch values old → option_and_then first_fault (last_configured old) ≡ None
-last-read arch values old present says = last-sound (is_installed_state old.state) (Some old.version) old.config_version (version-read arch values old present says) (config-read arch values old says)
+last-read arch values old present says = last-sound (has_configured_version old.state) (Some old.version) old.config_version (version-read arch values old present says) (config-read arch values old says)
 
 follows_deconfigured : (arch : List ℕ) (values : Values) (old : Record) → is_present_state old.state ≡ true → Says arch values old → Follows old (deconfigured old)
 follows_deconfigured arch values old present says =
-    record { name = refl; version = refl; essential = refl; relations = refl; config_version = refl; sound = version-read arch values old present says }
+    record { past = refl; name = refl; version = refl; essential = refl; relations = refl; config_version = refl; sound = version-read arch values old present says }
 
 follows_configured : (old : Record) → Follows old (configured old)
-follows_configured old = record { name = refl; version = refl; essential = refl; relations = refl; config_version = refl; sound = refl }
+follows_configured old = record { past = refl; name = refl; version = refl; essential = refl; relations = refl; config_version = refl; sound = refl }
 
 follows_removed : (arch : List ℕ) (values : Values) (old : Record) → is_present_state old.state ≡ true → Says arch values old → Follows old (removed old)
 follows_removed arch values old present says =
-    record { name = refl; version = refl; essential = refl; relations = refl; config_version = refl; sound = last-read arch values old present says }
+    record { past = refl; name = refl; version = refl; essential = refl; relations = refl; config_version = refl; sound = last-read arch values old present says }
 
 -- an entry whose fields say its record
-abbrev IsSaid : List ℕ → Entry → Type 0
+abbrev IsSaid : List ℕ → FileRecord → Type 0
 IsSaid arch entry = Says arch (values_of entry.stanza.fields) entry.found
 
-said_back : (arch : List ℕ) (entry : Entry) → IsSaid arch entry → ReadsBack arch entry
+said_back : (arch : List ℕ) (entry : FileRecord) → IsSaid arch entry → ReadsBack arch entry
 said_back arch entry said stanza seen same new =
     says_read arch seen stanza entry.found
     (subst (λ (values : Values). Says arch values entry.found) (ap values_of (sym same) ∙ sym (values-read stanza)) said) new
@@ -137,7 +143,7 @@ unfolding with_line
 without-line [] = refl
 without-line (field ∷ fields) = ap (λ rest. field ∷ rest) (without-line fields)
 
-back_said : (arch : List ℕ) (entry : Entry) → ReadsBack arch entry → IsSaid arch entry
+back_said : (arch : List ℕ) (entry : FileRecord) → ReadsBack arch entry → IsSaid arch entry
 back_said arch entry back =
     let stanza : StanzaText = record { line = 0; raw = []; fields = map with_line entry.stanza.fields } in
     let same = without-line entry.stanza.fields in
@@ -150,13 +156,15 @@ read_reads_back arch seen stanza entry read =
     said_back arch entry (subst (λ (values : Values). Says arch values entry.found)
     (values-read stanza ∙ ap (λ (of : Stanza). values_of of.fields) says.1) says.0)
 
-touched_said : (arch : List ℕ) (entry : Entry) (next : Record) → is_present_state entry.found.state ≡ true → IsSaid arch entry → Follows entry.found next
+touched_said : (arch : List ℕ) (entry : FileRecord) (next : Record) → is_present_state entry.found.state ≡ true → IsSaid arch entry → Follows entry.found next
     → ReadsBack arch (touched_entry (λ _. next) entry)
 touched_said arch entry next present said follows =
     said_back arch (touched_entry (λ _. next) entry)
+    (subst (λ (fields : List Field). Says arch (values_of (touched_stanza next fields).fields) next)
+    (sym (lasting-all entry.found.state entry.stanza.fields (plain-status (values_of entry.stanza.fields).status _ entry.found.state said.status refl)))
     (subst (λ (values : Values). Says arch values next)
     (sym (values-touched next (written_config_version next.state next.config_version) entry.stanza.fields))
-    (says-later arch (values_of entry.stanza.fields) entry.found next present said follows))
+    (says-later arch (values_of entry.stanza.fields) entry.found next present said follows)))
 
 pub touched_reads_back : TouchedReadsBack
 touched_reads_back arch entry present back =
@@ -168,46 +176,43 @@ touched_reads_back arch entry present back =
     )
 
 -- the steps of reading a stanza of an index
-name-read : (refused : Option PkgFault) (later : Result (Option Listed) IndexFault) (listed : Listed) → unless_name_fault refused later ≡ Ok (Some listed)
-    → later ≡ Ok (Some listed)
-name-read None later listed h = h
-name-read (Some refused) later listed h = absurd (let e = h in cc)
+name-read : (refused : Option PkgFault) (later : Result (Option IndexStanza) IndexFault) (indexed : IndexStanza) → unless_name_fault refused later ≡ Ok (Some indexed)
+    → later ≡ Ok (Some indexed)
+name-read None later indexed h = h
+name-read (Some refused) later indexed h = absurd (let e = h in cc)
 
-native-some : (counted : Bool) (read : Result (Option Listed) IndexFault) (listed : Listed) → (if counted then read else Ok None) ≡ Ok (Some listed)
-    → (counted ≡ true) × (read ≡ Ok (Some listed))
-native-some true read listed h = (refl, h)
-native-some false read listed h = absurd (let e : ◌≡◌ {A = Result (Option Listed) IndexFault} (Ok None) (Ok (Some listed)) = h in cc)
+native-some : (counted : Bool) (read : Result (Option IndexStanza) IndexFault) (indexed : IndexStanza) → (if counted then read else Ok None) ≡ Ok (Some indexed)
+    → (counted ≡ true) × (read ≡ Ok (Some indexed))
+native-some true read indexed h = (refl, h)
+native-some false read indexed h = absurd (let e : ◌≡◌ {A = Result (Option IndexStanza) IndexFault} (Ok None) (Ok (Some indexed)) = h in cc)
 
-native-read : (arch : List ℕ) (stanza : StanzaText) (state : State) (value : Option (List ℕ)) (listed : Listed) → read_native arch stanza value ≡ Ok (Some listed)
-    → (counts_value arch state value ≡ true) × (read_listed arch stanza ≡ Ok (Some listed))
-native-read arch stanza state None listed h = absurd (let e = h in cc)
-native-read arch stanza state (Some value) listed h = native-some (counts_for arch value) (read_listed arch stanza) listed h
+native-read : (arch : List ℕ) (place : IndexPlace) (stanza : StanzaText) (state : State) (value : Option (List ℕ)) (indexed : IndexStanza) → read_native arch place stanza value ≡ Ok (Some indexed)
+    → (counts_value arch state value ≡ true) × (read_indexed arch place stanza ≡ Ok (Some indexed))
+native-read arch place stanza state None indexed h = absurd (let e = h in cc)
+native-read arch place stanza state (Some value) indexed h = native-some (counts_for arch value) (read_indexed arch place stanza) indexed h
 
-abbrev listed_of : StanzaText → Pkg → Listed
-listed_of stanza pkg = record { pkg = pkg; is_essential = is_essential stanza.fields; stanza = read_stanza stanza }
-
-listed-read : (stanza : StanzaText) (refused : Option PkgFault) (pkg : Pkg) (listed : Listed) → listed_with stanza (unless_fault refused pkg) ≡ Ok (Some listed)
-    → (refused ≡ None) × (listed_of stanza pkg ≡ listed)
-listed-read stanza None pkg listed h = (refl, let e : ◌≡◌ {A = Result (Option Listed) IndexFault} (Ok (Some (listed_of stanza pkg))) (Ok (Some listed)) = h in cc)
-listed-read stanza (Some refused) pkg listed h = absurd (let e = h in cc)
+indexed-read : (place : IndexPlace) (stanza : StanzaText) (refused : Option PkgFault) (pkg : Pkg) (indexed : IndexStanza) → indexed_with place stanza (unless_fault refused pkg) ≡ Ok (Some indexed)
+    → (refused ≡ None) × (indexed_at place stanza pkg ≡ indexed)
+indexed-read place stanza None pkg indexed h = (refl, let e : ◌≡◌ {A = Result (Option IndexStanza) IndexFault} (Ok (Some (indexed_at place stanza pkg))) (Ok (Some indexed)) = h in cc)
+indexed-read place stanza (Some refused) pkg indexed h = absurd (let e = h in cc)
 
 -- a package of an index says its record once it is unpacked, with this config version
-says-unpacked : (arch : List ℕ) (stanza : StanzaText) (config_version : Option (List ℕ)) → option_and_then first_fault config_version ≡ None
+says-unpacked : (arch : List ℕ) (place : IndexPlace) (stanza : StanzaText) (config_version : Option (List ℕ)) → option_and_then first_fault config_version ≡ None
     → pkg_fault (fields_of stanza) ≡ None → counts_value arch Unpacked (value_named (codes "Architecture") stanza.fields) ≡ true
-    → Says arch (written_values (status_of (unpacked_with (listed_of stanza (pkg_of arch (fields_of stanza))) config_version)).value config_version (values_in stanza))
-    (unpacked_with (listed_of stanza (pkg_of arch (fields_of stanza))) config_version)
-says-unpacked arch stanza config_version sound faultless counted =
+    → Says arch (written_values (status_of (unpacked_with (indexed_at place stanza (pkg_of arch (fields_of stanza))).listed config_version)).value config_version (values_in stanza))
+    (unpacked_with (indexed_at place stanza (pkg_of arch (fields_of stanza))).listed config_version)
+says-unpacked arch place stanza config_version sound faultless counted =
     let fields = fields_of stanza in
     let later = option_or (pkg_version_fault fields) (relations_fault fields) in
     let name = sound-name fields.line fields.name (none-front (pkg_name_fault fields) later faultless) in
     let rest = none-back (pkg_name_fault fields) later faultless in
     let version = sound-there true fields.line fields.version (none-front (pkg_version_fault fields) (relations_fault fields) rest) in
-    let found = unpacked_with (listed_of stanza (pkg_of arch fields)) config_version in
+    let found = unpacked_with (indexed_at place stanza (pkg_of arch fields)).listed config_version in
     let behind = behind-some (values_in stanza).version config_version (version.0 refl) in
     record {
       name = name.0;
       valid = name.1;
-      status = words-read found.want found.flag found.state;
+      status = words-read found.want found.flag found.state refl;
       counted = counted;
       version = sym (text-value fields.version);
       there = λ _. version.0 refl;
@@ -221,26 +226,26 @@ says-unpacked arch stanza config_version sound faultless counted =
     }
 
 -- the entry of a package of an index unpacked in front of these fields, with this config version
-abbrev entry_over : Listed → Option (List ℕ) → List Field → Entry
-entry_over listed config_version old_fields = record {
-  found = unpacked_with listed config_version;
-  stanza = record { fields = unpacked_fields (status_of (unpacked_with listed config_version)) config_version listed.stanza.fields old_fields; bytes = None };
+abbrev entry_over : IndexStanza → Option (List ℕ) → List Field → FileRecord
+entry_over indexed config_version old_fields = record {
+  found = unpacked_with indexed.listed config_version;
+  stanza = record { fields = unpacked_fields (status_of (unpacked_with indexed.listed config_version)) config_version indexed.fields old_fields; bytes = None };
 }
 
-unpacked_said : (arch : List ℕ) (stanza : StanzaText) (listed : Listed) (config_version : Option (List ℕ)) (old_fields : List Field)
-    → read_entry arch stanza ≡ Ok (Some listed) → option_and_then first_fault config_version ≡ None → ReadsBack arch (entry_over listed config_version old_fields)
-unpacked_said arch stanza listed config_version old_fields read sound =
+unpacked_said : (arch : List ℕ) (place : IndexPlace) (stanza : StanzaText) (indexed : IndexStanza) (config_version : Option (List ℕ)) (old_fields : List Field)
+    → read_entry arch place stanza ≡ Ok (Some indexed) → option_and_then first_fault config_version ≡ None → ReadsBack arch (entry_over indexed config_version old_fields)
+unpacked_said arch place stanza indexed config_version old_fields read sound =
     let fields = fields_of stanza in
-    let native = native-read arch stanza Unpacked (value_named (codes "Architecture") stanza.fields) listed
-    (name-read (pkg_name_fault fields) (read_native arch stanza (value_named (codes "Architecture") stanza.fields)) listed read) in
-    let is = listed-read stanza (pkg_fault fields) (pkg_of arch fields) listed native.1 in
-    let spelled = listed_of stanza (pkg_of arch fields) in
-    let found = unpacked_with spelled config_version in
+    let native = native-read arch place stanza Unpacked (value_named (codes "Architecture") stanza.fields) indexed
+    (name-read (pkg_name_fault fields) (read_native arch place stanza (value_named (codes "Architecture") stanza.fields)) indexed read) in
+    let is = indexed-read place stanza (pkg_fault fields) (pkg_of arch fields) indexed native.1 in
+    let spelled = indexed_at place stanza (pkg_of arch fields) in
+    let found = unpacked_with spelled.listed config_version in
     let said : Says arch (values_of (entry_over spelled config_version old_fields).stanza.fields) found =
     subst (λ (values : Values). Says arch values found)
     (ap (written_values (status_of found).value config_version) (values-read stanza) ∙ sym (values-unpacked found config_version (map field_of stanza.fields) old_fields))
-    (says-unpacked arch stanza config_version sound is.0 native.0) in
-    subst (λ (of : Listed). ReadsBack arch (entry_over of config_version old_fields)) is.1
+    (says-unpacked arch place stanza config_version sound is.0 native.0) in
+    subst (λ (of : IndexStanza). ReadsBack arch (entry_over of config_version old_fields)) is.1
     (said_back arch (entry_over spelled config_version old_fields) said)
 
 kept-sound : (kept : Bool) (version : Option (List ℕ)) → (kept ≡ true → option_and_then first_fault version ≡ None) → option_and_then first_fault (if kept then version else None) ≡ None
@@ -248,9 +253,9 @@ kept-sound true version sound = sound refl
 kept-sound false version sound = refl
 
 pub unpacked_reads_back : UnpackedReadsBack
-unpacked_reads_back arch stanza listed read = (
-  unpacked_said arch stanza listed None [] read refl,
-  λ (entry : Entry) (back : ReadsBack arch entry). unpacked_said arch stanza listed (kept_config_version entry.found) entry.stanza.fields read
+unpacked_reads_back arch place stanza indexed read = (
+  unpacked_said arch place stanza indexed None [] read refl,
+  λ (entry : FileRecord) (back : ReadsBack arch entry). unpacked_said arch place stanza indexed (kept_config_version entry.found) entry.stanza.fields read
       (kept-sound _ (last_configured entry.found) (λ kept. last-read arch (values_of entry.stanza.fields) entry.found (there entry.found.state kept) (back_said arch entry back))),
 )
   where
@@ -260,4 +265,6 @@ unpacked_reads_back arch stanza listed read = (
     there HalfInstalled h = refl
     there Unpacked h = refl
     there HalfConfigured h = refl
+    there TriggersAwaited h = refl
+    there TriggersPending h = refl
     there Installed h = refl

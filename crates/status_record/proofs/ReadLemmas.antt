@@ -6,7 +6,7 @@ use Rattle.relation.specs.PkgFields.{field_named, fields_of}
 use Rattle.relation.specs.PkgText.{pkg_name_fault, relations_fault, relations_of}
 use Rattle.relation.specs.declared.error.PkgFault.{PkgFault}
 use Rattle.rules.specs.Database.{Record}
-use Rattle.rules.specs.Entry.{Entry}
+use Rattle.rules.specs.FileRecord.{FileRecord}
 use Rattle.rules.specs.Package.{Relations}
 use Rattle.rules.specs.State.{is_present_state}
 use Rattle.rules.specs.Step.{no_relations}
@@ -83,26 +83,26 @@ mark-read : (refused : Option PkgFault) (later : Result Mark StatusFault) (mark 
 mark-read None later mark h = (refl, h)
 mark-read (Some refused) later mark h = absurd (let e = h in cc)
 
-slot-marked : (arch : List ℕ) (seen : List (List ℕ)) (stanza : StanzaText) (read : Result Mark StatusFault) (entry : Entry)
+slot-marked : (arch : List ℕ) (seen : List (List ℕ)) (stanza : StanzaText) (read : Result Mark StatusFault) (entry : FileRecord)
     → read_marked arch seen stanza read ≡ Ok (Recorded entry)
     → (mark : Mark) × (read ≡ Ok mark) × (read_counted arch seen stanza mark (counts arch stanza mark.state) ≡ Ok (Recorded entry))
 slot-marked arch seen stanza (Err refused) entry h = absurd (let e = h in cc)
 slot-marked arch seen stanza (Ok mark) entry h = (mark, refl, h)
 
-slot-counted : (arch : List ℕ) (seen : List (List ℕ)) (stanza : StanzaText) (mark : Mark) (counted : Result Bool StatusFault) (entry : Entry)
+slot-counted : (arch : List ℕ) (seen : List (List ℕ)) (stanza : StanzaText) (mark : Mark) (counted : Result Bool StatusFault) (entry : FileRecord)
     → read_counted arch seen stanza mark counted ≡ Ok (Recorded entry) → (counted ≡ Ok true) × (read_new arch seen stanza mark ≡ Ok (Recorded entry))
 slot-counted arch seen stanza mark (Err refused) entry h = absurd (let e = h in cc)
 slot-counted arch seen stanza mark (Ok false) entry h = absurd (let e : ◌≡◌ {A = Result FileSlot StatusFault} (Ok (Foreign stanza)) (Ok (Recorded entry)) = h in cc)
 slot-counted arch seen stanza mark (Ok true) entry h = (refl, h)
 
-slot-new : (is_old : Bool) (duplicate : StatusFault) (refused : Option PkgFault) (spelled entry : Entry)
+slot-new : (is_old : Bool) (duplicate : StatusFault) (refused : Option PkgFault) (spelled entry : FileRecord)
     → (if is_old then Err duplicate else unless_fault refused (Ok (Recorded spelled))) ≡ Ok (Recorded entry)
     → (refused ≡ None) × (spelled ≡ entry)
 slot-new true duplicate refused spelled entry h = absurd (let e = h in cc)
 slot-new false duplicate None spelled entry h = (refl, let e : ◌≡◌ {A = Result FileSlot StatusFault} (Ok (Recorded spelled)) (Ok (Recorded entry)) = h in cc)
 slot-new false duplicate (Some refused) spelled entry h = absurd (let e = h in cc)
 
-new-slot : (is_old : Bool) (duplicate : StatusFault) (refused : Option PkgFault) (spelled entry : Entry)
+new-slot : (is_old : Bool) (duplicate : StatusFault) (refused : Option PkgFault) (spelled entry : FileRecord)
     → is_old ≡ false → refused ≡ None → spelled ≡ entry
     → (if is_old then Err duplicate else unless_fault refused (Ok (Recorded spelled))) ≡ Ok (Recorded entry)
 new-slot is_old duplicate refused spelled entry new sound same = rw (new, sound, same) refl
@@ -142,15 +142,15 @@ says-record arch stanza mark marked counted sound =
       essential = refl;
     }
 
-pub read_says : (arch : List ℕ) (seen : List (List ℕ)) (stanza : StanzaText) (entry : Entry) → read_slot arch seen stanza ≡ Ok (Recorded entry)
+pub read_says : (arch : List ℕ) (seen : List (List ℕ)) (stanza : StanzaText) (entry : FileRecord) → read_slot arch seen stanza ≡ Ok (Recorded entry)
     → Says arch (values_in stanza) entry.found × (read_stanza stanza ≡ entry.stanza)
 read_says arch seen stanza entry read =
     let marked = slot-marked arch seen stanza (read_mark stanza) entry read in
     let mark = marked.0 in
     let counted = slot-counted arch seen stanza mark (counts arch stanza mark.state) entry marked.2 in
     let new = slot-new (is_seen seen (name_in stanza)) (fault.DuplicatePackage (name_in stanza)) (later_fault mark.state stanza) (entry_of arch stanza mark) entry counted.1 in (
-      subst (λ (of : Entry). Says arch (values_in stanza) of.found) new.1 (says-record arch stanza mark marked.1 counted.0 new.0),
-      ap (λ (of : Entry). of.stanza) new.1,
+      subst (λ (of : FileRecord). Says arch (values_in stanza) of.found) new.1 (says-record arch stanza mark marked.1 counted.0 new.0),
+      ap (λ (of : FileRecord). of.stanza) new.1,
     )
 
 -- a stanza whose values say a record is read as it

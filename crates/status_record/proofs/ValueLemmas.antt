@@ -6,7 +6,7 @@ use Rattle.std.specs.List.{filter, flat_map}
 use Rattle.package_stanza.specs.Stanza.{field_of, is_essential}
 use Rattle.relation.specs.PkgFields.{field_named}
 use Rattle.rules.specs.Database.{Record}
-use Rattle.rules.specs.Entry.{status_of}
+use Rattle.rules.specs.FileRecord.{status_of}
 use Rattle.rules.specs.Stanza.{Field, config_fields, fields_called, fields_without, index_only, is_called, marks_essential, touched_fields, unpacked_fields, with_config_version}
 use Rattle.stanza.specs.Field.{FieldText, same_name, value_named}
 use Rattle.stanza.specs.Stanza.{StanzaText}

@@ -1,3 +1,3 @@
-pub mod Origin
+pub mod StanzaOrigin
 pub mod Written
 pub mod ReadBack

@@ -1,17 +1,17 @@
 //! What an action leaves of a record (dpkg(1)).
-ghost use Rattle.std.specs.Prelude.{◌≡◌, Some, true};
+ghost use Rattle.std.specs.Prelude.{◌≡◌, Some, false, true};
 ghost use Rattle.rules.specs.Database.{IsPresent};
-ghost use Rattle.rules.specs.Entry.{new_entry, touched_entry, unpacked_entry};
-ghost use Rattle.rules.specs.State.{is_present_state};
+ghost use Rattle.rules.specs.FileRecord.{new_entry, touched_entry, unpacked_entry};
+ghost use Rattle.rules.specs.State.{is_present_state, is_trigger_state};
 ghost use Rattle.rules.specs.Step.{configured, deconfigured, kept_config_version, last_configured, removed};
 
-use crate::record::Record;
+use crate::record::FileRecord;
 use debversion::Version;
-use index::Entry;
+use index::IndexStanza;
 use rules::{State, Want};
 use status_text::Mark;
 
-impl<'a> Record<'a> {
+impl<'a> FileRecord<'a> {
     // The version of a present record.
     fn present_version(&self) -> Version<'a>
         requires { IsPresent self.now.found }
@@ -24,9 +24,10 @@ impl<'a> Record<'a> {
     }
 
     // The record in this state, with its version as the one configured last.
-    fn settled(&self, state: State) -> Record<'a>
+    fn settled(&self, state: State) -> FileRecord<'a>
         requires present { IsPresent self.now.found }
         requires settled { is_present_state state ≡ true }
+        requires past { is_trigger_state state ≡ false }
         ensures { result ≡ touched_entry (λ old. record old { state = state; config_version = Some old.version }) self.now }
     {
         let mark = Mark {
@@ -38,7 +39,7 @@ impl<'a> Record<'a> {
     }
 
     /// The record once its package is deconfigured.
-    pub fn deconfigured(&self) -> Record<'a>
+    pub fn deconfigured(&self) -> FileRecord<'a>
         requires { IsPresent self.now.found }
         ensures { result ≡ touched_entry deconfigured self.now }
     {
@@ -46,19 +47,19 @@ impl<'a> Record<'a> {
     }
 
     /// The record once its package is configured.
-    pub fn configured(&self) -> Record<'a>
+    pub fn configured(&self) -> FileRecord<'a>
         requires { IsPresent self.now.found }
         ensures { result ≡ touched_entry configured self.now }
     {
         self.settled(State::Installed)
     }
 
-    // The version that was configured last: of an installed package its version.
+    // The version that was configured last: of an installed package, and of one in a trigger state, its version.
     fn last_configured(&self) -> Option<Version<'a>>
         requires { IsPresent self.now.found }
         ensures { result ≡ last_configured self.now.found }
     {
-        if self.is_installed() {
+        if self.state().has_configured_version() {
             return Some(self.present_version());
         }
         match self.config_version() {
@@ -68,7 +69,7 @@ impl<'a> Record<'a> {
     }
 
     /// The record once its package is removed: configuration files alone are left.
-    pub fn removed(&self) -> Record<'a>
+    pub fn removed(&self) -> FileRecord<'a>
         requires { IsPresent self.now.found }
         ensures { result ≡ touched_entry removed self.now }
     {
@@ -91,17 +92,17 @@ impl<'a> Record<'a> {
         }
     }
 
-    /// The record of a package of an index once it is unpacked, where there was none of its name.
-    pub fn unpacked(entry: &Entry<'a>) -> Record<'a>
-        ensures { result ≡ new_entry entry.now }
+    /// The record of a stanza of an index once it is unpacked, where there was none of its name.
+    pub fn unpacked(indexed: &IndexStanza<'a>) -> FileRecord<'a>
+        ensures { result ≡ new_entry indexed.now }
     {
-        Record::of_entry(entry, None, None)
+        FileRecord::of_stanza(indexed, None, None)
     }
 
-    /// The record once a package of an index is unpacked over it. It keeps the fields Conffiles of this record.
-    pub fn unpacked_over(&self, entry: &Entry<'a>) -> Record<'a>
-        ensures { result ≡ unpacked_entry entry.now self.now }
+    /// The record once a stanza of an index is unpacked over it. It keeps the fields Conffiles of this record.
+    pub fn unpacked_over(&self, indexed: &IndexStanza<'a>) -> FileRecord<'a>
+        ensures { result ≡ unpacked_entry indexed.now self.now }
     {
-        Record::of_entry(entry, self.donor(), self.kept_config_version())
+        FileRecord::of_stanza(indexed, self.donor(), self.kept_config_version())
     }
 }

@@ -1,16 +1,20 @@
 //! Where the stanza of a record comes from.
 ghost use Rattle.std.specs.Prelude.{◌≡◌};
-ghost use Rattle.status_record.specs.Origin.{donor_of, touched_origin};
+ghost use Rattle.status_record.specs.StanzaOrigin.{donor_of, touched_origin};
 
+use rules::State;
 use stanza::Stanza;
 
 /// How the fields of a record come from the stanza that it keeps.
 #[derive(Drop)]
-pub enum Origin<'a> {
+pub enum StanzaOrigin<'a> {
     /// As they were read: no action has touched the record.
     Untouched,
     /// Those of a stanza of the status file, which an action has touched.
     Touched,
+    /// Those of a stanza of the status file but for the fields of triggers, of a package with triggers left to be
+    /// processed, which an action has touched.
+    Triggered,
     /// Those of a stanza of an index, with the fields Conffiles of this stanza behind them.
     Unpacked(Option<Stanza<'a>>),
 }
@@ -24,25 +28,28 @@ fn stanza_again<'a>(stanza: &Option<Stanza<'a>>) -> Option<Stanza<'a>>
     }
 }
 
-impl<'a> Origin<'a> {
+impl<'a> StanzaOrigin<'a> {
     /// The same origin once more.
-    pub fn again(&self) -> Origin<'a>
+    pub fn again(&self) -> StanzaOrigin<'a>
         ensures { result ≡ self.now }
     {
         match self {
-            Origin::Untouched => Origin::Untouched,
-            Origin::Touched => Origin::Touched,
-            Origin::Unpacked(donor) => Origin::Unpacked(stanza_again(donor)),
+            StanzaOrigin::Untouched => StanzaOrigin::Untouched,
+            StanzaOrigin::Touched => StanzaOrigin::Touched,
+            StanzaOrigin::Triggered => StanzaOrigin::Triggered,
+            StanzaOrigin::Unpacked(donor) => StanzaOrigin::Unpacked(stanza_again(donor)),
         }
     }
 
-    /// The origin once an action has touched the record.
-    pub fn touched(&self) -> Origin<'a>
-        ensures { result ≡ touched_origin self.now }
+    /// The origin once an action has touched the record, which was in this state.
+    pub fn touched(&self, state: State) -> StanzaOrigin<'a>
+        ensures { result ≡ touched_origin state self.now }
     {
         match self {
-            Origin::Untouched | Origin::Touched => Origin::Touched,
-            Origin::Unpacked(donor) => Origin::Unpacked(stanza_again(donor)),
+            StanzaOrigin::Untouched if state.is_trigger_state() => StanzaOrigin::Triggered,
+            StanzaOrigin::Untouched | StanzaOrigin::Touched => StanzaOrigin::Touched,
+            StanzaOrigin::Triggered => StanzaOrigin::Triggered,
+            StanzaOrigin::Unpacked(donor) => StanzaOrigin::Unpacked(stanza_again(donor)),
         }
     }
 
@@ -51,8 +58,10 @@ impl<'a> Origin<'a> {
         ensures { result ≡ donor_of self.now stanza.now }
     {
         match self {
-            Origin::Untouched | Origin::Touched => Some(stanza.again()),
-            Origin::Unpacked(donor) => stanza_again(donor),
+            StanzaOrigin::Untouched | StanzaOrigin::Touched | StanzaOrigin::Triggered => Some(
+                stanza.again(),
+            ),
+            StanzaOrigin::Unpacked(donor) => stanza_again(donor),
         }
     }
 }

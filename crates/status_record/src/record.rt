@@ -1,17 +1,17 @@
 //! A record of the database with the stanza that it comes from.
 ghost use Rattle.std.specs.Prelude.{◌≡◌, [], codes, false, is_some, true, unwrap_or, IfOk, IsTrue};
 ghost use Rattle.rules.specs.Database.{IsPresent, pkg_of, stands};
-ghost use Rattle.rules.specs.Entry.{touched_entry, unpacked_stanza};
+ghost use Rattle.rules.specs.FileRecord.{touched_entry, unpacked_stanza};
 ghost use Rattle.rules.specs.Name.{is_name};
 ghost use Rattle.rules.specs.Stanza.{fields_called};
 ghost use Rattle.rules.specs.Step.{no_relations, unpacked_with};
-ghost use Rattle.rules.specs.State.{is_hold, is_installed_state, is_present_state};
-ghost use Rattle.status_record.specs.Origin.{entry_by, fields_in, record_after};
+ghost use Rattle.rules.specs.State.{is_hold, is_installed_state, is_present_state, is_trigger_state};
+ghost use Rattle.status_record.specs.StanzaOrigin.{entry_by, fields_in, record_after};
 ghost use Rattle.status_text.specs.Kept.{IsKept, kept_record};
 
-use crate::origin::Origin;
+use crate::origin::StanzaOrigin;
 use debversion::Version;
-use index::Entry;
+use index::IndexStanza;
 use relation::{Pkg, PkgError};
 use rules::{Flag, State, Want};
 use stanza::Stanza;
@@ -22,10 +22,10 @@ use std::marker::Model;
 /// What the database knows of a name, with its stanza. It borrows the texts; its relations are read anew by each call
 /// of `pkg`.
 #[derive(Drop)]
-pub struct Record<'a> {
+pub struct FileRecord<'a> {
     arch: &'a [u8],
     pub(crate) stanza: Stanza<'a>,
-    pub(crate) origin: Origin<'a>,
+    pub(crate) origin: StanzaOrigin<'a>,
     name: &'a [u8],
     pub(crate) mark: Mark,
     version: Option<Version<'a>>,
@@ -33,18 +33,19 @@ pub struct Record<'a> {
     is_essential: bool,
 }
 
-impl<'a> Model for Record<'a> {
-    ghost use Rattle.rules.specs.Entry.{Entry};
-    ghost use Rattle.status_record.specs.Origin.{entry_by};
+impl<'a> Model for FileRecord<'a> {
+    ghost use Rattle.rules.specs.FileRecord.{FileRecord as FileRecordValue};
+    ghost use Rattle.status_record.specs.StanzaOrigin.{IsPastTriggers, entry_by};
     ghost use Rattle.status_text.specs.Kept.{IsKept, kept_record};
 
-    ghost Value = { Entry };
+    ghost Value = { FileRecordValue };
 
     ghost view = { λ r. entry_by r.origin r.stanza
         (kept_record r.arch.now r.stanza r.name.now r.mark r.version r.config_version r.is_essential) };
 
     ghost invariant = { λ r. IsKept r.arch.now r.stanza
-        (kept_record r.arch.now r.stanza r.name.now r.mark r.version r.config_version r.is_essential) };
+        (kept_record r.arch.now r.stanza r.name.now r.mark r.version r.config_version r.is_essential)
+        × IsPastTriggers r.origin r.mark.state };
 }
 
 pub(crate) fn version_again<'a>(version: &Option<Version<'a>>) -> Option<Version<'a>>
@@ -56,16 +57,16 @@ pub(crate) fn version_again<'a>(version: &Option<Version<'a>>) -> Option<Version
     }
 }
 
-impl<'a> Record<'a> {
+impl<'a> FileRecord<'a> {
     /// The record as it was read: no action has touched its stanza.
-    pub fn read(found: StatusRecord<'a>) -> Record<'a>
+    pub fn read(found: StatusRecord<'a>) -> FileRecord<'a>
         ensures { result ≡ found.entry }
     {
         let (stanza, arch) = found.origin();
-        Record {
+        FileRecord {
             arch,
             stanza: stanza.again(),
-            origin: Origin::Untouched,
+            origin: StanzaOrigin::Untouched,
             name: found.name(),
             mark: Mark {
                 want: found.want(),
@@ -79,10 +80,10 @@ impl<'a> Record<'a> {
     }
 
     /// The same record once more.
-    pub fn again(&self) -> Record<'a>
+    pub fn again(&self) -> FileRecord<'a>
         ensures { result ≡ self.now }
     {
-        Record {
+        FileRecord {
             arch: self.arch,
             stanza: self.stanza.again(),
             origin: self.origin.again(),
@@ -95,14 +96,15 @@ impl<'a> Record<'a> {
     }
 
     // The record with these words and this config version, once an action has touched it.
-    pub(crate) fn touched(&self, mark: Mark, config_version: Option<Version<'a>>) -> Record<'a>
-        requires { is_present_state mark.state ≡ true → IsPresent self.now.found }
+    pub(crate) fn touched(&self, mark: Mark, config_version: Option<Version<'a>>) -> FileRecord<'a>
+        requires present { is_present_state mark.state ≡ true → IsPresent self.now.found }
+        requires past { is_trigger_state mark.state ≡ false }
         ensures { result ≡ touched_entry (record_after mark config_version.entry) self.now }
     {
-        Record {
+        FileRecord {
             arch: self.arch,
             stanza: self.stanza.again(),
-            origin: self.origin.touched(),
+            origin: self.origin.touched(self.mark.state),
             name: self.name,
             mark,
             version: version_again(&self.version),
@@ -118,29 +120,29 @@ impl<'a> Record<'a> {
         self.origin.donor(&self.stanza)
     }
 
-    // The record of a package of an index, with the fields Conffiles of this stanza and this config version.
-    pub(crate) fn of_entry(
-        entry: &Entry<'a>,
+    // The record of a stanza of an index, with the fields Conffiles of the other stanza and this config version.
+    pub(crate) fn of_stanza(
+        indexed: &IndexStanza<'a>,
         donor: Option<Stanza<'a>>,
         config_version: Option<Version<'a>>,
-    ) -> Record<'a>
-        ensures found { result.found ≡ unpacked_with entry.now config_version.entry }
-        ensures stanza { result.stanza ≡ unpacked_stanza result.found entry.now.stanza.fields (fields_in donor.entry) }
+    ) -> FileRecord<'a>
+        ensures found { result.found ≡ unpacked_with indexed.now.listed config_version.entry }
+        ensures stanza { result.stanza ≡ unpacked_stanza result.found indexed.now.fields (fields_in donor.entry) }
     {
-        let (stanza, arch) = entry.origin();
-        Record {
+        let (stanza, arch) = indexed.origin();
+        FileRecord {
             arch,
             stanza: stanza.again(),
-            origin: Origin::Unpacked(donor),
-            name: entry.name(),
+            origin: StanzaOrigin::Unpacked(donor),
+            name: indexed.name(),
             mark: Mark {
                 want: Want::Install,
-                flag: Flag::Sound,
+                flag: Flag::Ok,
                 state: State::Unpacked,
             },
-            version: Some(entry.version().again()),
+            version: Some(indexed.version().again()),
             config_version,
-            is_essential: entry.is_essential(),
+            is_essential: indexed.is_essential(),
         }
     }
 

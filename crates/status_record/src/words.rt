@@ -22,7 +22,7 @@ pub fn flag_word(flag: Flag) -> &'static [u8]
     ensures { result.now ≡ Spec.flag_word flag }
 {
     match flag {
-        Flag::Sound => b"ok",
+        Flag::Ok => b"ok",
         Flag::ReinstallRequired => b"reinstreq",
     }
 }
@@ -37,6 +37,8 @@ pub fn state_word(state: State) -> &'static [u8]
         State::HalfInstalled => b"half-installed",
         State::Unpacked => b"unpacked",
         State::HalfConfigured => b"half-configured",
+        State::TriggersAwaited => b"triggers-awaited",
+        State::TriggersPending => b"triggers-pending",
         State::Installed => b"installed",
     }
 }

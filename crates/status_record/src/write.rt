@@ -2,15 +2,15 @@
 ghost use Rattle.std.specs.Prelude.{◌≡◌, ◌++◌, OnErr, OnOk, codes, length, take};
 ghost use Rattle.std.specs.List.{filter};
 ghost use Rattle.package_stanza.specs.Stanza.{field_of};
-ghost use Rattle.rules.specs.Entry.{written_config_version};
+ghost use Rattle.rules.specs.FileRecord.{written_config_version};
 ghost use Rattle.rules.specs.Stanza.{config_fields, fields_called, status_field, unpacked_fields, with_config_version};
-ghost use Rattle.status_record.specs.Origin.{fields_in, fields_of};
+ghost use Rattle.status_record.specs.StanzaOrigin.{fields_in, fields_of};
 ghost use Rattle.status_record.specs.Written.{rest_of, written_fields};
 ghost use Rattle.status_spelling.specs.Spelling.{field_text, fields_text, stanza_text};
 
-use crate::fields::{is_called, is_written_on};
-use crate::origin::Origin;
-use crate::record::{Record, version_again};
+use crate::fields::{LeftOut, is_called, is_written_on};
+use crate::origin::StanzaOrigin;
+use crate::record::{FileRecord, version_again};
 use crate::words::{flag_word, state_word, want_word};
 use debversion::Version;
 use rules::State;
@@ -86,14 +86,14 @@ fn push_with(
 fn push_rest(
     out: &mut Vec<u8>,
     stanza: &Stanza<'_>,
-    of_index: bool,
+    left_out: LeftOut,
     config_version: &Option<Version<'_>>,
 ) -> Result<(), AllocError>
-    ensures written { OnOk result (out.new.items ≡ out.old.items ++ fields_text (rest_of of_index config_version.now (fields_of stanza.now))) }
+    ensures written { OnOk result (out.new.items ≡ out.old.items ++ fields_text (rest_of left_out config_version.now (fields_of stanza.now))) }
     ensures behind { take (length out.old.items) out.new.items ≡ out.old.items }
 {
     for field in stanza.fields() {
-        if is_written_on(of_index, &field) {
+        if is_written_on(left_out, &field) {
             push_with(out, &field, config_version)?;
         }
     }
@@ -104,17 +104,17 @@ fn push_rest(
 fn push_fields(
     out: &mut Vec<u8>,
     stanza: &Stanza<'_>,
-    of_index: bool,
+    left_out: LeftOut,
     mark: Mark,
     config_version: &Option<Version<'_>>,
 ) -> Result<(), AllocError>
     ensures written { OnOk result (out.new.items ≡ out.old.items
-        ++ fields_text (written_fields of_index (status_field mark.want mark.flag mark.state) config_version.now (fields_of stanza.now))) }
+        ++ fields_text (written_fields left_out (status_field mark.want mark.flag mark.state) config_version.now (fields_of stanza.now))) }
     ensures behind { take (length out.old.items) out.new.items ≡ out.old.items }
 {
     push_called(out, b"Package", stanza)?;
     push_status(out, mark)?;
-    push_rest(out, stanza, of_index, config_version)
+    push_rest(out, stanza, left_out, config_version)
 }
 
 // The fields Conffiles of a stanza, if there is one.
@@ -140,17 +140,20 @@ fn push_unpacked(
         ++ fields_text (unpacked_fields (status_field mark.want mark.flag mark.state) config_version.now (fields_of stanza.now) (fields_in donor.now))) }
     ensures behind { take (length out.old.items) out.new.items ≡ out.old.items }
 {
-    push_fields(out, stanza, true, mark, config_version)?;
+    push_fields(out, stanza, LeftOut::OfIndex, mark, config_version)?;
     push_conffiles(out, donor)
 }
 
-impl<'a> Record<'a> {
+impl<'a> FileRecord<'a> {
     // The config version that the stanza says.
     fn written_config_version(&self) -> Option<Version<'a>>
         ensures { result ≡ written_config_version self.now.found.state self.now.found.config_version }
     {
         match self.state() {
-            State::NotInstalled | State::Installed => None,
+            State::NotInstalled
+            | State::TriggersAwaited
+            | State::TriggersPending
+            | State::Installed => None,
             State::ConfigFiles | State::HalfInstalled | State::Unpacked | State::HalfConfigured => {
                 version_again(self.config_version())
             }
@@ -164,9 +167,22 @@ impl<'a> Record<'a> {
     {
         let config_version = self.written_config_version();
         match &self.origin {
-            Origin::Untouched => write_bytes(out, self.stanza.raw()),
-            Origin::Touched => push_fields(out, &self.stanza, false, self.mark, &config_version),
-            Origin::Unpacked(donor) => {
+            StanzaOrigin::Untouched => write_bytes(out, self.stanza.raw()),
+            StanzaOrigin::Touched => push_fields(
+                out,
+                &self.stanza,
+                LeftOut::Nothing,
+                self.mark,
+                &config_version,
+            ),
+            StanzaOrigin::Triggered => push_fields(
+                out,
+                &self.stanza,
+                LeftOut::OfTriggers,
+                self.mark,
+                &config_version,
+            ),
+            StanzaOrigin::Unpacked(donor) => {
                 push_unpacked(out, &self.stanza, donor, self.mark, &config_version)
             }
         }

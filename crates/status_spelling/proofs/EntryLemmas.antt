@@ -4,18 +4,18 @@ use Rattle.std.specs.Prelude.{IfSome}
 use Rattle.std.proofs.lemmas.Bool.{cond_both}
 use Rattle.std.specs.List.{list_any, AllByRecursion}
 use Rattle.rules.specs.Database.{Record}
-use Rattle.rules.specs.Entry.{Entry, status_of, written_config_version, touched_stanza, unpacked_stanza, touched_entry, unpacked_entry, new_entry, records_of, changed_entries, entries_after_unpack, entries_after}
-use Rattle.rules.specs.Stanza.{Field, Stanza, config_fields}
-use Rattle.rules.specs.State.{is_unconfigured_state, is_installed_state}
-use Rattle.rules.specs.Step.{Listed, is_named, is_among, deconfigured, configured, removed, last_configured, kept_config_version}
+use Rattle.rules.specs.FileRecord.{FileRecord, IndexStanza, status_of, written_config_version, touched_stanza, unpacked_stanza, touched_entry, unpacked_entry, new_entry, records_of, changed_entries, entries_after_unpack, entries_after}
+use Rattle.rules.specs.Stanza.{Field, Stanza, config_fields, lasting_fields}
+use Rattle.rules.specs.State.{has_configured_version, is_unconfigured_state, is_installed_state}
+use Rattle.rules.specs.Step.{is_named, is_among, deconfigured, configured, removed, last_configured, kept_config_version}
 use Rattle.rules.specs.declared.step.Step.{Step}
 use Rattle.rules.specs.declared.step.Step.TheVariants as step
 use Rattle.status_spelling.specs.Writable.{IsWritable, AreWritable}
 use Rattle.status_spelling.specs.ReadBack.{WasTouched, IsWritableStanza}
-use Rattle.status_spelling.specs.Touched.{IsWritableVersion, AreNoneOrWritable, IsWritableEntry, IsWritableListed}
+use Rattle.status_spelling.specs.Touched.{IsWritableVersion, AreNoneOrWritable, IsWritableEntry, IsWritableIndexed}
 use Rattle.status_spelling.proofs.FoundLemmas.{AreWritable-found}
 use Rattle.status_spelling.proofs.StatusLemmas.{status-writable, config-writable}
-use Rattle.status_spelling.proofs.TouchedLemmas.{CanStand-writable, CanStand-none, touched-writable, unpacked-writable}
+use Rattle.status_spelling.proofs.TouchedLemmas.{CanStand, CanStand-lasting, CanStand-writable, CanStand-none, touched-writable, unpacked-writable}
 use Rattle.status_spelling.proofs.DistinctLemmas.{all-filter, all-append}
 
 -- ---- stanzas
@@ -24,12 +24,15 @@ config-field : (version : Option (List ℕ)) → IfSome version IsWritableVersio
 config-field None can = tt
 config-field (Some version) can = (can, tt)
 
-pub touched-stanza : (found : Record) (fields : List Field) → AreWritable fields → IfSome found.config_version IsWritableVersion → WasTouched (touched_stanza found fields)
-touched-stanza found fields can config = (
+standing-stanza : (found : Record) (fields : List Field) → CanStand fields → IfSome found.config_version IsWritableVersion → WasTouched (touched_stanza found fields)
+standing-stanza found fields can config = (
   refl,
   touched-writable (status_of found) (written_config_version found.state found.config_version) fields refl
-      (status-writable found.want found.flag found.state) (config-writable found.state found.config_version (config-field found.config_version config)) (CanStand-writable fields can),
+      (status-writable found.want found.flag found.state) (config-writable found.state found.config_version (config-field found.config_version config)) can,
 )
+
+pub touched-stanza : (found : Record) (fields : List Field) → AreWritable fields → IfSome found.config_version IsWritableVersion → WasTouched (touched_stanza found fields)
+touched-stanza found fields can config = standing-stanza found fields (CanStand-writable fields can) config
 
 pub unpacked-stanza : (found : Record) (index_fields old_fields : List Field) → AreWritable index_fields → AreNoneOrWritable old_fields → IfSome found.config_version IsWritableVersion → WasTouched (unpacked_stanza found index_fields old_fields)
 unpacked-stanza found index_fields old_fields can old config = (
@@ -48,59 +51,60 @@ fields-writable stanza can = elim can [
 -- ---- entries
 
 -- the version that was configured last can be written
-last-writable : (entry : Entry) → IsWritableEntry entry → IfSome (last_configured entry.found) IsWritableVersion
+last-writable : (entry : FileRecord) → IsWritableEntry entry → IfSome (last_configured entry.found) IsWritableVersion
 last-writable entry can =
-    cond_both (is_installed_state entry.found.state) (Some entry.found.version) entry.found.config_version (λ version. IfSome version IsWritableVersion)
+    cond_both (has_configured_version entry.found.state) (Some entry.found.version) entry.found.config_version (λ version. IfSome version IsWritableVersion)
     (λ _. can.version) (λ _. can.config_version)
 
-kept-writable : (entry : Entry) → IsWritableEntry entry → IfSome (kept_config_version entry.found) IsWritableVersion
+kept-writable : (entry : FileRecord) → IsWritableEntry entry → IfSome (kept_config_version entry.found) IsWritableVersion
 kept-writable entry can =
     cond_both (is_unconfigured_state entry.found.state || is_installed_state entry.found.state) (last_configured entry.found) None (λ version. IfSome version IsWritableVersion)
     (λ _. last-writable entry can) (λ _. tt)
 
-touched-entry : (change : Record → Record) (entry : Entry) → IsWritableEntry entry → IsWritableVersion (change entry.found).version → IfSome (change entry.found).config_version IsWritableVersion → IsWritableEntry (touched_entry change entry)
+touched-entry : (change : Record → Record) (entry : FileRecord) → IsWritableEntry entry → IsWritableVersion (change entry.found).version → IfSome (change entry.found).config_version IsWritableVersion → IsWritableEntry (touched_entry change entry)
 touched-entry change entry can version config = record {
-  stanza = inr (touched-stanza (change entry.found) entry.stanza.fields (fields-writable entry.stanza can.stanza) config);
+  stanza = inr (standing-stanza (change entry.found) (lasting_fields entry.found.state entry.stanza.fields)
+      (CanStand-lasting entry.found.state entry.stanza.fields (CanStand-writable entry.stanza.fields (fields-writable entry.stanza can.stanza))) config);
   version = version;
   config_version = config;
 }
 
-unpacked-entry : (listed : Listed) (entry : Entry) → IsWritableListed listed → IsWritableEntry entry → IsWritableEntry (unpacked_entry listed entry)
-unpacked-entry listed entry is can = record {
-  stanza = inr (unpacked-stanza (unpacked_entry listed entry).found listed.stanza.fields entry.stanza.fields is.fields (inr (fields-writable entry.stanza can.stanza)) (kept-writable entry can));
+unpacked-entry : (indexed : IndexStanza) (entry : FileRecord) → IsWritableIndexed indexed → IsWritableEntry entry → IsWritableEntry (unpacked_entry indexed entry)
+unpacked-entry indexed entry is can = record {
+  stanza = inr (unpacked-stanza (unpacked_entry indexed entry).found indexed.fields entry.stanza.fields is.fields (inr (fields-writable entry.stanza can.stanza)) (kept-writable entry can));
   version = is.version;
   config_version = kept-writable entry can;
 }
 
-new-entry : (listed : Listed) → IsWritableListed listed → IsWritableEntry (new_entry listed)
-new-entry listed is = record {
-  stanza = inr (unpacked-stanza (new_entry listed).found listed.stanza.fields [] is.fields (inl refl) tt);
+new-entry : (indexed : IndexStanza) → IsWritableIndexed indexed → IsWritableEntry (new_entry indexed)
+new-entry indexed is = record {
+  stanza = inr (unpacked-stanza (new_entry indexed).found indexed.fields [] is.fields (inl refl) tt);
   version = is.version;
   config_version = tt;
 }
 
 -- entries of which some are changed
-all-changed : (test : Record → Bool) (change : Entry → Entry) (entries : List Entry) → ((entry : Entry) → IsWritableEntry entry → IsWritableEntry (change entry)) → AllByRecursion IsWritableEntry entries → AllByRecursion IsWritableEntry (changed_entries test change entries)
+all-changed : (test : Record → Bool) (change : FileRecord → FileRecord) (entries : List FileRecord) → ((entry : FileRecord) → IsWritableEntry entry → IsWritableEntry (change entry)) → AllByRecursion IsWritableEntry entries → AllByRecursion IsWritableEntry (changed_entries test change entries)
 all-changed test change [] keeps all = tt
 all-changed test change (entry ∷ entries) keeps all =
     (cond_both (test entry.found) (change entry) entry IsWritableEntry (λ _. keeps entry all.0) (λ _. all.0), all-changed test change entries keeps all.1)
 
-after-unpack : (listed : Listed) (entries : List Entry) → IsWritableListed listed → AllByRecursion IsWritableEntry entries → AllByRecursion IsWritableEntry (entries_after_unpack listed entries)
-after-unpack listed entries is all =
-    cond_both (list_any (is_named listed.pkg.name) (records_of entries))
-    (changed_entries (is_named listed.pkg.name) (unpacked_entry listed) entries) (entries ++ new_entry listed ∷ [])
+after-unpack : (indexed : IndexStanza) (entries : List FileRecord) → IsWritableIndexed indexed → AllByRecursion IsWritableEntry entries → AllByRecursion IsWritableEntry (entries_after_unpack indexed entries)
+after-unpack indexed entries is all =
+    cond_both (list_any (is_named indexed.listed.pkg.name) (records_of entries))
+    (changed_entries (is_named indexed.listed.pkg.name) (unpacked_entry indexed) entries) (entries ++ new_entry indexed ∷ [])
     (AllByRecursion IsWritableEntry)
-    (λ _. all-changed (is_named listed.pkg.name) (unpacked_entry listed) entries (λ entry can. unpacked-entry listed entry is can) all)
-    (λ _. all-append IsWritableEntry entries (new_entry listed ∷ []) all (new-entry listed is, tt))
+    (λ _. all-changed (is_named indexed.listed.pkg.name) (unpacked_entry indexed) entries (λ entry can. unpacked-entry indexed entry is can) all)
+    (λ _. all-append IsWritableEntry entries (new_entry indexed ∷ []) all (new-entry indexed is, tt))
 
-pub stay-writable : (listed : Option Listed) (taken : Step) (entries : List Entry) → IfSome listed IsWritableListed → AllByRecursion IsWritableEntry entries → AllByRecursion IsWritableEntry (entries_after listed taken entries)
+pub stay-writable : (indexed : Option IndexStanza) (taken : Step) (entries : List FileRecord) → IfSome indexed IsWritableIndexed → AllByRecursion IsWritableEntry entries → AllByRecursion IsWritableEntry (entries_after indexed taken entries)
 stay-writable None (step.Unpack name version) entries is all = all
-stay-writable (Some listed) (step.Unpack name version) entries is all = after-unpack listed entries is all
-stay-writable listed (step.Deconfigure name) entries is all =
+stay-writable (Some indexed) (step.Unpack name version) entries is all = after-unpack indexed entries is all
+stay-writable indexed (step.Deconfigure name) entries is all =
     all-changed (is_named name) (touched_entry deconfigured) entries (λ entry can. touched-entry deconfigured entry can can.version can.version) all
-stay-writable listed (step.Configure names) entries is all =
+stay-writable indexed (step.Configure names) entries is all =
     all-changed (is_among names) (touched_entry configured) entries (λ entry can. touched-entry configured entry can can.version can.version) all
-stay-writable listed (step.Remove name) entries is all =
+stay-writable indexed (step.Remove name) entries is all =
     all-changed (is_named name) (touched_entry removed) entries (λ entry can. touched-entry removed entry can can.version (last-writable entry can)) all
-stay-writable listed (step.Purge name) entries is all =
+stay-writable indexed (step.Purge name) entries is all =
     all-filter IsWritableEntry (λ entry. not (is_named name entry.found)) entries all

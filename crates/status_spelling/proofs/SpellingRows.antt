@@ -3,7 +3,7 @@ use Rattle.std.proofs.Common.{◌≡◌, ℕ, false, List, [], ◌∷◌, ◌++�
 use Rattle.std.specs.Prelude.{codes}
 use Rattle.std.specs.List.{list_all, flat_map}
 use Rattle.rules.specs.Stanza.{Field, Stanza, status_field, touched_fields, unpacked_fields}
-use Rattle.rules.specs.declared.status.Flag.TheVariants.{Sound}
+use Rattle.rules.specs.declared.status.Flag.TheVariants as flags
 use Rattle.rules.specs.declared.status.State.TheVariants.{ConfigFiles, Unpacked, HalfConfigured, Installed}
 use Rattle.rules.specs.declared.status.Want.TheVariants.{Install, Deinstall}
 use Rattle.stanza.specs.Line.{lines_of}
@@ -62,11 +62,11 @@ foo_fields status = unpacked_fields status None foo_in_index []
 foo_text : List ℕ → List ℕ
 foo_text status = text_of (codes "Package: foo" ∷ status ∷ codes "Version: 1.0" ∷ codes "Architecture: all" ∷ codes "Depends: bar" ∷ codes "Description: x" ∷ codes " y" ∷ [] ∷ [])
 
-foo_unpacked : file_text (touched (foo_fields (status_field Install Sound Unpacked)) ∷ []) ≡ foo_text (codes "Status: install ok unpacked")
+foo_unpacked : file_text (touched (foo_fields (status_field Install flags.Ok Unpacked)) ∷ []) ≡ foo_text (codes "Status: install ok unpacked")
 unfolding foo_in_index foo_fields foo_text
 foo_unpacked = refl
 
-foo_removed : file_text (touched (touched_fields (status_field Deinstall Sound ConfigFiles) None (foo_fields (status_field Install Sound Unpacked))) ∷ []) ≡ foo_text (codes "Status: deinstall ok config-files")
+foo_removed : file_text (touched (touched_fields (status_field Deinstall flags.Ok ConfigFiles) None (foo_fields (status_field Install flags.Ok Unpacked))) ∷ []) ≡ foo_text (codes "Status: deinstall ok config-files")
 unfolding foo_in_index foo_fields foo_text
 foo_removed = refl
 
@@ -85,11 +85,11 @@ q_fields =
     ∷ []
 
 q_deconfigured : List Field
-q_deconfigured = touched_fields (status_field Install Sound HalfConfigured) (Some (codes "1")) q_fields
+q_deconfigured = touched_fields (status_field Install flags.Ok HalfConfigured) (Some (codes "1")) q_fields
 
 q_unpacked : List Field
 q_unpacked =
-    unpacked_fields (status_field Install Sound Unpacked) (Some (codes "1"))
+    unpacked_fields (status_field Install flags.Ok Unpacked) (Some (codes "1"))
     (field (codes "Package") (codes "q") ∷ field (codes "Architecture") (codes "all") ∷ field (codes "Version") (codes "2") ∷ []) q_deconfigured
 
 z_bytes : List ℕ
@@ -108,7 +108,7 @@ q_unpacked_anew : file_text (touched q_unpacked ∷ [])
 unfolding q_fields q_deconfigured q_unpacked
 q_unpacked_anew = refl
 
-q_configured : file_text (touched (touched_fields (status_field Install Sound Installed) None q_unpacked) ∷ [])
+q_configured : file_text (touched (touched_fields (status_field Install flags.Ok Installed) None q_unpacked) ∷ [])
     ≡ text_of (codes "Package: q" ∷ codes "Status: install ok installed" ∷ codes "Architecture: all" ∷ codes "Version: 2" ∷ codes "Conffiles:" ∷ codes " /etc/q 0" ∷ [] ∷ [])
 unfolding q_fields q_deconfigured q_unpacked
 q_configured = refl
@@ -133,6 +133,6 @@ newline_at_the_end : list_all is_more (more_lines (codes "x" ++ 10 ∷ [])) ≡ 
 newline_at_the_end = refl
 
 -- the text of foo reads as one stanza, of its fields, whose bytes are that text but for the empty line
-foo_read : ReadsAs (foo_text (codes "Status: install ok unpacked")) (as_written (touched (foo_fields (status_field Install Sound Unpacked))) ∷ [])
+foo_read : ReadsAs (foo_text (codes "Status: install ok unpacked")) (as_written (touched (foo_fields (status_field Install flags.Ok Unpacked))) ∷ [])
 unfolding foo_in_index foo_fields foo_text items_of
-foo_read = (stanza_of false 1 (lines_of (fields_text (foo_fields (status_field Install Sound Unpacked)))) ∷ [], refl, refl)
+foo_read = (stanza_of false 1 (lines_of (fields_text (foo_fields (status_field Install flags.Ok Unpacked)))) ∷ [], refl, refl)

@@ -2,12 +2,12 @@
 use Rattle.std.proofs.Common.{◌≡◌, ℕ, true, false, not, List, [], ◌∷◌, ◌++◌, refl, sym, ap, ◌∙◌, append_assoc, eqb, codes, Option}
 use Rattle.std.proofs.lemmas.Bool.{and_parts, not-true}
 use Rattle.std.specs.List.{list_all, AllByRecursion}
-use Rattle.rules.specs.Entry.{written_config_version}
+use Rattle.rules.specs.FileRecord.{written_config_version}
 use Rattle.rules.specs.Stanza.{want_word, flag_word, state_word, status_field, config_fields}
 use Rattle.rules.specs.declared.status.Flag.{Flag}
-use Rattle.rules.specs.declared.status.Flag.TheVariants.{Sound, ReinstallRequired}
+use Rattle.rules.specs.declared.status.Flag.TheVariants as flags
 use Rattle.rules.specs.declared.status.State.{State}
-use Rattle.rules.specs.declared.status.State.TheVariants.{NotInstalled, ConfigFiles, HalfInstalled, Unpacked, HalfConfigured, Installed}
+use Rattle.rules.specs.declared.status.State.TheVariants.{NotInstalled, ConfigFiles, HalfInstalled, Unpacked, HalfConfigured, TriggersAwaited, TriggersPending, Installed}
 use Rattle.rules.specs.declared.status.Want.{Want}
 use Rattle.rules.specs.declared.status.Want.TheVariants.{Unknown, Install, Hold, Deinstall, Purge}
 use Rattle.stanza.specs.declared.lines.TheConstants.{NEWLINE}
@@ -48,8 +48,8 @@ want-plain Deinstall = refl
 want-plain Purge = refl
 
 flag-plain : (flag : Flag) → list_all (λ b. not (eqb b 10)) (flag_word flag) ≡ true
-flag-plain Sound = refl
-flag-plain ReinstallRequired = refl
+flag-plain flags.Ok = refl
+flag-plain flags.ReinstallRequired = refl
 
 state-plain : (state : State) → list_all (λ b. not (eqb b 10)) (state_word state) ≡ true
 state-plain NotInstalled = refl
@@ -57,6 +57,8 @@ state-plain ConfigFiles = refl
 state-plain HalfInstalled = refl
 state-plain Unpacked = refl
 state-plain HalfConfigured = refl
+state-plain TriggersAwaited = refl
+state-plain TriggersPending = refl
 state-plain Installed = refl
 
 want-front : (want : Want) (rest : List ℕ) → trim_front (want_word want ++ rest) ≡ want_word want ++ rest
@@ -77,6 +79,8 @@ state-end front ConfigFiles = word-end front (codes "config-file") 115 refl
 state-end front HalfInstalled = word-end front (codes "half-installe") 100 refl
 state-end front Unpacked = word-end front (codes "unpacke") 100 refl
 state-end front HalfConfigured = word-end front (codes "half-configure") 100 refl
+state-end front TriggersAwaited = word-end front (codes "triggers-awaite") 100 refl
+state-end front TriggersPending = word-end front (codes "triggers-pendin") 103 refl
 state-end front Installed = word-end front (codes "installe") 100 refl
 
 pub status-writable : (want : Want) (flag : Flag) (state : State) → IsWritable (status_field want flag state)
@@ -104,4 +108,6 @@ config-writable ConfigFiles version can = can
 config-writable HalfInstalled version can = can
 config-writable Unpacked version can = can
 config-writable HalfConfigured version can = can
+config-writable TriggersAwaited version can = tt
+config-writable TriggersPending version can = tt
 config-writable Installed version can = tt

@@ -1,9 +1,11 @@
 -- The fields of a touched stanza, and of an unpacked one: each can be written, and no two have the same name.
 use Rattle.std.proofs.Common.{◌≡◌, ℕ, ◌<◌, Bool, true, false, not, List, [], ◌∷◌, ◌++◌, length, refl, sym, ap, subst, ◌∙◌, arith, Option, None, Some, inl, inr, codes}
-use Rattle.std.proofs.lemmas.Bool.{false≢true, cases_Bool}
+use Rattle.std.proofs.lemmas.Bool.{false≢true, cases_Bool, cond_both}
 use Rattle.std.proofs.lemmas.List.{append-nil, length-append}
 use Rattle.std.specs.List.{filter, flat_map, AllByRecursion}
-use Rattle.rules.specs.Stanza.{Field, is_called, is_called_one_of, fields_called, fields_without, config_fields, with_config_version, touched_fields, index_only, unpacked_fields}
+use Rattle.rules.specs.Stanza.{Field, is_called, is_called_one_of, fields_called, fields_without, config_fields, with_config_version, touched_fields, trigger_fields, lasting_fields, index_only, unpacked_fields}
+use Rattle.rules.specs.State.{is_trigger_state}
+use Rattle.rules.specs.declared.status.State.{State}
 use Rattle.stanza.specs.Field.{same_name}
 use Rattle.status_spelling.specs.Writable.{IsWritable, AreWritable}
 use Rattle.status_spelling.specs.Touched.{AreNoneOrWritable}
@@ -28,6 +30,11 @@ AreWritable-standing fields some can = record { some = some; each = can.each; na
 
 pub CanStand-filter : (test : Field → Bool) (fields : List Field) → CanStand fields → CanStand (filter test fields)
 CanStand-filter test fields can = record { each = all-filter IsWritable test fields can.each; names = distinct-filter test fields can.names }
+
+-- so are those that outlast an action
+pub CanStand-lasting : (state : State) (fields : List Field) → CanStand fields → CanStand (lasting_fields state fields)
+CanStand-lasting state fields can = cond_both (is_trigger_state state) (fields_without trigger_fields fields) fields CanStand
+    (λ _. CanStand-filter (λ field. not (is_called_one_of trigger_fields field)) fields can) (λ _. can)
 
 -- the field has another name than this
 abbrev pub IsNot : List ℕ → Field → Type 0

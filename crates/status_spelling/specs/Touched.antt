@@ -2,9 +2,8 @@
 use Rattle.std.specs.Prelude.{◌≡◌, ℕ, ◌⊎◌, List, [], Option, None, IfSome, codes}
 use Rattle.std.specs.List.{AllByRecursion}
 use Rattle.rules.specs.Database.{Record}
-use Rattle.rules.specs.Entry.{Entry, touched_stanza, unpacked_stanza, entries_after}
+use Rattle.rules.specs.FileRecord.{FileRecord, IndexStanza, touched_stanza, unpacked_stanza, entries_after}
 use Rattle.rules.specs.Stanza.{Field}
-use Rattle.rules.specs.Step.{Listed}
 use Rattle.rules.specs.VersionFault.{first_fault}
 use Rattle.rules.specs.declared.step.Step.{Step}
 use Rattle.status_spelling.specs.Writable.{IsWritable, AreWritable}
@@ -34,18 +33,18 @@ UnpackedIsWritable = (found : Record) (index_fields old_fields : List Field)
     → WasTouched (unpacked_stanza found index_fields old_fields)
 
 -- an entry that can be written: its stanza, its version, and its config version if there is one
-pub record IsWritableEntry (entry : Entry) : Type 0 where
+pub record IsWritableEntry (entry : FileRecord) : Type 0 where
   pub stanza : IsWritableStanza entry.stanza
   pub version : IsWritableVersion entry.found.version
   pub config_version : IfSome entry.found.config_version IsWritableVersion
 
 -- a stanza of an index whose fields and version can be written
-pub record IsWritableListed (listed : Listed) : Type 0 where
-  pub fields : AreWritable listed.stanza.fields
-  pub version : IsWritableVersion listed.pkg.version
+pub record IsWritableIndexed (indexed : IndexStanza) : Type 0 where
+  pub fields : AreWritable indexed.fields
+  pub version : IsWritableVersion indexed.listed.pkg.version
 
 -- after every action each entry can be written
 abbrev pub EntriesStayWritable : Type 0
-EntriesStayWritable = (listed : Option Listed) (taken : Step) (entries : List Entry)
-    → IfSome listed IsWritableListed → AllByRecursion IsWritableEntry entries
-    → AllByRecursion IsWritableEntry (entries_after listed taken entries)
+EntriesStayWritable = (indexed : Option IndexStanza) (taken : Step) (entries : List FileRecord)
+    → IfSome indexed IsWritableIndexed → AllByRecursion IsWritableEntry entries
+    → AllByRecursion IsWritableEntry (entries_after indexed taken entries)

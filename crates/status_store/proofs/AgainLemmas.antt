@@ -5,7 +5,7 @@ use Rattle.std.proofs.lemmas.List.Folds.{list_any-append}
 use Rattle.std.specs.List.{AllByRecursion}
 use Rattle.std.specs.Option.{option_map_or}
 use Rattle.package_stanza.specs.Stanza.{read_stanza}
-use Rattle.rules.specs.Entry.{Entry}
+use Rattle.rules.specs.FileRecord.{FileRecord}
 use Rattle.rules.specs.Stanza.{Field, Stanza}
 use Rattle.rules.specs.declared.limits.TheConstants.{TEXT_BYTES}
 use Rattle.stanza.specs.Stanza.{StanzaText, items_of}
@@ -66,7 +66,7 @@ slots-again arch seen (Recorded entry ∷ slots) (stanza ∷ stanzas) each disti
     let first : read_stanza stanza ≡ as_written entry.stanza = let e = same in cc in
     let rest : map read_stanza stanzas ≡ map as_written (map stanza_of slots) = let e = same in cc in
     let name = entry.found.name in
-    let read : Entry = record { found = entry.found; stanza = read_stanza stanza } in
+    let read : FileRecord = record { found = entry.found; stanza = read_stanza stanza } in
     let ok = each.0.1 stanza seen (ap (λ (s : Stanza). s.fields) first) (first-unseen seen name (names_of slots) distinct) in
     let later = slots-again arch (seen ++ name ∷ []) slots stanzas each.1 (subst AreDistinct (sym (append_assoc seen (name ∷ []) (names_of slots))) distinct) rest in
     record {

@@ -5,11 +5,11 @@ use Rattle.std.specs.List.{AllByRecursion}
 use Rattle.std.specs.Option.{option_and_then}
 use Rattle.package_stanza.specs.Stanza.{read_stanza}
 use Rattle.rules.specs.ElementLaws.{Contains-head, Contains-rest}
-use Rattle.rules.specs.Entry.{Entry}
+use Rattle.rules.specs.FileRecord.{FileRecord}
 use Rattle.rules.specs.VersionFault.{first_fault}
 use Rattle.rules.specs.declared.limits.TheConstants.{TEXT_BYTES}
 use Rattle.rules.specs.declared.status.State.{State}
-use Rattle.rules.specs.declared.status.State.TheVariants.{NotInstalled, ConfigFiles, HalfInstalled, Unpacked, HalfConfigured, Installed}
+use Rattle.rules.specs.declared.status.State.TheVariants.{NotInstalled, ConfigFiles, HalfInstalled, Unpacked, HalfConfigured, TriggersAwaited, TriggersPending, Installed}
 use Rattle.stanza.specs.Stanza.{StanzaText, items_of}
 use Rattle.stanza.specs.declared.error.StanzaError.{StanzaError}
 use Rattle.status_record.proofs.ReadLemmas.{read_says}
@@ -44,10 +44,12 @@ config-sound ConfigFiles version config_version v c = c
 config-sound HalfInstalled version config_version v c = c
 config-sound Unpacked version config_version v c = c
 config-sound HalfConfigured version config_version v c = c
+config-sound TriggersAwaited version config_version v c = v
+config-sound TriggersPending version config_version v c = v
 config-sound Installed version config_version v c = v
 
 -- the slot of a stanza that was read
-entry-faithful : (arch : List ℕ) (seen : List (List ℕ)) (stanza : StanzaText) (entry : Entry) → WasRead (read_stanza stanza)
+entry-faithful : (arch : List ℕ) (seen : List (List ℕ)) (stanza : StanzaText) (entry : FileRecord) → WasRead (read_stanza stanza)
     → read_slot arch seen stanza ≡ Ok (Recorded entry) → IsWritableEntry entry
 entry-faithful arch seen stanza entry was read =
     let parts = read_says arch seen stanza entry read in

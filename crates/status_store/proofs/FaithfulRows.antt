@@ -4,10 +4,10 @@ use Rattle.std.proofs.Common.{◌≡◌, ℕ, false, List, [], ◌∷◌, ◌++�
 use Rattle.std.specs.Prelude.{codes}
 use Rattle.std.specs.List.{flat_map}
 use Rattle.package_stanza.specs.Stanza.{read_stanza}
-use Rattle.rules.specs.Entry.{Entry}
+use Rattle.rules.specs.FileRecord.{FileRecord}
 use Rattle.rules.specs.Step.{no_relations}
 use Rattle.rules.specs.declared.status.Flag.{Flag}
-use Rattle.rules.specs.declared.status.Flag.TheVariants.{Sound, ReinstallRequired}
+use Rattle.rules.specs.declared.status.Flag.TheVariants as flags
 use Rattle.rules.specs.declared.status.State.TheVariants.{ConfigFiles}
 use Rattle.rules.specs.declared.status.Want.TheVariants.{Purge}
 use Rattle.stanza.specs.Stanza.{StanzaText, items_of}
@@ -75,13 +75,13 @@ b_stanza = record {
       ∷ [];
 }
 
-abbrev b_entry : Entry
+abbrev b_entry : FileRecord
 b_entry = record {
   found = record {
     name = codes "b";
     state = ConfigFiles;
     want = Purge;
-    flag = ReinstallRequired;
+    flag = flags.ReinstallRequired;
     version = [];
     config_version = None;
     relations = no_relations;
@@ -92,10 +92,10 @@ b_entry = record {
 
 -- the flag of the record of a slot, if one was read
 abbrev flag_in : Result FileSlot StatusFault → Flag
-flag_in (Err refused) = Sound
-flag_in (Ok (Foreign stanza)) = Sound
+flag_in (Err refused) = flags.Ok
+flag_in (Ok (Foreign stanza)) = flags.Ok
 flag_in (Ok (Recorded entry)) = entry.found.flag
 
 b_is_not_said : ReadsBack (codes "amd64") b_entry → ⊥
 unfolding read_words
-b_is_not_said back = let same : ◌≡◌ {A = Flag} Sound ReinstallRequired = ap flag_in (back b_stanza [] refl refl) in cc
+b_is_not_said back = let same : ◌≡◌ {A = Flag} flags.Ok flags.ReinstallRequired = ap flag_in (back b_stanza [] refl refl) in cc

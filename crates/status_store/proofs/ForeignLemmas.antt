@@ -4,7 +4,7 @@ use Rattle.package_stanza.specs.Stanza.{counts_for}
 use Rattle.relation.specs.PkgFields.{field_named, fields_of}
 use Rattle.relation.specs.PkgText.{name_fault_in, pkg_name_fault, value_in}
 use Rattle.relation.specs.declared.error.PkgFault.{PkgFault}
-use Rattle.rules.specs.Entry.{Entry}
+use Rattle.rules.specs.FileRecord.{FileRecord}
 use Rattle.rules.specs.State.{is_not_installed_state, is_present_state}
 use Rattle.rules.specs.declared.status.State.{State}
 use Rattle.stanza.specs.Field.{FieldText, value_named}
@@ -55,7 +55,7 @@ slot-marked : (arch : List ℕ) (seen : List (List ℕ)) (stanza other : StanzaT
 slot-marked arch seen stanza other (Err refused) h = absurd (let e = h in cc)
 slot-marked arch seen stanza other (Ok mark) h = (mark, refl, h)
 
-never-new : (is_old : Bool) (duplicate : StatusFault) (refused : Option PkgFault) (entry : Entry) (other : StanzaText)
+never-new : (is_old : Bool) (duplicate : StatusFault) (refused : Option PkgFault) (entry : FileRecord) (other : StanzaText)
     → (if is_old then Err duplicate else unless_fault refused (Ok (Recorded entry))) ≡ Ok (Foreign other) → ⊥
 never-new true duplicate refused entry other h = let e = h in cc
 never-new false duplicate None entry other h = let e : ◌≡◌ {A = Result FileSlot StatusFault} (Ok (Recorded entry)) (Ok (Foreign other)) = h in cc

@@ -3,13 +3,13 @@ use Rattle.std.proofs.Common.{◌≡◌, ℕ, Bool, true, false, cond, ◌||◌,
 use Rattle.std.specs.Ordering.{is_eq}
 use Rattle.std.specs.Prelude.{Result, Ok, Err, OnErr}
 use Rattle.rules.specs.Database.{Record}
-use Rattle.rules.specs.Entry.{Entry}
+use Rattle.rules.specs.FileRecord.{FileRecord, IndexStanza}
 use Rattle.rules.specs.NamedLaws.{bytes_eq-true}
-use Rattle.rules.specs.Step.{Listed, is_named}
+use Rattle.rules.specs.Step.{is_named}
 use Rattle.status_text.specs.Slot.{FileSlot}
 use Rattle.status_text.specs.declared.slot.Slot.TheVariants.{Recorded, Foreign}
 use Rattle.rules.specs.Version.{version_cmp}
-use Rattle.status_store.specs.Applicable.{has_record, is_listed_as}
+use Rattle.status_store.specs.Applicable.{has_record, is_indexed_as}
 use Rattle.status_store.specs.Places.{AreDistinct}
 use Rattle.status_store.specs.Slots.{changed_slots, entry_named, has_name, names_of, slot_records}
 use Rattle.status_store.proofs.NameLemmas.{has_name-names, is_in, or-false-left, or-false-right, unnamed-changed}
@@ -37,7 +37,7 @@ and-none true = refl
 and-none false = refl
 
 -- where no record has the name, none is changed under a test of it
-unnamed-tested : (name : List ℕ) (test : Record → Bool) (change : Entry → Entry) (slots : List FileSlot) → is_in name (names_of slots) ≡ false
+unnamed-tested : (name : List ℕ) (test : Record → Bool) (change : FileRecord → FileRecord) (slots : List FileSlot) → is_in name (names_of slots) ≡ false
     → changed_slots (λ found. is_named name found && test found) change slots ≡ slots
 unnamed-tested name test change [] h = refl
 unnamed-tested name test change (Foreign stanza ∷ slots) h = ap (λ later. Foreign stanza ∷ later) (unnamed-tested name test change slots h)
@@ -48,17 +48,17 @@ unnamed-tested name test change (Recorded entry ∷ slots) h =
 
 module _ (name : List ℕ) where
   -- the entry that is found is the head, or is found behind it
-  pub found-name : (slots : List FileSlot) (entry : Entry) → entry_named name slots ≡ Some entry → entry.found.name ≡ name
+  pub found-name : (slots : List FileSlot) (entry : FileRecord) → entry_named name slots ≡ Some entry → entry.found.name ≡ name
   found-name [] entry h = absurd (let e = h in cc)
   found-name (Foreign stanza ∷ slots) entry h = found-name slots entry h
   found-name (Recorded first ∷ slots) entry h = by (bytes_eq first.found.name name) refl h (found-name slots entry)
     where
       by : (b : Bool) → bytes_eq first.found.name name ≡ b → cond b (Some first) (entry_named name slots) ≡ Some entry
           → (entry_named name slots ≡ Some entry → entry.found.name ≡ name) → entry.found.name ≡ name
-      by true e h later = let same : first ≡ entry = let k = h in cc in ap (λ (x : Entry). x.found.name) (sym same) ∙ bytes_eq-true first.found.name name e
+      by true e h later = let same : first ≡ entry = let k = h in cc in ap (λ (x : FileRecord). x.found.name) (sym same) ∙ bytes_eq-true first.found.name name e
       by false e h later = later h
 
-  pub found-within : (slots : List FileSlot) (entry : Entry) → entry_named name slots ≡ Some entry → is_in name (names_of slots) ≡ true
+  pub found-within : (slots : List FileSlot) (entry : FileRecord) → entry_named name slots ≡ Some entry → is_in name (names_of slots) ≡ true
   found-within [] entry h = absurd (let e = h in cc)
   found-within (Foreign stanza ∷ slots) entry h = found-within slots entry h
   found-within (Recorded first ∷ slots) entry h = by (bytes_eq first.found.name name) h (found-within slots entry)
@@ -68,14 +68,14 @@ module _ (name : List ℕ) where
       by true h later = refl
       by false h later = later h
 
-  pub found-has_name : (slots : List FileSlot) (entry : Entry) → entry_named name slots ≡ Some entry → has_name name slots ≡ true
+  pub found-has_name : (slots : List FileSlot) (entry : FileRecord) → entry_named name slots ≡ Some entry → has_name name slots ≡ true
   found-has_name slots entry h = has_name-names name slots ∙ found-within slots entry h
 
   pub none-has_name : (slots : List FileSlot) → entry_named name slots ≡ None → has_name name slots ≡ false
   none-has_name slots h = has_name-names name slots ∙ none-named name slots h
 
   -- a record of the name passes a test where the one that is found does
-  pub ready-some : (test : Record → Bool) (slots : List FileSlot) (entry : Entry) → AreDistinct (names_of slots)
+  pub ready-some : (test : Record → Bool) (slots : List FileSlot) (entry : FileRecord) → AreDistinct (names_of slots)
       → entry_named name slots ≡ Some entry → has_record test name (slot_records slots) ≡ test entry.found
   ready-some test [] entry distinct h = absurd (let e = h in cc)
   ready-some test (Foreign stanza ∷ slots) entry distinct h = ready-some test slots entry distinct h
@@ -87,11 +87,11 @@ module _ (name : List ℕ) where
       by true e h later =
           let same : first ≡ entry = let k = h in cc in
           let none = unready test name slots (subst (λ n. is_in n (names_of slots) ≡ false) (bytes_eq-true first.found.name name e) distinct.0) in
-          ap (λ b. test first.found || b) none ∙ or-none (test first.found) ∙ ap (λ (x : Entry). test x.found) same
+          ap (λ b. test first.found || b) none ∙ or-none (test first.found) ∙ ap (λ (x : FileRecord). test x.found) same
       by false e h later = later h
 
   -- a change of the entry that is found is that of the name
-  pub changed-found : (change : Entry → Entry) (slots : List FileSlot) (entry : Entry) → AreDistinct (names_of slots)
+  pub changed-found : (change : FileRecord → FileRecord) (slots : List FileSlot) (entry : FileRecord) → AreDistinct (names_of slots)
       → entry_named name slots ≡ Some entry
       → changed_slots (is_named name) (λ _. change entry) slots ≡ changed_slots (is_named name) change slots
   changed-found change [] entry distinct h = refl
@@ -111,7 +111,7 @@ module _ (name : List ℕ) where
       by false e h later = ap (λ rest. Recorded first ∷ rest) (later h)
 
   -- the name is changed where the test passes
-  pub changed-tested : (test : Record → Bool) (change : Entry → Entry) (slots : List FileSlot) (entry : Entry) → AreDistinct (names_of slots)
+  pub changed-tested : (test : Record → Bool) (change : FileRecord → FileRecord) (slots : List FileSlot) (entry : FileRecord) → AreDistinct (names_of slots)
       → entry_named name slots ≡ Some entry → test entry.found ≡ true
       → changed_slots (is_named name) change slots ≡ changed_slots (λ found. is_named name found && test found) change slots
   changed-tested test change [] entry distinct h passes = refl
@@ -129,13 +129,13 @@ module _ (name : List ℕ) where
           ≡ Recorded (cond (b && test first.found) (change first) first) ∷ changed_slots (λ found. is_named name found && test found) change slots
       by true e h later =
           let same : entry ≡ first = let k = h in cc in
-          let here : test first.found ≡ true = ap (λ (x : Entry). test x.found) (sym same) ∙ passes in
+          let here : test first.found ≡ true = ap (λ (x : FileRecord). test x.found) (sym same) ∙ passes in
           (λ i. Recorded (cond (sym here i) (change first) first) ∷ (unnamed-changed name change slots (none e)
           ∙ sym (unnamed-tested name test change slots (none e))) i)
       by false e h later = ap (λ rest. Recorded first ∷ rest) (later h)
 
   -- and nothing is changed where it doesn't
-  pub unchanged-tested : (test : Record → Bool) (change : Entry → Entry) (slots : List FileSlot) → has_record test name (slot_records slots) ≡ false
+  pub unchanged-tested : (test : Record → Bool) (change : FileRecord → FileRecord) (slots : List FileSlot) → has_record test name (slot_records slots) ≡ false
       → slots ≡ changed_slots (λ found. is_named name found && test found) change slots
   unchanged-tested test change [] h = refl
   unchanged-tested test change (Foreign stanza ∷ slots) h = ap (λ later. Foreign stanza ∷ later) (unchanged-tested test change slots h)
@@ -148,12 +148,12 @@ and-left : (a b : Bool) → (a && b) ≡ true → a ≡ true
 and-left true b h = refl
 and-left false b h = absurd (true≢false (sym h))
 
--- what is listed under a name is new where the name is
-pub new-listed : (name version : List ℕ) (given : Option Listed) (listed : Listed) (slots : List FileSlot) → given ≡ Some listed
-    → is_listed_as name version given ≡ true → has_name listed.pkg.name slots ≡ false → has_name name slots ≡ false
-new-listed name version given listed slots is passes fresh =
-    let both : is_listed_as name version (Some listed) ≡ true = ap (is_listed_as name version) (sym is) ∙ passes in
-    let same = bytes_eq-true listed.pkg.name name (and-left (bytes_eq listed.pkg.name name) (is_eq (version_cmp listed.pkg.version version)) both) in
+-- what is handed in under a name is new where the name is
+pub new-indexed : (name version : List ℕ) (given : Option IndexStanza) (indexed : IndexStanza) (slots : List FileSlot) → given ≡ Some indexed
+    → is_indexed_as name version given ≡ true → has_name indexed.listed.pkg.name slots ≡ false → has_name name slots ≡ false
+new-indexed name version given indexed slots is passes fresh =
+    let both : is_indexed_as name version (Some indexed) ≡ true = ap (is_indexed_as name version) (sym is) ∙ passes in
+    let same = bytes_eq-true indexed.listed.pkg.name name (and-left (bytes_eq indexed.listed.pkg.name name) (is_eq (version_cmp indexed.listed.pkg.version version)) both) in
     ap (λ n. has_name n slots) (sym same) ∙ fresh
 
 pub on-err : {A E P : Type 0} (result : Result A E) → P → OnErr result P

@@ -2,7 +2,7 @@
 use Rattle.std.proofs.Common.{◌≡◌, ℕ, Bool, true, false, true≢false, cond, not, ◌||◌, ◌&&◌, List, [], ◌∷◌, ◌++◌, Some, None, refl, sym, ap, subst, ◌∙◌, bytes_eq, if◌then◌else◌}
 use Rattle.std.proofs.lemmas.List.Folds.{list_any-append}
 use Rattle.rules.specs.Database.{Record}
-use Rattle.rules.specs.Entry.{Entry, touched_entry}
+use Rattle.rules.specs.FileRecord.{FileRecord, touched_entry}
 use Rattle.rules.specs.NamedLaws.{bytes_eq-same, bytes_eq-true}
 use Rattle.rules.specs.Step.{configured, is_among, is_named}
 use Rattle.status_text.specs.Slot.{FileSlot}
@@ -18,7 +18,7 @@ abbrev pub is_due : List (List ℕ) → Record → Bool
 is_due names found = is_among names found && is_configurable found
 
 -- the entry, configured if the test passes
-abbrev pub configured_if : Bool → Entry → Entry
+abbrev pub configured_if : Bool → FileRecord → FileRecord
 configured_if test entry = if test then touched_entry configured entry else entry
 
 among-more : (front : List (List ℕ)) (name : List ℕ) (found : Record) → is_among (front ++ name ∷ []) found ≡ (is_among front found || is_named name found)
@@ -26,7 +26,7 @@ among-more front name found =
     list_any-append (λ other. is_named other found) front (name ∷ []) ∙ ap (λ b. is_among front found || b) (or-none (is_named name found))
 
 -- one more name configured: what is configured can't be configured again
-entry-more : (front : List (List ℕ)) (name : List ℕ) (entry : Entry)
+entry-more : (front : List (List ℕ)) (name : List ℕ) (entry : FileRecord)
     → configured_if (is_named name (configured_if (is_due front entry.found) entry).found && is_configurable (configured_if (is_due front entry.found) entry).found)
     (configured_if (is_due front entry.found) entry)
     ≡ configured_if (is_due (front ++ name ∷ []) entry.found) entry
@@ -65,7 +65,7 @@ among-ready (name ∷ names) db found none among =
     by true false r e none among later = later none among
 
 -- of distinct names a record passes where one of its name does
-own-ready : (entry : Entry) (slots : List FileSlot) → is_in entry.found.name (names_of slots) ≡ false
+own-ready : (entry : FileRecord) (slots : List FileSlot) → is_in entry.found.name (names_of slots) ≡ false
     → has_record is_configurable entry.found.name (entry.found ∷ slot_records slots) ≡ true → is_configurable entry.found ≡ true
 own-ready entry slots distinct h =
     sym (rw (bytes_eq-same entry.found.name entry.found.name refl, unready is_configurable entry.found.name slots distinct) (or-none (is_configurable entry.found))) ∙ h
@@ -75,7 +75,7 @@ abbrev pub AreDueReady : List (List ℕ) → List FileSlot → Type 0
 AreDueReady names slots = (found : Record) → is_in found.name (names_of slots) ≡ true → is_among names found ≡ true
     → has_record is_configurable found.name (slot_records slots) ≡ true
 
-later-ready : (names : List (List ℕ)) (entry : Entry) (slots : List FileSlot) → is_in entry.found.name (names_of slots) ≡ false
+later-ready : (names : List (List ℕ)) (entry : FileRecord) (slots : List FileSlot) → is_in entry.found.name (names_of slots) ≡ false
     → AreDueReady names (Recorded entry ∷ slots) → AreDueReady names slots
 later-ready names entry slots distinct ready found within among =
     by (bytes_eq entry.found.name found.name) refl (ready found (or-right (bytes_eq entry.found.name found.name) within) among)

@@ -6,7 +6,7 @@ use Rattle.std.proofs.lemmas.List.Folds.{list_any-append}
 use Rattle.std.proofs.lemmas.List.Kept.{AllPairs-cons}
 use Rattle.std.specs.List.{All, list_any, filter}
 use Rattle.rules.specs.Database.{Record, HasDistinctNames}
-use Rattle.rules.specs.Entry.{Entry}
+use Rattle.rules.specs.FileRecord.{FileRecord}
 use Rattle.rules.specs.NamedLaws.{bytes_eq-same, bytes_eq-true}
 use Rattle.rules.specs.Step.{is_named}
 use Rattle.status_text.specs.Slot.{FileSlot}
@@ -45,7 +45,7 @@ has_name-names name (Recorded entry ∷ slots) = ap (λ later. bytes_eq entry.fo
 has_name-names name (Foreign stanza ∷ slots) = has_name-names name slots
 
 -- slots of other names stay where a name is changed or deleted
-pub unnamed-changed : (name : List ℕ) (change : Entry → Entry) (slots : List FileSlot) → is_in name (names_of slots) ≡ false
+pub unnamed-changed : (name : List ℕ) (change : FileRecord → FileRecord) (slots : List FileSlot) → is_in name (names_of slots) ≡ false
     → changed_slots (is_named name) change slots ≡ slots
 unnamed-changed name change [] h = refl
 unnamed-changed name change (Foreign stanza ∷ slots) h = ap (λ later. Foreign stanza ∷ later) (unnamed-changed name change slots h)
@@ -146,14 +146,14 @@ pub slots-distinct-from : (slots : List FileSlot) → HasDistinctNames (slot_rec
 slots-distinct-from slots h = subst AreDistinct (names-of-records slots) (distinct-from (slot_records slots) h)
 
 -- of slots with distinct names each is new behind those before it
-other-behind : (name : List ℕ) (slots rest : List FileSlot) (entry : Entry) → is_in name (names_of (slots ++ Recorded entry ∷ rest)) ≡ false
+other-behind : (name : List ℕ) (slots rest : List FileSlot) (entry : FileRecord) → is_in name (names_of (slots ++ Recorded entry ∷ rest)) ≡ false
     → bytes_eq entry.found.name name ≡ false
 other-behind name [] rest entry h = or-false-left (bytes_eq entry.found.name name) (is_in name (names_of rest)) h
 other-behind name (Foreign stanza ∷ slots) rest entry h = other-behind name slots rest entry h
 other-behind name (Recorded first ∷ slots) rest entry h =
     other-behind name slots rest entry (or-false-right (bytes_eq first.found.name name) (is_in name (names_of (slots ++ Recorded entry ∷ rest))) h)
 
-new-record : (slots rest : List FileSlot) (entry : Entry) → AreDistinct (names_of (slots ++ Recorded entry ∷ rest)) → has_name entry.found.name slots ≡ false
+new-record : (slots rest : List FileSlot) (entry : FileRecord) → AreDistinct (names_of (slots ++ Recorded entry ∷ rest)) → has_name entry.found.name slots ≡ false
 new-record [] rest entry h = refl
 new-record (Foreign stanza ∷ slots) rest entry h = new-record slots rest entry h
 new-record (Recorded first ∷ slots) rest entry h =

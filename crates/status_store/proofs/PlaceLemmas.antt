@@ -3,7 +3,7 @@ use Rattle.std.proofs.Common.{◌≡◌, ℕ, zero, suc, ◌+◌, Bool, true, fa
 use Rattle.std.specs.Borrow.{Bor}
 use Rattle.std.specs.List.{filter}
 use Rattle.std.specs.Map.{keys_of, lookup, remove_entry}
-use Rattle.rules.specs.Entry.{Entry}
+use Rattle.rules.specs.FileRecord.{FileRecord}
 use Rattle.rules.specs.NamedLaws.{bytes_eq-same, bytes_eq-true}
 use Rattle.rules.specs.Step.{is_named}
 use Rattle.status_text.specs.Slot.{FileSlot}
@@ -80,13 +80,13 @@ found-at name places es numbers =
     (finds-at name places (lookup (λ other. bytes_eq other name) (numbered 0 places)) (finds name 0 places))
 
 -- a slot of the name of this entry is among those in whose places the entry stands
-pub is_in-there : (places : List (Option FileSlot)) (place : ℕ) (entry : Entry) → slice_get places place ≡ Some (Some (Recorded entry))
+pub is_in-there : (places : List (Option FileSlot)) (place : ℕ) (entry : FileRecord) → slice_get places place ≡ Some (Some (Recorded entry))
     → is_in entry.found.name (names_of (slots_at places)) ≡ true
 is_in-there [] place entry there = absurd (let h = there in cc)
 is_in-there (None ∷ places) zero entry there = absurd (let h = there in cc)
 is_in-there (Some (Foreign stanza) ∷ places) zero entry there = absurd (let h = there in cc)
 is_in-there (Some (Recorded first) ∷ places) zero entry there =
-    let same : first ≡ entry = let h = there in cc in rw (bytes_eq-same first.found.name entry.found.name (ap (λ (e : Entry). e.found.name) same)) refl
+    let same : first ≡ entry = let h = there in cc in rw (bytes_eq-same first.found.name entry.found.name (ap (λ (e : FileRecord). e.found.name) same)) refl
 is_in-there (None ∷ places) (suc place) entry there = is_in-there places place entry there
 is_in-there (Some (Foreign stanza) ∷ places) (suc place) entry there = is_in-there places place entry there
 is_in-there (Some (Recorded first) ∷ places) (suc place) entry there =
@@ -97,7 +97,7 @@ is_in-there (Some (Recorded first) ∷ places) (suc place) entry there =
     or-true false = refl
 
 -- an entry before the place has another name
-before-other : (first entry : Entry) (places : List (Option FileSlot)) (place : ℕ)
+before-other : (first entry : FileRecord) (places : List (Option FileSlot)) (place : ℕ)
     → is_in first.found.name (names_of (slots_at places)) ≡ false → slice_get places place ≡ Some (Some (Recorded entry))
     → bytes_eq first.found.name entry.found.name ≡ false
 before-other first entry places place distinct there = by (bytes_eq first.found.name entry.found.name) refl
@@ -108,7 +108,7 @@ before-other first entry places place distinct there = by (bytes_eq first.found.
         ∙ subst (λ name. is_in name (names_of (slots_at places)) ≡ false) (bytes_eq-true first.found.name entry.found.name e) distinct))
 
 -- the numbers stay where an entry is written over one of its name
-pub numbered-written : (number : ℕ) (places : List (Option FileSlot)) (place : ℕ) (entry new : Entry)
+pub numbered-written : (number : ℕ) (places : List (Option FileSlot)) (place : ℕ) (entry new : FileRecord)
     → slice_get places place ≡ Some (Some (Recorded entry)) → new.found.name ≡ entry.found.name
     → numbered number (slice_set places place (Some (Recorded new))) ≡ numbered number places
 numbered-written number [] place entry new there same = refl
@@ -116,7 +116,7 @@ numbered-written number (None ∷ places) zero entry new there same = absurd (le
 numbered-written number (Some (Foreign stanza) ∷ places) zero entry new there same = absurd (let h = there in cc)
 numbered-written number (Some (Recorded first) ∷ places) zero entry new there same =
     let e : entry ≡ first = let h = there in cc in
-    ap (λ name. (name, number) ∷ numbered (number + 1) places) (same ∙ ap (λ (e : Entry). e.found.name) e)
+    ap (λ name. (name, number) ∷ numbered (number + 1) places) (same ∙ ap (λ (e : FileRecord). e.found.name) e)
 numbered-written number (None ∷ places) (suc place) entry new there same = numbered-written (number + 1) places place entry new there same
 numbered-written number (Some (Foreign stanza) ∷ places) (suc place) entry new there same =
     numbered-written (number + 1) places place entry new there same
@@ -124,14 +124,14 @@ numbered-written number (Some (Recorded first) ∷ places) (suc place) entry new
     ap (λ later. (first.found.name, number) ∷ later) (numbered-written (number + 1) places place entry new there same)
 
 -- the entry of the name is changed where one is written over it
-pub slots-written : (places : List (Option FileSlot)) (place : ℕ) (entry new : Entry) → slice_get places place ≡ Some (Some (Recorded entry))
+pub slots-written : (places : List (Option FileSlot)) (place : ℕ) (entry new : FileRecord) → slice_get places place ≡ Some (Some (Recorded entry))
     → AreDistinct (names_of (slots_at places))
     → slots_at (slice_set places place (Some (Recorded new))) ≡ changed_slots (is_named entry.found.name) (λ _. new) (slots_at places)
 slots-written [] place entry new there distinct = refl
 slots-written (None ∷ places) zero entry new there distinct = absurd (let h = there in cc)
 slots-written (Some (Foreign stanza) ∷ places) zero entry new there distinct = absurd (let h = there in cc)
 slots-written (Some (Recorded first) ∷ places) zero entry new there distinct =
-    let same : first.found.name ≡ entry.found.name = ap (λ (e : Entry). e.found.name) (let e : first ≡ entry = let h = there in cc in e) in
+    let same : first.found.name ≡ entry.found.name = ap (λ (e : FileRecord). e.found.name) (let e : first ≡ entry = let h = there in cc in e) in
     rw (bytes_eq-same first.found.name entry.found.name same)
     (ap (λ later. Recorded new ∷ later) (sym (unnamed-changed entry.found.name (λ _. new) (slots_at places)
     (subst (λ name. is_in name (names_of (slots_at places)) ≡ false) same distinct.0))))
@@ -143,14 +143,14 @@ slots-written (Some (Recorded first) ∷ places) (suc place) entry new there dis
     (ap (λ later. Recorded first ∷ later) (slots-written places place entry new there distinct.1))
 
 -- the name loses its number where its place is emptied
-pub numbered-emptied : (number : ℕ) (places : List (Option FileSlot)) (place : ℕ) (entry : Entry)
+pub numbered-emptied : (number : ℕ) (places : List (Option FileSlot)) (place : ℕ) (entry : FileRecord)
     → slice_get places place ≡ Some (Some (Recorded entry)) → AreDistinct (names_of (slots_at places))
     → numbered number (slice_set places place None) ≡ remove_entry (λ other. bytes_eq other entry.found.name) (numbered number places)
 numbered-emptied number [] place entry there distinct = refl
 numbered-emptied number (None ∷ places) zero entry there distinct = absurd (let h = there in cc)
 numbered-emptied number (Some (Foreign stanza) ∷ places) zero entry there distinct = absurd (let h = there in cc)
 numbered-emptied number (Some (Recorded first) ∷ places) zero entry there distinct =
-    let same : first.found.name ≡ entry.found.name = ap (λ (e : Entry). e.found.name) (let e : first ≡ entry = let h = there in cc in e) in
+    let same : first.found.name ≡ entry.found.name = ap (λ (e : FileRecord). e.found.name) (let e : first ≡ entry = let h = there in cc in e) in
     rw (bytes_eq-same first.found.name entry.found.name same) refl
 numbered-emptied number (None ∷ places) (suc place) entry there distinct = numbered-emptied (number + 1) places place entry there distinct
 numbered-emptied number (Some (Foreign stanza) ∷ places) (suc place) entry there distinct =
@@ -160,14 +160,14 @@ numbered-emptied number (Some (Recorded first) ∷ places) (suc place) entry the
     (ap (λ later. (first.found.name, number) ∷ later) (numbered-emptied (number + 1) places place entry there distinct.1))
 
 -- and its slot is no more
-pub slots-emptied : (places : List (Option FileSlot)) (place : ℕ) (entry : Entry) → slice_get places place ≡ Some (Some (Recorded entry))
+pub slots-emptied : (places : List (Option FileSlot)) (place : ℕ) (entry : FileRecord) → slice_get places place ≡ Some (Some (Recorded entry))
     → AreDistinct (names_of (slots_at places))
     → slots_at (slice_set places place None) ≡ filter (λ slot. not (is_slot_named entry.found.name slot)) (slots_at places)
 slots-emptied [] place entry there distinct = refl
 slots-emptied (None ∷ places) zero entry there distinct = absurd (let h = there in cc)
 slots-emptied (Some (Foreign stanza) ∷ places) zero entry there distinct = absurd (let h = there in cc)
 slots-emptied (Some (Recorded first) ∷ places) zero entry there distinct =
-    let same : first.found.name ≡ entry.found.name = ap (λ (e : Entry). e.found.name) (let e : first ≡ entry = let h = there in cc in e) in
+    let same : first.found.name ≡ entry.found.name = ap (λ (e : FileRecord). e.found.name) (let e : first ≡ entry = let h = there in cc in e) in
     rw (bytes_eq-same first.found.name entry.found.name same)
     (sym (unnamed-kept entry.found.name (slots_at places) (subst (λ name. is_in name (names_of (slots_at places)) ≡ false) same distinct.0)))
 slots-emptied (None ∷ places) (suc place) entry there distinct = slots-emptied places place entry there distinct

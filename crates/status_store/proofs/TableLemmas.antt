@@ -6,7 +6,7 @@ use Rattle.std.specs.Map.{lookup, remove_entry}
 use Rattle.std.specs.Option.{option_to_list}
 use Rattle.std.proofs.lemmas.List.Concat.{flat_map-append}
 use Rattle.std.proofs.lemmas.List.{map-append}
-use Rattle.rules.specs.Entry.{Entry}
+use Rattle.rules.specs.FileRecord.{FileRecord}
 use Rattle.rules.specs.RunStepLaws.{split-at_place}
 use Rattle.rules.specs.Step.{is_named}
 use Rattle.stanza.specs.Stanza.{StanzaText}
@@ -30,7 +30,7 @@ none-named name (Recorded entry ∷ slots) h = by (bytes_eq entry.found.name nam
 
 module _ (name : List ℕ) (es : List (Bor (List ℕ) × ℕ)) (places : List (Option FileSlot)) (table : IsTable es places) where
   -- an entry written over that of its name
-  module _ (place : ℕ) (at : IsAt name places place) (new : Entry) (same : new.found.name ≡ name) where
+  module _ (place : ℕ) (at : IsAt name places place) (new : FileRecord) (same : new.found.name ≡ name) where
     named-alike : new.found.name ≡ at.entry.found.name
     named-alike = same ∙ sym at.named
 
@@ -89,8 +89,8 @@ slots-behind places more = flat_map-append option_to_list places more
 
 pub names-behind : (slots more : List FileSlot) → names_of (slots ++ more) ≡ names_of slots ++ names_of more
 names-behind slots more =
-    ap (map (λ (entry : Entry). entry.found.name)) (flat_map-append entry_in slots more)
-    ∙ map-append (λ (entry : Entry). entry.found.name) (entries_of slots) (entries_of more)
+    ap (map (λ (entry : FileRecord). entry.found.name)) (flat_map-append entry_in slots more)
+    ∙ map-append (λ (entry : FileRecord). entry.found.name) (entries_of slots) (entries_of more)
 
 -- a stanza without a record behind the others
 pub table-kept : (es : List (Bor (List ℕ) × ℕ)) (places : List (Option FileSlot)) (stanza : StanzaText) → IsTable es places
@@ -102,7 +102,7 @@ table-kept es places stanza table = (
 )
 
 -- a record of a new name behind the others
-pub table-pushed : (es pushed : List (Bor (List ℕ) × ℕ)) (places : List (Option FileSlot)) (entry : Entry) (pair : Bor (List ℕ) × ℕ)
+pub table-pushed : (es pushed : List (Bor (List ℕ) × ℕ)) (places : List (Option FileSlot)) (entry : FileRecord) (pair : Bor (List ℕ) × ℕ)
     → IsTable es places → is_in entry.found.name (names_of (slots_at places)) ≡ false
     → lent pair ≡ (entry.found.name, length places) → pushed ≡ es ++ pair ∷ []
     → IsTable pushed (places ++ Some (Recorded entry) ∷ [])

@@ -6,22 +6,23 @@ use Rattle.std.specs.Option.{option_and_then}
 use Rattle.std.specs.Ordering.{is_eq}
 use Rattle.index.specs.Alone.{alone}
 use Rattle.rules.specs.Database.{Record}
+use Rattle.rules.specs.FileRecord.{IndexStanza}
 use Rattle.rules.specs.State.{is_config_files_state, is_installed_state, is_present_state, is_sound_flag, is_unconfigured_state}
-use Rattle.rules.specs.Step.{Listed, is_named}
+use Rattle.rules.specs.Step.{is_named}
 use Rattle.rules.specs.Version.{version_cmp}
 use Rattle.rules.specs.declared.step.Step.{Step}
 use Rattle.rules.specs.declared.step.Step.TheVariants as step
 
 -- the stanza of an index that is handed in, if it is one that can be read and counts for the architecture
-abbrev pub handed_in : List ℕ → Option (List ℕ) → Option Listed
+abbrev pub handed_in : List ℕ → Option (List ℕ) → Option IndexStanza
 handed_in arch given = option_and_then (alone arch) given
 
 -- what is handed in is a package of this name and this version
-abbrev pub is_listed_as : List ℕ → List ℕ → Option Listed → Bool
-is_listed_as name version None = false
-is_listed_as name version (Some listed) = bytes_eq listed.pkg.name name && is_eq (version_cmp listed.pkg.version version)
+abbrev pub is_indexed_as : List ℕ → List ℕ → Option IndexStanza → Bool
+is_indexed_as name version None = false
+is_indexed_as name version (Some indexed) = bytes_eq indexed.listed.pkg.name name && is_eq (version_cmp indexed.listed.pkg.version version)
 
--- unpacked or half-configured, with flag ok
+-- unpacked, half-configured or in a trigger state, with flag ok
 abbrev pub is_configurable : Record → Bool
 is_configurable found = is_unconfigured_state found.state && is_sound_flag found.flag
 
@@ -45,10 +46,10 @@ has_record test name db = list_any (λ found. is_named name found && test found)
 abbrev pub first_unready : (Record → Bool) → List (List ℕ) → List Record → Option (List ℕ)
 first_unready test names db = find (λ name. not (has_record test name db)) names
 
--- the first name for which the step can't be taken, where this package of an index is handed in
-abbrev pub refused_name : Option Listed → Step → List Record → Option (List ℕ)
-refused_name listed (step.Unpack name version) db = if is_listed_as name version listed then None else Some name
-refused_name listed (step.Deconfigure name) db = first_unready is_deconfigurable (name ∷ []) db
-refused_name listed (step.Configure names) db = first_unready is_configurable names db
-refused_name listed (step.Remove name) db = first_unready is_removable (name ∷ []) db
-refused_name listed (step.Purge name) db = first_unready is_purgeable (name ∷ []) db
+-- the first name for which the step can't be taken, where this stanza of an index is handed in
+abbrev pub refused_name : Option IndexStanza → Step → List Record → Option (List ℕ)
+refused_name indexed (step.Unpack name version) db = if is_indexed_as name version indexed then None else Some name
+refused_name indexed (step.Deconfigure name) db = first_unready is_deconfigurable (name ∷ []) db
+refused_name indexed (step.Configure names) db = first_unready is_configurable names db
+refused_name indexed (step.Remove name) db = first_unready is_removable (name ∷ []) db
+refused_name indexed (step.Purge name) db = first_unready is_purgeable (name ∷ []) db

@@ -3,7 +3,7 @@ use Rattle.std.specs.Prelude.{◌≡◌, ℕ, ◌+◌, false, List, [], ◌∷�
 use Rattle.std.specs.Borrow.{Bor}
 use Rattle.std.specs.List.{flat_map, list_any}
 use Rattle.std.specs.Option.{option_to_list}
-use Rattle.rules.specs.Entry.{Entry}
+use Rattle.rules.specs.FileRecord.{FileRecord}
 use Rattle.status_text.specs.Slot.{FileSlot}
 use Rattle.status_text.specs.declared.slot.Slot.TheVariants.{Recorded, Foreign}
 use Rattle.status_store.specs.Slots.{entry_named, names_of}
@@ -33,7 +33,7 @@ abbrev pub IsTable : List (Bor (List ℕ) × ℕ) → List (Option FileSlot) →
 IsTable pairs places = (map lent pairs ≡ numbered 0 places) × AreDistinct (names_of (slots_at places))
 
 -- the entry in a place, if there is one
-abbrev pub entry_at : Option (Option FileSlot) → Option Entry
+abbrev pub entry_at : Option (Option FileSlot) → Option FileRecord
 entry_at None = None
 entry_at (Some None) = None
 entry_at (Some (Some (Foreign stanza))) = None
@@ -41,7 +41,7 @@ entry_at (Some (Some (Recorded entry))) = Some entry
 
 -- in this place stands the entry of the name
 pub record IsAt (name : List ℕ) (places : List (Option FileSlot)) (place : ℕ) : Type 0 where
-  pub entry : Entry
+  pub entry : FileRecord
   pub there : slice_get places place ≡ Some (Some (Recorded entry))
   pub named : entry.found.name ≡ name
   pub found : entry_named name (slots_at places) ≡ Some entry

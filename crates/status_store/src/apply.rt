@@ -4,16 +4,16 @@ ghost use Rattle.std.specs.Option.{option_copied};
 ghost use Rattle.std.specs.Ordering.{is_eq};
 ghost use Rattle.rules.specs.Version.{version_cmp};
 ghost use Rattle.rules.specs.declared.step.Step.TheVariants as step;
-ghost use Rattle.status_store.specs.Applicable.{handed_in, is_listed_as};
+ghost use Rattle.status_store.specs.Applicable.{handed_in, is_indexed_as};
 ghost use Rattle.status_store.specs.Error.{IsTaken};
 ghost use Rattle.status_store.specs.declared.error.ApplyError.TheVariants as error;
 
 use crate::error::{ApplyError, StepName};
 use crate::group::{configure_each, first_unready};
-use crate::named::{deconfigure_named, purge_named, remove_named, unpack_listed};
+use crate::named::{deconfigure_named, purge_named, remove_named, unpack_stanza};
 use crate::table::Table;
 use debversion::Version;
-use index::{Entry, read_alone};
+use index::{IndexStanza, read_alone};
 use rules::{Name, Names, Step, VersionText};
 
 fn is_same_version(version: &Version<'_>, text: &VersionText) -> bool
@@ -27,23 +27,23 @@ fn is_same_version(version: &Version<'_>, text: &VersionText) -> bool
 
 // What is handed in to be unpacked, if it is one readable stanza, counts for the architecture, and is of this name and
 // this version.
-fn listed_as<'a>(
+fn indexed_as<'a>(
     arch: &'a [u8],
     name: &Name,
     version: &VersionText,
     given: Option<&'a [u8]>,
-) -> Option<Entry<'a>>
+) -> Option<IndexStanza<'a>>
     ensures { MatchOption result
-        (is_listed_as name.now version.now (handed_in arch.now (option_copied given.entry)) ≡ false)
-        (λ entry. (handed_in arch.now (option_copied given.entry) ≡ Some entry)
-        × (is_listed_as name.now version.now (handed_in arch.now (option_copied given.entry)) ≡ true)) }
+        (is_indexed_as name.now version.now (handed_in arch.now (option_copied given.entry)) ≡ false)
+        (λ indexed. (handed_in arch.now (option_copied given.entry) ≡ Some indexed)
+        × (is_indexed_as name.now version.now (handed_in arch.now (option_copied given.entry)) ≡ true)) }
 {
-    let entry = match given {
+    let indexed = match given {
         Some(text) => read_alone(text, arch)?,
         None => return None,
     };
-    if entry.name() == name.as_bytes() && is_same_version(entry.version(), version) {
-        Some(entry)
+    if indexed.name() == name.as_bytes() && is_same_version(indexed.version(), version) {
+        Some(indexed)
     } else {
         None
     }
@@ -64,8 +64,8 @@ fn unpack<'a, 's>(
 ) -> Result<(), ApplyError<'s>>
     ensures { IsTaken result (handed_in arch.now (option_copied given.entry)) (step.Unpack name.now version.now) table.old table.new }
 {
-    match listed_as(arch, name, version, given) {
-        Some(entry) => match unpack_listed(table, &entry) {
+    match indexed_as(arch, name, version, given) {
+        Some(indexed) => match unpack_stanza(table, &indexed) {
             Ok(()) => Ok(()),
             Err(refused) => Err(refused.into()),
         },

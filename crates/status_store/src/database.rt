@@ -22,7 +22,7 @@ use crate::laws::{
 };
 use crate::table::Table;
 use rules::Step;
-use status_record::Record;
+use status_record::FileRecord;
 use status_text::{Slot, StatusError, StatusRecord, read_status};
 use std::alloc::{AllocError, Global};
 use std::marker::Model;
@@ -46,11 +46,11 @@ impl<'a> Model for Database<'a> {
 }
 
 // The slot as it was read, as actions may change it.
-fn kept<'a>(slot: Slot<'a, StatusRecord<'a>>) -> Slot<'a, Record<'a>>
+fn kept<'a>(slot: Slot<'a, StatusRecord<'a>>) -> Slot<'a, FileRecord<'a>>
     ensures { result ≡ slot.entry }
 {
     match slot {
-        Slot::Recorded(found) => Slot::Recorded(Record::read(found)),
+        Slot::Recorded(found) => Slot::Recorded(FileRecord::read(found)),
         Slot::Foreign(stanza) => Slot::Foreign(stanza),
     }
 }
@@ -98,14 +98,14 @@ impl<'a> Database<'a> {
     }
 
     /// The record of the name, if there is one. No memory; linear in the name alone.
-    pub fn record(&self, name: &[u8]) -> Option<&Record<'a>>
+    pub fn record(&self, name: &[u8]) -> Option<&FileRecord<'a>>
         ensures { option_copied result ≡ entry_named name.now self.now.slots }
     {
         self.table.find(name)
     }
 
     /// The records, in the order of the file. Memory alone can fail. Linear in the stanzas.
-    pub fn records(&self, alloc: Global) -> Result<Vec<&Record<'a>>, AllocError>
+    pub fn records(&self, alloc: Global) -> Result<Vec<&FileRecord<'a>>, AllocError>
         ensures { IfOk result (λ records. map (λ r. r.now) records.items ≡ entries_of self.now.slots) }
     {
         self.table.records(alloc)

@@ -1,7 +1,7 @@
 //! The configuring of a group (dpkg(1)), in place.
 ghost use Rattle.std.specs.Prelude.{◌≡◌, ◌&&◌, None};
 ghost use Rattle.std.specs.Option.{option_copied};
-ghost use Rattle.rules.specs.Entry.{touched_entry};
+ghost use Rattle.rules.specs.FileRecord.{touched_entry};
 ghost use Rattle.rules.specs.Step.{configured, is_among, is_named};
 ghost use Rattle.status_store.specs.Applicable as Spec;
 ghost use Rattle.status_store.specs.Applicable.{first_unready, has_record};
@@ -10,15 +10,15 @@ ghost use Rattle.status_store.specs.Slots.{changed_slots, names_of, slot_records
 
 use crate::table::Table;
 use rules::Name;
-use status_record::Record;
+use status_record::FileRecord;
 
-fn is_configurable(record: &Record<'_>) -> bool
+fn is_configurable(record: &FileRecord<'_>) -> bool
     ensures { result ≡ Spec.is_configurable «record».now.found }
 {
     record.state().is_unconfigured() && record.flag().is_sound()
 }
 
-// Configures the package of the name, if it is unpacked or half-configured with flag ok.
+// Configures the package of the name, if it is unconfigured with flag ok.
 fn configure_one(table: &mut Table<'_>, name: &[u8])
     ensures { table.new ≡ changed_slots (λ found. is_named name.now found && Spec.is_configurable found) (touched_entry configured) table.old }
 {
@@ -42,7 +42,7 @@ fn is_ready(table: &Table<'_>, name: &[u8]) -> bool
     }
 }
 
-/// The first of the names whose package isn't unpacked or half-configured with flag ok.
+/// The first of the names whose package isn't unconfigured with flag ok.
 pub fn first_unready<'s>(table: &Table<'_>, names: &'s [Name]) -> Option<&'s Name>
     ensures { option_copied result ≡ first_unready Spec.is_configurable names.now (slot_records table.now) }
 {
@@ -54,7 +54,7 @@ pub fn first_unready<'s>(table: &Table<'_>, names: &'s [Name]) -> Option<&'s Nam
     None
 }
 
-/// Configures the packages of the names, each of which is unpacked or half-configured with flag ok.
+/// Configures the packages of the names, each of which is unconfigured with flag ok.
 pub fn configure_each(table: &mut Table<'_>, names: &[Name])
     requires ready { first_unready Spec.is_configurable names.now (slot_records table.old) ≡ None }
     requires distinct { AreDistinct (names_of table.old) }

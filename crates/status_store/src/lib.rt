@@ -18,5 +18,5 @@ pub use laws::{
     what_was_read_is_faithful,
 };
 pub use rules::Step;
-pub use status_record::Record;
+pub use status_record::FileRecord;
 pub use status_text::{StatusError, StatusFault};

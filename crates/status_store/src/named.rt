@@ -1,7 +1,7 @@
 //! The actions of dpkg (dpkg(1)) on the record of a name, in place.
 ghost use Rattle.std.specs.Prelude.{◌≡◌, false, not, OnErr, OnOk, if◌then◌else◌};
 ghost use Rattle.std.specs.List.{filter};
-ghost use Rattle.rules.specs.Entry.{touched_entry};
+ghost use Rattle.rules.specs.FileRecord.{touched_entry};
 ghost use Rattle.rules.specs.Step.{deconfigured, is_named, removed};
 ghost use Rattle.status_store.specs.Applicable as Spec;
 ghost use Rattle.status_store.specs.Applicable.{has_record};
@@ -9,31 +9,31 @@ ghost use Rattle.status_store.specs.Left.{slots_after_unpack};
 ghost use Rattle.status_store.specs.Slots.{changed_slots, has_name, is_slot_named, slot_records};
 
 use crate::table::Table;
-use index::Entry;
-use status_record::Record;
+use index::IndexStanza;
+use status_record::FileRecord;
 use status_text::Slot;
 use std::alloc::AllocError;
 
-fn is_removable(record: &Record<'_>) -> bool
+fn is_removable(record: &FileRecord<'_>) -> bool
     ensures { result ≡ Spec.is_removable «record».now.found }
 {
     record.state().is_present() && record.flag().is_sound()
 }
 
-/// Unpacks a package of an index. Memory alone can fail, and then all stays as it was; none is taken where a record of
+/// Unpacks a stanza of an index. Memory alone can fail, and then all stays as it was; none is taken where a record of
 /// the name is there.
-pub fn unpack_listed<'a>(table: &mut Table<'a>, entry: &Entry<'a>) -> Result<(), AllocError>
-    ensures ok { OnOk result (table.new ≡ slots_after_unpack entry.now table.old) }
+pub fn unpack_stanza<'a>(table: &mut Table<'a>, indexed: &IndexStanza<'a>) -> Result<(), AllocError>
+    ensures ok { OnOk result (table.new ≡ slots_after_unpack indexed.now table.old) }
     ensures err { OnErr result (table.new ≡ table.old) }
-    ensures new { OnErr result (has_name entry.now.pkg.name table.old ≡ false) }
+    ensures new { OnErr result (has_name indexed.now.listed.pkg.name table.old ≡ false) }
 {
-    match table.find(entry.name()) {
+    match table.find(indexed.name()) {
         Some(old) => {
-            let unpacked = old.unpacked_over(entry);
+            let unpacked = old.unpacked_over(indexed);
             table.write(unpacked);
             Ok(())
         }
-        None => table.push(Slot::Recorded(Record::unpacked(entry))),
+        None => table.push(Slot::Recorded(FileRecord::unpacked(indexed))),
     }
 }
 

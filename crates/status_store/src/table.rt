@@ -11,7 +11,7 @@ ghost use Rattle.status_store.specs.Slots.{IsNew, changed_slots, entry_named, ha
 
 use indexmap::IndexMap;
 use stanza::Stanza;
-use status_record::Record;
+use status_record::FileRecord;
 use status_spelling::write_bytes;
 use status_text::Slot;
 use std::alloc::{AllocError, Global};
@@ -21,7 +21,7 @@ use std::marker::Model;
 /// name of a record the number of its place, in the order of the places.
 #[derive(Drop)]
 pub struct Table<'a> {
-    places: Vec<Option<Slot<'a, Record<'a>>>>,
+    places: Vec<Option<Slot<'a, FileRecord<'a>>>>,
     numbers: IndexMap<&'a [u8], usize>,
 }
 
@@ -39,7 +39,7 @@ impl<'a> Model for Table<'a> {
 
 // The place of the entry of the name, if there is one.
 fn place_of<'a>(
-    places: &[Option<Slot<'a, Record<'a>>>],
+    places: &[Option<Slot<'a, FileRecord<'a>>>],
     numbers: &IndexMap<&'a [u8], usize>,
     name: &[u8],
 ) -> Option<usize>
@@ -51,9 +51,9 @@ fn place_of<'a>(
 
 // The record in the place, if there is one.
 fn record_at<'p, 'a>(
-    places: &'p [Option<Slot<'a, Record<'a>>>],
+    places: &'p [Option<Slot<'a, FileRecord<'a>>>],
     place: usize,
-) -> Option<&'p Record<'a>>
+) -> Option<&'p FileRecord<'a>>
     ensures { option_copied result ≡ entry_at (slice_get places.now place) }
 {
     match places.get(place) {
@@ -89,7 +89,7 @@ impl<'a> Table<'a> {
     }
 
     /// The record of the name, if there is one.
-    pub fn find(&self, name: &[u8]) -> Option<&Record<'a>>
+    pub fn find(&self, name: &[u8]) -> Option<&FileRecord<'a>>
         ensures record { option_copied result ≡ entry_named name.now self.now }
         ensures distinct { AreDistinct (names_of self.now) }
     {
@@ -109,7 +109,7 @@ impl<'a> Table<'a> {
     }
 
     // Adds a record of a new name behind the others.
-    fn push_recorded(&mut self, held: Record<'a>) -> Result<(), AllocError>
+    fn push_recorded(&mut self, held: FileRecord<'a>) -> Result<(), AllocError>
         requires { has_name held.found.name self.old ≡ false }
         ensures ok { OnOk result (self.new ≡ self.old ++ slot.Recorded held.entry ∷ []) }
         ensures err { OnErr result (self.new ≡ self.old) }
@@ -123,7 +123,7 @@ impl<'a> Table<'a> {
     }
 
     /// Adds a slot of a new name behind the others. Memory alone can fail, and then all stays as it was.
-    pub fn push(&mut self, added: Slot<'a, Record<'a>>) -> Result<(), AllocError>
+    pub fn push(&mut self, added: Slot<'a, FileRecord<'a>>) -> Result<(), AllocError>
         requires { IsNew added self.old }
         ensures ok { OnOk result (self.new ≡ self.old ++ added.entry ∷ []) }
         ensures err { OnErr result (self.new ≡ self.old) }
@@ -135,7 +135,7 @@ impl<'a> Table<'a> {
     }
 
     /// Writes a record over the one of its name, if there is one. No memory.
-    pub fn write(&mut self, held: Record<'a>)
+    pub fn write(&mut self, held: FileRecord<'a>)
         ensures { self.new ≡ changed_slots (is_named held.entry.found.name) (λ _. held.entry) self.old }
     {
         match place_of(self.places.as_slice(), &self.numbers, held.name()) {
@@ -165,7 +165,7 @@ impl<'a> Table<'a> {
     }
 
     /// The records of the slots. Memory alone can fail. Linear in the slots.
-    pub fn records(&self, alloc: Global) -> Result<Vec<&Record<'a>>, AllocError>
+    pub fn records(&self, alloc: Global) -> Result<Vec<&FileRecord<'a>>, AllocError>
         ensures { IfOk result (λ records. map (λ r. r.now) records.items ≡ entries_of self.now) }
     {
         records_in(alloc, self.places.as_slice())
@@ -182,7 +182,7 @@ impl<'a> Table<'a> {
 // Adds a copy of the slot in the place, if there is one, behind the others.
 fn copy_place<'a>(
     copy: &mut Table<'a>,
-    place: &Option<Slot<'a, Record<'a>>>,
+    place: &Option<Slot<'a, FileRecord<'a>>>,
 ) -> Result<(), AllocError>
     requires { IfSome place.now (λ slot. IsNew slot copy.old) }
     ensures { OnOk result (copy.new ≡ copy.old ++ option_to_list place.now) }
@@ -195,7 +195,7 @@ fn copy_place<'a>(
 }
 
 // Writes the slot onto the end of a text.
-fn write_slot<'a>(out: &mut Vec<u8>, slot: &Slot<'a, Record<'a>>) -> Result<(), AllocError>
+fn write_slot<'a>(out: &mut Vec<u8>, slot: &Slot<'a, FileRecord<'a>>) -> Result<(), AllocError>
     ensures { OnOk result (out.new.items ≡ out.old.items ++ slots_text (slot.now ∷ [])) }
 {
     match slot {
@@ -209,7 +209,7 @@ fn write_slot<'a>(out: &mut Vec<u8>, slot: &Slot<'a, Record<'a>>) -> Result<(), 
 // Writes the slot in the place, if there is one, onto the end of a text.
 fn write_place<'a>(
     out: &mut Vec<u8>,
-    place: &Option<Slot<'a, Record<'a>>>,
+    place: &Option<Slot<'a, FileRecord<'a>>>,
 ) -> Result<(), AllocError>
     ensures { OnOk result (out.new.items ≡ out.old.items ++ slots_text (option_to_list place.now)) }
 {
@@ -222,7 +222,7 @@ fn write_place<'a>(
 // A table of the slots in these places.
 fn copy_of<'a>(
     alloc: Global,
-    places: &[Option<Slot<'a, Record<'a>>>],
+    places: &[Option<Slot<'a, FileRecord<'a>>>],
 ) -> Result<Table<'a>, AllocError>
     requires { AreDistinct (names_of (slots_at places.now)) }
     ensures { IfOk result (λ copy. copy ≡ slots_at places.now) }
@@ -237,7 +237,7 @@ fn copy_of<'a>(
 // The text of the slots in these places.
 fn text_of<'a>(
     alloc: Global,
-    places: &[Option<Slot<'a, Record<'a>>>],
+    places: &[Option<Slot<'a, FileRecord<'a>>>],
 ) -> Result<Vec<u8>, AllocError>
     ensures { IfOk result (λ text. text.items ≡ slots_text (slots_at places.now)) }
 {
@@ -250,8 +250,8 @@ fn text_of<'a>(
 
 // Adds the record in the place, if there is one, behind the others.
 fn push_record<'p, 'a>(
-    records: &mut Vec<&'p Record<'a>>,
-    place: &'p Option<Slot<'a, Record<'a>>>,
+    records: &mut Vec<&'p FileRecord<'a>>,
+    place: &'p Option<Slot<'a, FileRecord<'a>>>,
 ) -> Result<(), AllocError>
     ensures { OnOk result (map (λ r. r.now) records.new.items
         ≡ map (λ r. r.now) records.old.items ++ entries_of (option_to_list place.now)) }
@@ -268,8 +268,8 @@ fn push_record<'p, 'a>(
 // The records in these places.
 fn records_in<'p, 'a>(
     alloc: Global,
-    places: &'p [Option<Slot<'a, Record<'a>>>],
-) -> Result<Vec<&'p Record<'a>>, AllocError>
+    places: &'p [Option<Slot<'a, FileRecord<'a>>>],
+) -> Result<Vec<&'p FileRecord<'a>>, AllocError>
     ensures { IfOk result (λ records. map (λ r. r.now) records.items ≡ entries_of (slots_at places.now)) }
 {
     let mut records = Vec::new(alloc);

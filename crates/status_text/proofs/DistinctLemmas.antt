@@ -7,7 +7,7 @@ use Rattle.std.proofs.lemmas.List.Folds.{list_any-append}
 use Rattle.std.proofs.lemmas.List.Kept.{AllPairs-cons}
 use Rattle.relation.specs.declared.error.PkgFault.{PkgFault}
 use Rattle.rules.specs.Database.{Record, HasDistinctNames}
-use Rattle.rules.specs.Entry.{Entry, records_of}
+use Rattle.rules.specs.FileRecord.{FileRecord, records_of}
 use Rattle.rules.specs.NamedLaws.{bytes_eq-same}
 use Rattle.stanza.specs.Stanza.{StanzaText}
 use Rattle.stanza.specs.declared.error.StanzaError.{StanzaError}
@@ -34,7 +34,7 @@ GivesNew seen (Err refused) = ⊤
 GivesNew seen (Ok (Foreign stanza)) = ⊤
 GivesNew seen (Ok (Recorded entry)) = IsNew seen entry.found
 
-unseen-gives : (seen : List (List ℕ)) (entry : Entry) (duplicate : StatusFault) (is_old : Bool) (refused : Option PkgFault) → is_seen seen entry.found.name ≡ is_old
+unseen-gives : (seen : List (List ℕ)) (entry : FileRecord) (duplicate : StatusFault) (is_old : Bool) (refused : Option PkgFault) → is_seen seen entry.found.name ≡ is_old
     → GivesNew seen (if is_old then Err duplicate else unless_fault refused (Ok (Recorded entry)))
 unseen-gives seen entry duplicate true refused e = tt
 unseen-gives seen entry duplicate false None e = e

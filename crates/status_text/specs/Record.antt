@@ -9,12 +9,12 @@ use Rattle.relation.specs.PkgText.{pkg_version_fault, relations_fault, relations
 use Rattle.relation.specs.declared.error.PkgFault.{PkgFault}
 use Rattle.relation.specs.declared.fields.PkgFields.{PkgFields}
 use Rattle.rules.specs.Database.{Record}
-use Rattle.rules.specs.Entry.{Entry}
+use Rattle.rules.specs.FileRecord.{FileRecord}
 use Rattle.rules.specs.Package.{Relations}
 use Rattle.rules.specs.State.{is_present_state}
 use Rattle.rules.specs.Step.{no_relations}
 use Rattle.rules.specs.declared.status.State.{State}
-use Rattle.rules.specs.declared.status.State.TheVariants.{NotInstalled, ConfigFiles, HalfInstalled, Unpacked, HalfConfigured, Installed}
+use Rattle.rules.specs.declared.status.State.TheVariants.{NotInstalled, ConfigFiles, HalfInstalled, Unpacked, HalfConfigured, TriggersAwaited, TriggersPending, Installed}
 use Rattle.stanza.specs.Field.{FieldText}
 use Rattle.stanza.specs.Stanza.{StanzaText}
 use Rattle.status_text.specs.Mark.{counts, name_in, read_mark, unless_fault}
@@ -54,14 +54,16 @@ abbrev pub later_fault : State → StanzaText → Option PkgFault
 later_fault state stanza =
     option_or (version_fault_at state stanza) (option_or (config_version_fault stanza) (relations_fault_at state (fields_of stanza)))
 
--- the version that was configured last: of an installed package its version, of a not-installed one none, and of any
--- other that of the field Config-Version
+-- the version that was configured last: of an installed package, and of one in a trigger state, its version, of a
+-- not-installed one none, and of any other that of the field Config-Version
 abbrev pub config_version_at : State → Option (List ℕ) → Option (List ℕ) → Option (List ℕ)
 config_version_at NotInstalled version configured = None
 config_version_at ConfigFiles version configured = configured
 config_version_at HalfInstalled version configured = configured
 config_version_at Unpacked version configured = configured
 config_version_at HalfConfigured version configured = configured
+config_version_at TriggersAwaited version configured = version
+config_version_at TriggersPending version configured = version
 config_version_at Installed version configured = version
 
 -- the relations that count: those of a present package's stanza
@@ -82,7 +84,7 @@ record_of arch stanza mark = record {
 }
 
 -- the entry of a stanza, of which Status says this
-abbrev pub entry_of : List ℕ → StanzaText → Mark → Entry
+abbrev pub entry_of : List ℕ → StanzaText → Mark → FileRecord
 entry_of arch stanza mark = record { found = record_of arch stanza mark; stanza = read_stanza stanza }
 
 -- one of these names is the name

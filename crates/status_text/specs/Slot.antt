@@ -3,22 +3,22 @@
 use Rattle.std.specs.Prelude.{ℕ, List, [], ◌∷◌, ◌++◌}
 use Rattle.std.specs.List.{flat_map}
 use Rattle.package_stanza.specs.Stanza.{read_stanza}
-use Rattle.rules.specs.Entry.{Entry}
+use Rattle.rules.specs.FileRecord.{FileRecord}
 use Rattle.rules.specs.Stanza.{Stanza}
 use Rattle.status_text.specs.declared.slot.Slot.{Slot}
 use Rattle.status_text.specs.declared.slot.Slot.TheVariants.{Recorded, Foreign}
 
 -- a stanza of the file: an entry, or a stanza that has no record
 abbrev pub FileSlot : Type 0
-FileSlot = Slot Entry
+FileSlot = Slot FileRecord
 
 -- the entry of a slot, if it has one, as entries
-abbrev pub entry_in : FileSlot → List Entry
+abbrev pub entry_in : FileSlot → List FileRecord
 entry_in (Recorded entry) = entry ∷ []
 entry_in (Foreign stanza) = []
 
 -- the entries of the slots
-abbrev pub entries_of : List FileSlot → List Entry
+abbrev pub entries_of : List FileSlot → List FileRecord
 entries_of slots = flat_map entry_in slots
 
 -- the stanza of a slot

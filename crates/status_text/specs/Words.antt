@@ -5,7 +5,7 @@ use Rattle.std.specs.Option.{option_and_then, option_map}
 use Rattle.stanza.specs.Line.{is_white}
 use Rattle.rules.specs.Stanza.{flag_word, state_word, want_word}
 use Rattle.rules.specs.declared.status.Flag.{Flag}
-use Rattle.rules.specs.declared.status.Flag.TheVariants.{Sound, ReinstallRequired}
+use Rattle.rules.specs.declared.status.Flag.TheVariants as flags
 use Rattle.rules.specs.declared.status.State.{State}
 use Rattle.rules.specs.declared.status.State.TheVariants.{NotInstalled, ConfigFiles, HalfInstalled, Unpacked, HalfConfigured, Installed}
 use Rattle.rules.specs.declared.status.Want.{Want}
@@ -29,7 +29,7 @@ want_named word = find (λ want. bytes_eq word (want_word want)) (Unknown ∷ In
 
 -- the flag that the word names
 abbrev pub flag_named : List ℕ → Option Flag
-flag_named word = find (λ flag. bytes_eq word (flag_word flag)) (Sound ∷ ReinstallRequired ∷ [])
+flag_named word = find (λ flag. bytes_eq word (flag_word flag)) (flags.Ok ∷ flags.ReinstallRequired ∷ [])
 
 -- the state that the word names, if plans know it
 abbrev pub plain_state_named : List ℕ → Option State

@@ -76,7 +76,9 @@ fn config_version_at<'a>(
     let configured = version_in(&field_named(stanza, b"Config-Version"))?;
     match state {
         State::NotInstalled => Ok(None),
-        State::Installed => Ok(version_again(version)),
+        State::TriggersAwaited | State::TriggersPending | State::Installed => {
+            Ok(version_again(version))
+        }
         State::ConfigFiles | State::HalfInstalled | State::Unpacked | State::HalfConfigured => {
             Ok(configured)
         }

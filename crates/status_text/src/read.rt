@@ -1,7 +1,7 @@
 //! The slots of a status file.
 ghost use Rattle.std.specs.Prelude.{◌≡◌, ◌<◌, [], Err, IfErr, IfOk, Ok, false, length};
 ghost use Rattle.rules.specs.Database.{HasDistinctNames};
-ghost use Rattle.rules.specs.Entry.{records_of};
+ghost use Rattle.rules.specs.FileRecord.{records_of};
 ghost use Rattle.rules.specs.declared.limits.TheConstants.{TEXT_BYTES};
 ghost use Rattle.stanza.specs.Stanza.{items_of};
 ghost use Rattle.status_text.specs.Error.{IsStatusFault};

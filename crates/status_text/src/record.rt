@@ -30,10 +30,10 @@ pub struct StatusRecord<'a> {
 
 impl<'a> Model for StatusRecord<'a> {
     ghost use Rattle.package_stanza.specs.Stanza.{read_stanza};
-    ghost use Rattle.rules.specs.Entry.{Entry};
+    ghost use Rattle.rules.specs.FileRecord.{FileRecord as FileRecordValue};
     ghost use Rattle.status_text.specs.Kept.{IsKept, kept_record};
 
-    ghost Value = { Entry };
+    ghost Value = { FileRecordValue };
 
     ghost view = { λ r. record {
       found = kept_record r.arch.now r.stanza r.name.now r.mark r.version r.config_version r.is_essential;

@@ -86,7 +86,7 @@ fn flag_named(word: &[u8]) -> Option<Flag>
     ensures { result ≡ Spec.flag_named word.now }
 {
     if is_word(word, b"ok") {
-        Some(Flag::Sound)
+        Some(Flag::Ok)
     } else if is_word(word, b"reinstreq") {
         Some(Flag::ReinstallRequired)
     } else {

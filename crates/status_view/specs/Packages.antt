@@ -1,7 +1,7 @@
 -- The packages of the records that are present (dpkg(1), "Package states").
 use Rattle.std.specs.Prelude.{List, map, Option, Some, None, if◌then◌else◌}
 use Rattle.rules.specs.Database.{Record, pkg_of}
-use Rattle.rules.specs.Entry.{Entry}
+use Rattle.rules.specs.FileRecord.{FileRecord}
 use Rattle.rules.specs.Package.{Pkg}
 use Rattle.rules.specs.State.{is_present_state}
 
@@ -10,5 +10,5 @@ abbrev pub present_pkg : Record → Option Pkg
 present_pkg found = if is_present_state found.state then Some (pkg_of found) else None
 
 -- the packages of the records of these entries, of each that is present
-abbrev pub packages_of : List Entry → List (Option Pkg)
+abbrev pub packages_of : List FileRecord → List (Option Pkg)
 packages_of entries = map (λ entry. present_pkg entry.found) entries

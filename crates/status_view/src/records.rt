@@ -1,13 +1,13 @@
 //! The records of a database with their packages.
 ghost use Rattle.std.specs.Prelude.{◌≡◌, None, Some, IfOk, map};
 ghost use Rattle.std.specs.Option.{option_copied};
-ghost use Rattle.rules.specs.Entry.{records_of};
+ghost use Rattle.rules.specs.FileRecord.{records_of};
 ghost use Rattle.status_view.specs.Packages.{packages_of, present_pkg};
 
 use debversion::Version;
 use relation::Pkg;
-use status::{PackageRecord, Records};
-use status_record::Record;
+use status::{Records, StateRecord};
+use status_record::FileRecord;
 use std::alloc::{AllocError, Global};
 
 fn version_again<'a>(version: &Option<Version<'a>>) -> Option<Version<'a>>
@@ -20,11 +20,11 @@ fn version_again<'a>(version: &Option<Version<'a>>) -> Option<Version<'a>>
 }
 
 // The record of a package, which is present.
-fn with_package<'p, 'a>(record: &Record<'a>, pkg: &'p Pkg<'a>) -> PackageRecord<'p, 'a>
+fn with_package<'p, 'a>(record: &FileRecord<'a>, pkg: &'p Pkg<'a>) -> StateRecord<'p, 'a>
     requires { present_pkg «record».now.found ≡ Some pkg.now }
     ensures { result ≡ «record».now.found }
 {
-    PackageRecord::present(
+    StateRecord::present(
         pkg,
         record.state(),
         record.want(),
@@ -35,12 +35,12 @@ fn with_package<'p, 'a>(record: &Record<'a>, pkg: &'p Pkg<'a>) -> PackageRecord<
 }
 
 // The record of a package that isn't present.
-fn without_package<'p, 'a>(record: &Record<'a>) -> PackageRecord<'p, 'a>
+fn without_package<'p, 'a>(record: &FileRecord<'a>) -> StateRecord<'p, 'a>
     requires { present_pkg «record».now.found ≡ None }
     ensures { result ≡ «record».now.found }
 {
     let _is_present = record.is_present();
-    PackageRecord::absent(
+    StateRecord::absent(
         record.name(),
         record.state(),
         record.want(),
@@ -52,7 +52,7 @@ fn without_package<'p, 'a>(record: &Record<'a>) -> PackageRecord<'p, 'a>
 }
 
 // The record with its package, if it is present.
-fn package_record<'p, 'a>(record: &Record<'a>, pkg: &'p Option<Pkg<'a>>) -> PackageRecord<'p, 'a>
+fn package_record<'p, 'a>(record: &FileRecord<'a>, pkg: &'p Option<Pkg<'a>>) -> StateRecord<'p, 'a>
     requires { pkg.now ≡ present_pkg «record».now.found }
     ensures { result ≡ «record».now.found }
 {
@@ -65,9 +65,9 @@ fn package_record<'p, 'a>(record: &Record<'a>, pkg: &'p Option<Pkg<'a>>) -> Pack
 // The records, each with its package.
 fn package_records<'p, 'a>(
     alloc: Global,
-    records: &[&Record<'a>],
+    records: &[&FileRecord<'a>],
     packages: &'p [Option<Pkg<'a>>],
-) -> Result<Vec<PackageRecord<'p, 'a>>, AllocError>
+) -> Result<Vec<StateRecord<'p, 'a>>, AllocError>
     requires { packages.now ≡ packages_of (map (λ found. found.now) records.now) }
     ensures { IfOk result (λ view. view.items ≡ records_of (map (λ found. found.now) records.now)) }
 {
@@ -84,7 +84,7 @@ fn package_records<'p, 'a>(
 /// Linear in the records and in what they provide. Memory alone can fail.
 pub fn view<'p, 'a>(
     alloc: Global,
-    records: &[&Record<'a>],
+    records: &[&FileRecord<'a>],
     packages: &'p [Option<Pkg<'a>>],
 ) -> Result<Records<'p, 'a>, AllocError>
     requires { packages.now ≡ packages_of (map (λ found. found.now) records.now) }

@@ -16,7 +16,7 @@ Package: x$Version: 1$Architecture: all$$y$→-
 
 fn is_named(text: &[u8], wanted: &str) -> bool {
     match read_alone(text, b"amd64") {
-        Some(entry) => entry.name() == wanted.as_bytes(),
+        Some(indexed) => indexed.name() == wanted.as_bytes(),
         None => wanted == "-",
     }
 }

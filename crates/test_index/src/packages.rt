@@ -1,9 +1,9 @@
 //! Packages files, by rows worked by hand, for the architecture amd64.
 use crate::texts::{is_printed, write_part};
-use index::{Entry, Index, IndexError, Listed};
+use index::{Index, IndexEntry, IndexError};
 use relation::Pkg;
 use rows::unescaped;
-use rules::{Release, Text};
+use rules::{IndexPlace, Release, Text};
 use std::alloc::{AllocError, Global};
 use std::process::Abort;
 
@@ -25,13 +25,17 @@ fn write_counts(alloc: Global, shown: &mut Vec<u8>, pkg: &Pkg<'_>) -> Result<(),
     shown.extend_from_slice(counts.as_bytes())
 }
 
-fn write_pkg(alloc: Global, shown: &mut Vec<u8>, entry: &Entry<'_>) -> Result<(), AllocError> {
+fn write_pkg(alloc: Global, shown: &mut Vec<u8>, entry: &IndexEntry<'_>) -> Result<(), AllocError> {
     let pkg = entry.pkg(alloc)?;
     write_counts(alloc, shown, &pkg)
 }
 
 // The name, the version, those numbers, and whether it is essential.
-fn write_entry(alloc: Global, shown: &mut Vec<u8>, entry: &Entry<'_>) -> Result<(), AllocError> {
+fn write_entry(
+    alloc: Global,
+    shown: &mut Vec<u8>,
+    entry: &IndexEntry<'_>,
+) -> Result<(), AllocError> {
     write_part(shown, entry.name(), b" ")?;
     write_part(shown, entry.version().text(), b" ")?;
     write_pkg(alloc, shown, entry)?;
@@ -62,7 +66,7 @@ fn is_index(alloc: Global, index: &Index<'_>, wanted: &str) -> Result<bool, Allo
 
 // Whether the text is read as this index, or its refusal is printed so.
 fn is_read_as(alloc: Global, text: &[u8], before: usize, wanted: &str) -> Result<bool, AllocError> {
-    match Index::read(alloc, text, release_of(alloc, b"h")?, ARCH, before) {
+    match Index::read(alloc, text, release_of(alloc, b"h")?, ARCH, 1, before) {
         Ok(index) => is_index(alloc, &index, wanted),
         Err(error) => is_printed(alloc, &error, wanted),
     }
@@ -150,31 +154,34 @@ fn has_its_names(alloc: Global, index: &Index<'_>) -> Result<bool, AllocError> {
     Ok(are_b_and_a(index.names(alloc)?.as_slice()))
 }
 
-fn is_same(listed: &Listed<'_>, entry: &Entry<'_>) -> bool {
-    listed.pkg().name() == entry.name() && listed.stanza().line() == entry.stanza().line()
+// The numbers of the packages' stanzas: the one of another architecture is counted too.
+const STANZAS: [usize; 3] = [1, 2, 4];
+
+fn is_at(alloc: Global, entry: &IndexEntry<'_>, place: IndexPlace) -> Result<bool, AllocError> {
+    let package = entry.package(alloc)?;
+    Ok(entry.place() == place && package.place() == place && package.pkg().name() == entry.name())
 }
 
-fn is_listed(alloc: Global, entry: &Entry<'_>) -> Result<bool, AllocError> {
-    let listed = entry.listed(alloc)?;
-    Ok(is_same(&listed, entry))
-}
-
-fn are_listed(alloc: Global, entries: &[Entry<'_>]) -> Result<bool, AllocError> {
-    for entry in entries {
-        if !is_listed(alloc, entry)? {
+fn are_at_their_places(alloc: Global, entries: &[IndexEntry<'_>]) -> Result<bool, AllocError> {
+    for (entry, stanza) in entries.iter().zip(STANZAS) {
+        if !is_at(alloc, entry, IndexPlace { index: 7, stanza })? {
             return Ok(false);
         }
     }
-    Ok(true)
+    Ok(entries.len() == STANZAS.len())
 }
 
 fn is_whole(alloc: Global, index: &Index<'_>) -> Result<bool, AllocError> {
     let is_of_the_host = index.release().host.as_bytes() == b"h".as_slice();
-    Ok(is_of_the_host && has_its_names(alloc, index)? && are_listed(alloc, index.packages())?)
+    Ok(
+        is_of_the_host
+            && has_its_names(alloc, index)?
+            && are_at_their_places(alloc, index.packages())?,
+    )
 }
 
 fn is_read_whole(alloc: Global) -> Result<bool, AllocError> {
-    match Index::read(alloc, FOUR_STANZAS, release_of(alloc, b"h")?, ARCH, 0) {
+    match Index::read(alloc, FOUR_STANZAS, release_of(alloc, b"h")?, ARCH, 7, 0) {
         Ok(index) => is_whole(alloc, &index),
         Err(_) => Ok(false),
     }
@@ -190,7 +197,7 @@ const TWO_STANZAS: &[u8] =
     b"Package: a\nVersion: 1\nArchitecture: all\nDepends: b, c | d\n\nPackage: b\nVersion: 1\nArchitecture: amd64\n";
 
 fn is_index_or_no_memory(alloc: Global) -> Result<bool, AllocError> {
-    match Index::read(alloc, TWO_STANZAS, release_of(alloc, b"")?, ARCH, 0) {
+    match Index::read(alloc, TWO_STANZAS, release_of(alloc, b"")?, ARCH, 1, 0) {
         Ok(index) => Ok(index.packages().len() == 2),
         Err(error) => Ok(error == IndexError::OutOfMemory),
     }

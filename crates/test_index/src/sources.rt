@@ -1,6 +1,6 @@
 //! Sources texts: this project's own format, by rows worked by hand.
 use crate::texts::{is_printed, write_part};
-use index::{Source, SourcesError, read_sources};
+use index::{IndexSource, SourcesError, read_sources};
 use rows::unescaped;
 use rules::{Release, Text};
 use std::alloc::{AllocError, Global};
@@ -50,7 +50,7 @@ fn write_keys(shown: &mut Vec<u8>, release: &Release) -> Result<(), AllocError> 
     Ok(())
 }
 
-fn write_sources(shown: &mut Vec<u8>, sources: &[Source<'_>]) -> Result<(), AllocError> {
+fn write_sources(shown: &mut Vec<u8>, sources: &[IndexSource<'_>]) -> Result<(), AllocError> {
     for source in sources {
         shown.extend_from_slice(source.file())?;
         write_keys(shown, source.release())?;
@@ -59,7 +59,11 @@ fn write_sources(shown: &mut Vec<u8>, sources: &[Source<'_>]) -> Result<(), Allo
     Ok(())
 }
 
-fn are_sources(alloc: Global, sources: &[Source<'_>], wanted: &str) -> Result<bool, AllocError> {
+fn are_sources(
+    alloc: Global,
+    sources: &[IndexSource<'_>],
+    wanted: &str,
+) -> Result<bool, AllocError> {
     let mut shown = Vec::new(alloc);
     write_sources(&mut shown, sources)?;
     Ok(shown.as_slice() == wanted.as_bytes())

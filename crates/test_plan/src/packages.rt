@@ -2,7 +2,7 @@
 //! The status file is read as it is by the program: its records are those of the checkers of plans.
 ghost use Rattle.std.specs.Prelude.{◌≡◌, map};
 ghost use Rattle.rules.specs.Database.{HasDistinctNames};
-ghost use Rattle.rules.specs.Entry.{records_of};
+ghost use Rattle.rules.specs.FileRecord.{records_of};
 ghost use Rattle.status_view.specs.Packages.{packages_of};
 
 use crate::ends::is_against;
@@ -12,7 +12,7 @@ use crate::universes::{is_built, is_looked_up};
 use relation::Pkg;
 use rules::Rule;
 use status::Records;
-use status_store::{Database, Record};
+use status_store::{Database, FileRecord};
 use status_view::{parse_packages, view};
 use std::alloc::Global;
 use std::test::Fail;
@@ -71,7 +71,7 @@ fn is_answer_of(
 // The first word of the question says what is asked.
 fn is_answer_over(
     alloc: Global,
-    records: &[&Record<'_>],
+    records: &[&FileRecord<'_>],
     asked: &str,
     wanted: &str,
 ) -> Result<bool, Fail>
@@ -89,7 +89,7 @@ fn is_answer_over(
 
 fn is_judged(
     alloc: Global,
-    records: &[&Record<'_>],
+    records: &[&FileRecord<'_>],
     asked: &str,
     wanted: &str,
 ) -> Result<bool, Fail> {
@@ -99,7 +99,7 @@ fn is_judged(
 
 fn is_judged_with<'p, 'a>(
     alloc: Global,
-    records: &[&Record<'a>],
+    records: &[&FileRecord<'a>],
     packages: &'p [Option<Pkg<'a>>],
     asked: &str,
     wanted: &str,

@@ -1,6 +1,6 @@
 //! Which rule an unpacking fails in small databases, over packages read from stanzas (Policy 7.4).
 use crate::packages::{ARCH, holds, word_of};
-use index::read_alone;
+use index::{IndexPackage, read_alone};
 use plancheck::unpack_failing;
 use status::Records;
 use std::alloc::Global;
@@ -23,12 +23,13 @@ pub(crate) fn unpacks_so(
     is_listed: bool,
     wanted: &str,
 ) -> Result<bool, Fail> {
-    let Some(entry) = read_alone(text_of(name), ARCH) else {
+    let Some(indexed) = read_alone(text_of(name), ARCH) else {
         return Ok(false);
     };
-    let listed = entry.listed(alloc)?;
+    let pkg = indexed.pkg(alloc)?;
+    let listed = IndexPackage::new(pkg, indexed.is_essential(), indexed.place());
     let given = if is_listed { Some(&listed) } else { None };
-    Ok(word_of(unpack_failing(db, given, entry.name(), entry.version())) == wanted)
+    Ok(word_of(unpack_failing(db, given, indexed.name(), indexed.version())) == wanted)
 }
 
 // `a 1; Conflicts: b` and `b 1`: neither is unpacked beside the other. Each row has what stands, what is unpacked and the

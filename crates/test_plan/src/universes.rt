@@ -2,7 +2,7 @@
 //! (deb-version(7) for the order of versions, apt_preferences(5) for the priorities).
 ghost use Rattle.std.specs.Prelude.{map};
 ghost use Rattle.rules.specs.Database.{HasDistinctNames};
-ghost use Rattle.rules.specs.Entry.{records_of};
+ghost use Rattle.rules.specs.FileRecord.{records_of};
 
 use crate::lookups::{INDEX, is_found};
 use crate::packages::{ARCH, holds_as_spelled};
@@ -10,7 +10,7 @@ use debversion::Version;
 use index::Index;
 use pins::Prefs;
 use rules::{Release, Text};
-use status_store::Record;
+use status_store::FileRecord;
 use std::alloc::{AllocError, Global};
 use std::test::Fail;
 use universe::Universe;
@@ -33,7 +33,7 @@ const B_A_TWO: &[u8] =
     b"Package: b\nVersion: 3\nArchitecture: amd64\n\nPackage: a\nVersion: 2\nArchitecture: all\n";
 
 // The index that the word names; behind a hyphen it is NotAutomatic, and behind two ButAutomaticUpgrades too.
-fn index_of<'a>(alloc: Global, word: &str) -> Result<Index<'a>, Fail> {
+fn index_of<'a>(alloc: Global, word: &str, number: usize) -> Result<Index<'a>, Fail> {
     let kind = word.trim_end_matches('-');
     let text: &'static [u8] = match kind {
         "one" => A_ONE,
@@ -43,13 +43,14 @@ fn index_of<'a>(alloc: Global, word: &str) -> Result<Index<'a>, Fail> {
         _ => b"",
     };
     let release = release_of(alloc, word.len().saturating_sub(kind.len()))?;
-    Ok(Index::read(alloc, text, release, ARCH, 0)?)
+    Ok(Index::read(alloc, text, release, ARCH, number, 0)?)
 }
 
 fn indices_of<'a>(alloc: Global, words: &str) -> Result<Vec<Index<'a>>, Fail> {
     let mut indices = Vec::new(alloc);
     for word in words.split_whitespace() {
-        indices.push(index_of(alloc, word)?)?;
+        let index = index_of(alloc, word, indices.len() + 1)?;
+        indices.push(index)?;
     }
     Ok(indices)
 }
@@ -57,7 +58,7 @@ fn indices_of<'a>(alloc: Global, words: &str) -> Result<Vec<Index<'a>>, Fail> {
 /// Whether this is the universe of the records and of what the words say: the indices, the preferences and the request.
 pub(crate) fn is_built(
     alloc: Global,
-    records: &[&Record<'_>],
+    records: &[&FileRecord<'_>],
     words: &str,
     wanted: &str,
 ) -> Result<bool, Fail>
@@ -72,7 +73,7 @@ pub(crate) fn is_built(
 /// Whether the universe of the records and one index answers the question so.
 pub(crate) fn is_looked_up(
     alloc: Global,
-    records: &[&Record<'_>],
+    records: &[&FileRecord<'_>],
     asked: &str,
     wanted: &str,
 ) -> Result<bool, Fail>
@@ -84,7 +85,7 @@ pub(crate) fn is_looked_up(
 
 fn says_by(
     alloc: Global,
-    records: &[&Record<'_>],
+    records: &[&FileRecord<'_>],
     indices: &str,
     prefs: &Prefs,
     request: &str,
@@ -107,7 +108,7 @@ fn says_by(
 
 fn says_over(
     alloc: Global,
-    records: &[&Record<'_>],
+    records: &[&FileRecord<'_>],
     indices: &[Index<'_>],
     prefs: &Prefs,
     request: &str,

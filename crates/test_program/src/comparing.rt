@@ -1,7 +1,7 @@
 //! Two versions compared: empty ones (deb-version(7)), and by the calls below the command line.
 use crate::memory::{Memory, run_line};
 use cli::{Exit, Outcome, comparison_line, exit_of_comparison, outcome_of_comparison};
-use cli_engine::{Relation, compare};
+use cli_engine::{Comparison, compare};
 use std::alloc::{AllocError, Global};
 use std::cmp::Ordering;
 use std::test::Fail;
@@ -32,8 +32,8 @@ fn an_empty_version_is_refused(rt: HostRuntime) -> Result<(), Fail> {
 
 #[test]
 fn a_relation_is_that_of_the_order(rt: HostRuntime) {
-    assert!(rt; matches!(compare(b"1", Relation::Later, b"0"), Ok(true)));
-    assert!(rt; Relation::NotEqual.holds(Ordering::Less));
+    assert!(rt; matches!(compare(b"1", Comparison::Later, b"0"), Ok(true)));
+    assert!(rt; Comparison::NotEqual.holds(Ordering::Less));
     assert!(rt; exit_of_comparison(false) == Exit::No);
 }
 

@@ -4,7 +4,7 @@ ghost use Rattle.std.specs.Prelude.{None, Some, bytes_eq, if◌then◌else◌};
 use crate::memory::Memory;
 use crate::scenario::add_plan;
 use cli::{
-    Arguments, Candidate, Exit, Fault, Host, Options, Outcome, Place, Query, ReadError, Refusal,
+    Arguments, Candidate, Exit, Fault, Host, Input, Options, Outcome, Query, ReadError, Refusal,
     candidate_line, check_plan, exit_of_candidate, exit_of_refusal, exit_of_verdict,
     find_candidate, outcome_of_answer, outcome_of_candidate, verdict_line,
 };
@@ -53,7 +53,7 @@ const OPTIONS: Options<'static> = Options {
 const PATHS: Arguments<'static> = Arguments {
     options: OPTIONS,
     request: "request",
-    plan: "plan",
+    judged: "plan",
 };
 
 // Whether the outcome is this line on standard output, with the status of an answer that is yes.
@@ -148,7 +148,7 @@ fn a_candidate_is_printed_as_an_answer(rt: HostRuntime) -> Result<(), Fail> {
 }
 
 fn are_sources_unread(refusal: &Refusal) -> bool {
-    refusal.place == Place::Sources
+    refusal.place == Input::Sources
         && matches!(refusal.fault, Fault::Read)
         && exit_of_refusal(refusal) == Exit::Device
 }

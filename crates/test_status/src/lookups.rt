@@ -5,10 +5,10 @@ ghost use Rattle.std.specs.List.{All};
 ghost use Rattle.rules.specs.Database.{HasDistinctNames, IsPresent};
 ghost use Rattle.rules.specs.Step.{is_among, is_named};
 
-use index::{Entry, Listed, read_alone};
+use index::{IndexPackage, IndexStanza, read_alone};
 use relation::Pkg;
 use rules::{Flag, Name, State, Want, is_name};
-use status::{PackageRecord, Records};
+use status::{Records, StateRecord};
 use std::alloc::{AllocError, Global};
 use std::test::Fail;
 
@@ -38,15 +38,18 @@ unpack b, remove a, purge a, unpack a→o=config-files b=unpacked a=unpacked→b
 unpack a, unpack c, configure a c→a=installed o=config-files c=installed→a→→→
 ";
 
-fn listed<'a>(alloc: Global, entry: &Entry<'a>) -> Result<Listed<'a>, AllocError> {
-    Ok(Listed::new(entry.pkg(alloc)?, false, entry.stanza().again()))
+fn package_of<'a>(
+    alloc: Global,
+    indexed: &IndexStanza<'a>,
+) -> Result<IndexPackage<'a>, AllocError> {
+    Ok(IndexPackage::new(indexed.pkg(alloc)?, false, indexed.place()))
 }
 
-fn index_of<'a>(alloc: Global) -> Result<Vec<Listed<'a>>, AllocError> {
+fn index_of<'a>(alloc: Global) -> Result<Vec<IndexPackage<'a>>, AllocError> {
     let mut index = Vec::new(alloc);
     for text in [A, B, B2, C] {
-        if let Some(entry) = read_alone(text, b"amd64") {
-            index.push(listed(alloc, &entry)?)?;
+        if let Some(indexed) = read_alone(text, b"amd64") {
+            index.push(package_of(alloc, &indexed)?)?;
         }
     }
     Ok(index)
@@ -63,13 +66,13 @@ fn names_of(alloc: Global, words: &str) -> Result<Vec<Name>, AllocError> {
     Ok(names)
 }
 
-fn are_others(name: &[u8], records: &[PackageRecord<'_, '_>]) -> bool
+fn are_others(name: &[u8], records: &[StateRecord<'_, '_>]) -> bool
     ensures { IsTrue result ↔ All (λ found. name.now ≢ found.name) records.now }
 {
     records.iter().all(|found| found.name() != name)
 }
 
-fn are_distinct(records: &[PackageRecord<'_, '_>]) -> bool
+fn are_distinct(records: &[StateRecord<'_, '_>]) -> bool
     ensures { IsTrue result → HasDistinctNames records.now }
 {
     match records.split_first() {
@@ -78,31 +81,31 @@ fn are_distinct(records: &[PackageRecord<'_, '_>]) -> bool
     }
 }
 
-fn is_other_or_present(name: &[u8], found: &PackageRecord<'_, '_>) -> bool
+fn is_other_or_present(name: &[u8], found: &StateRecord<'_, '_>) -> bool
     ensures { IsTrue result ↔ (is_named name.now found.now ≡ true → IsPresent found.now) }
 {
     found.name() != name || found.state().is_present()
 }
 
-fn is_present(records: &[PackageRecord<'_, '_>], name: &[u8]) -> bool
+fn is_present(records: &[StateRecord<'_, '_>], name: &[u8]) -> bool
     ensures { IsTrue result ↔ All (λ found. is_named name.now found ≡ true → IsPresent found) records.now }
 {
     records.iter().all(|found| is_other_or_present(name, found))
 }
 
-fn is_among(names: &[Name], found: &PackageRecord<'_, '_>) -> bool
+fn is_among(names: &[Name], found: &StateRecord<'_, '_>) -> bool
     ensures { result ≡ is_among names.now found.now }
 {
     names.iter().any(|name| found.name() == name.as_bytes())
 }
 
-fn is_not_among_or_present(names: &[Name], found: &PackageRecord<'_, '_>) -> bool
+fn is_not_among_or_present(names: &[Name], found: &StateRecord<'_, '_>) -> bool
     ensures { IsTrue result ↔ (is_among names.now found.now ≡ true → IsPresent found.now) }
 {
     !is_among(names, found) || found.state().is_present()
 }
 
-fn are_present(records: &[PackageRecord<'_, '_>], names: &[Name]) -> bool
+fn are_present(records: &[StateRecord<'_, '_>], names: &[Name]) -> bool
     ensures { IsTrue result ↔ All (λ found. is_among names.now found ≡ true → IsPresent found) records.now }
 {
     records
@@ -134,7 +137,7 @@ fn act(db: &mut Records<'_, '_>, verb: &str, name: &[u8])
     }
 }
 
-fn listed_as<'p, 'a>(index: &'p [Listed<'a>], word: &str) -> Option<&'p Listed<'a>> {
+fn listed_as<'p, 'a>(index: &'p [IndexPackage<'a>], word: &str) -> Option<&'p IndexPackage<'a>> {
     match word {
         "a" => index.get(0),
         "b" => index.get(1),
@@ -146,7 +149,7 @@ fn listed_as<'p, 'a>(index: &'p [Listed<'a>], word: &str) -> Option<&'p Listed<'
 
 fn unpack<'p, 'a>(
     db: &mut Records<'p, 'a>,
-    index: &'p [Listed<'a>],
+    index: &'p [IndexPackage<'a>],
     word: &str,
 ) -> Result<(), AllocError>
     requires { HasDistinctNames db.old }
@@ -161,7 +164,7 @@ fn unpack<'p, 'a>(
 fn step<'p, 'a>(
     alloc: Global,
     db: &mut Records<'p, 'a>,
-    index: &'p [Listed<'a>],
+    index: &'p [IndexPackage<'a>],
     text: &str,
 ) -> Result<(), AllocError> {
     let (verb, words) = text.split_once(' ').unwrap_or((text, ""));
@@ -185,11 +188,13 @@ fn state_word(state: State) -> &'static str {
         State::HalfInstalled => "half-installed",
         State::Unpacked => "unpacked",
         State::HalfConfigured => "half-configured",
+        State::TriggersAwaited => "triggers-awaited",
+        State::TriggersPending => "triggers-pending",
         State::Installed => "installed",
     }
 }
 
-fn is_left(found: &PackageRecord<'_, '_>, wanted: Option<&str>) -> bool {
+fn is_left(found: &StateRecord<'_, '_>, wanted: Option<&str>) -> bool {
     match wanted.unwrap_or("").split_once('=') {
         Some((name, state)) => {
             found.name() == name.as_bytes() && state_word(found.state()) == state
@@ -199,7 +204,7 @@ fn is_left(found: &PackageRecord<'_, '_>, wanted: Option<&str>) -> bool {
 }
 
 // Whether these are the names with their states.
-fn are_left(records: &[PackageRecord<'_, '_>], wanted: Option<&str>) -> bool {
+fn are_left(records: &[StateRecord<'_, '_>], wanted: Option<&str>) -> bool {
     let mut words = wanted.unwrap_or("").split_whitespace();
     for found in records {
         if !is_left(found, words.next()) {
@@ -209,7 +214,7 @@ fn are_left(records: &[PackageRecord<'_, '_>], wanted: Option<&str>) -> bool {
     words.next().is_none()
 }
 
-fn holds(found: &PackageRecord<'_, '_>, name: &[u8]) -> bool {
+fn holds(found: &StateRecord<'_, '_>, name: &[u8]) -> bool {
     found.name() == name
         || found
             .provides()
@@ -238,24 +243,24 @@ fn are_found(db: &Records<'_, '_>, name: &[u8], wanted: Option<&str>) -> bool {
 }
 
 // The record of `a`, which is installed.
-fn installed<'p, 'a>(a: &'p Pkg<'a>) -> PackageRecord<'p, 'a> {
-    PackageRecord::present(
+fn installed<'p, 'a>(a: &'p Pkg<'a>) -> StateRecord<'p, 'a> {
+    StateRecord::present(
         a,
         State::Installed,
         Want::Install,
-        Flag::Sound,
+        Flag::Ok,
         Some(a.version().again()),
         false,
     )
 }
 
 // The record of `o`, of which configuration files are left.
-fn removed<'p, 'a>() -> PackageRecord<'p, 'a> {
-    PackageRecord::absent(
+fn removed<'p, 'a>() -> StateRecord<'p, 'a> {
+    StateRecord::absent(
         b"o",
         State::ConfigFiles,
         Want::Deinstall,
-        Flag::Sound,
+        Flag::Ok,
         None,
         None,
         false,
@@ -269,7 +274,7 @@ fn start<'p, 'a>(alloc: Global, a: &'p Pkg<'a>) -> Result<Records<'p, 'a>, Alloc
 fn takes<'p, 'a>(
     alloc: Global,
     db: &mut Records<'p, 'a>,
-    index: &'p [Listed<'a>],
+    index: &'p [IndexPackage<'a>],
     steps: &str,
 ) -> Result<(), AllocError> {
     for text in steps.split(", ") {
@@ -291,7 +296,7 @@ fn is_so(db: &Records<'_, '_>, wanted: &str) -> bool {
 fn leaves<'p, 'a>(
     alloc: Global,
     db: &mut Records<'p, 'a>,
-    index: &'p [Listed<'a>],
+    index: &'p [IndexPackage<'a>],
     row: &str,
 ) -> Result<bool, AllocError> {
     let (steps, wanted) = row.split_once('→').unwrap_or((row, ""));
@@ -299,7 +304,7 @@ fn leaves<'p, 'a>(
     Ok(is_so(db, wanted))
 }
 
-fn holds_over(alloc: Global, index: &[Listed<'_>], row: &str) -> Result<bool, AllocError> {
+fn holds_over(alloc: Global, index: &[IndexPackage<'_>], row: &str) -> Result<bool, AllocError> {
     let Some(a) = index.first() else {
         return Ok(false);
     };

@@ -23,7 +23,7 @@ fn want_word(want: Want) -> &'static str {
 
 fn flag_word(flag: Flag) -> &'static str {
     match flag {
-        Flag::Sound => "Sound",
+        Flag::Ok => "Sound",
         Flag::ReinstallRequired => "ReinstallRequired",
     }
 }
@@ -35,6 +35,8 @@ fn state_word(state: State) -> &'static str {
         State::HalfInstalled => "HalfInstalled",
         State::Unpacked => "Unpacked",
         State::HalfConfigured => "HalfConfigured",
+        State::TriggersAwaited => "TriggersAwaited",
+        State::TriggersPending => "TriggersPending",
         State::Installed => "Installed",
     }
 }

@@ -1,9 +1,9 @@
 //! What the clauses do not say: that the calls succeed, and worked stanzas. The rows were written by hand: the words are
 //! those of dpkg(1), the architecture is amd64, and `$` stands for a newline.
 use crate::marks::{has_mark, has_versions};
-use index::{Entry, read_alone};
+use index::{IndexStanza, read_alone};
 use rows::unescaped;
-use status_record::Record;
+use status_record::FileRecord;
 use status_text::{Slot, StatusError, read_status};
 use std::alloc::{AllocError, Global};
 use std::test::Fail;
@@ -14,9 +14,9 @@ const UNPACKED: &[u8] =
     b"Filename: f\nPackage: x\nVersion: 2\nArchitecture: all\nsha256: 0\nConffiles:\n /etc/new n\nDepends: y, z\nDescription: d\n more\n";
 
 // The record after an action: `u` unpacks over it, `d` deconfigures, `c` configures and `r` removes it.
-fn after<'a>(record: &Record<'a>, entry: &Entry<'a>, action: u8) -> Record<'a> {
+fn after<'a>(record: &FileRecord<'a>, indexed: &IndexStanza<'a>, action: u8) -> FileRecord<'a> {
     match action {
-        b'u' => record.unpacked_over(entry),
+        b'u' => record.unpacked_over(indexed),
         b'd' if record.is_present() => record.deconfigured(),
         b'c' if record.is_present() => record.configured(),
         b'r' if record.is_present() => record.removed(),
@@ -25,26 +25,26 @@ fn after<'a>(record: &Record<'a>, entry: &Entry<'a>, action: u8) -> Record<'a> {
 }
 
 // The last record of the text.
-fn record_of(alloc: Global, text: &[u8]) -> Result<Option<Record<'_>>, StatusError<'_>> {
+fn record_of(alloc: Global, text: &[u8]) -> Result<Option<FileRecord<'_>>, StatusError<'_>> {
     let mut slots = read_status(alloc, text, ARCH)?;
     match slots.pop() {
-        Some(Slot::Recorded(found)) => Ok(Some(Record::read(found))),
+        Some(Slot::Recorded(found)) => Ok(Some(FileRecord::read(found))),
         _ => Ok(None),
     }
 }
 
 // What the actions leave of the record.
-fn left_of<'a>(record: &Record<'a>, actions: &str) -> Option<Record<'a>> {
-    let entry = read_alone(UNPACKED, ARCH)?;
+fn left_of<'a>(record: &FileRecord<'a>, actions: &str) -> Option<FileRecord<'a>> {
+    let indexed = read_alone(UNPACKED, ARCH)?;
     let mut left = record.again();
     for action in actions.as_bytes() {
-        left = after(&left, &entry, *action);
+        left = after(&left, &indexed, *action);
     }
     Some(left)
 }
 
 // Whether the record is written so, or what is written is read as the record of these words.
-fn is_written_so(alloc: Global, record: &Record<'_>, wanted: &str) -> Result<bool, Fail> {
+fn is_written_so(alloc: Global, record: &FileRecord<'_>, wanted: &str) -> Result<bool, Fail> {
     let mut out = Vec::new(alloc);
     record.write(&mut out)?;
     if wanted.contains(':') {
@@ -65,7 +65,7 @@ fn is_read_as(alloc: Global, text: &[u8], wanted: &str) -> Result<bool, Fail> {
     }
 }
 
-fn is_shown(record: &Record<'_>, wanted: &str) -> bool {
+fn is_shown(record: &FileRecord<'_>, wanted: &str) -> bool {
     has_mark(wanted, record.want(), record.flag(), record.state())
         && has_versions(
             wanted,
@@ -75,7 +75,12 @@ fn is_shown(record: &Record<'_>, wanted: &str) -> bool {
         )
 }
 
-fn is_left(alloc: Global, record: &Record<'_>, actions: &str, wanted: &str) -> Result<bool, Fail> {
+fn is_left(
+    alloc: Global,
+    record: &FileRecord<'_>,
+    actions: &str,
+    wanted: &str,
+) -> Result<bool, Fail> {
     match left_of(record, actions) {
         Some(left) => is_written_so(alloc, &left, wanted),
         None => Ok(false),
@@ -133,7 +138,7 @@ fn what_is_written_reads_as_the_record(rt: HostRuntime) -> Result<(), Fail> {
     Ok(())
 }
 
-fn is_unpacked(record: &Record<'_>) -> bool {
+fn is_unpacked(record: &FileRecord<'_>) -> bool {
     record.stands()
         && !record.is_installed()
         && !record.is_held()
@@ -143,7 +148,7 @@ fn is_unpacked(record: &Record<'_>) -> bool {
         && record.config_version().is_none()
 }
 
-fn has_two_dependencies(alloc: Global, record: &Record<'_>) -> Result<bool, AllocError> {
+fn has_two_dependencies(alloc: Global, record: &FileRecord<'_>) -> Result<bool, AllocError> {
     if !record.is_present() {
         return Ok(false);
     }
@@ -152,10 +157,10 @@ fn has_two_dependencies(alloc: Global, record: &Record<'_>) -> Result<bool, Allo
 }
 
 fn has_its_package(alloc: Global, text: &[u8]) -> Result<bool, AllocError> {
-    let Some(entry) = read_alone(text, ARCH) else {
+    let Some(indexed) = read_alone(text, ARCH) else {
         return Ok(false);
     };
-    let record = Record::unpacked(&entry);
+    let record = FileRecord::unpacked(&indexed);
     Ok(is_unpacked(&record) && has_two_dependencies(alloc, &record)?)
 }
 
@@ -165,7 +170,7 @@ fn an_unpacked_record_has_its_package(rt: HostRuntime) -> Result<(), Fail> {
     Ok(())
 }
 
-fn is_written_or_left(alloc: Global, record: &Record<'_>) -> bool {
+fn is_written_or_left(alloc: Global, record: &FileRecord<'_>) -> bool {
     let mut out = Vec::new(alloc);
     match record.write(&mut out) {
         Ok(()) => out.len() == 103,
@@ -176,7 +181,9 @@ fn is_written_or_left(alloc: Global, record: &Record<'_>) -> bool {
 #[test]
 fn a_refused_growth_leaves_the_text(rt: HostRuntime) {
     match read_alone(UNPACKED, ARCH) {
-        Some(entry) => assert!(rt; is_written_or_left(rt.alloc(), &Record::unpacked(&entry))),
+        Some(indexed) => assert!(rt;
+            is_written_or_left(rt.alloc(), &FileRecord::unpacked(&indexed))
+        ),
         None => assert!(rt; false),
     }
 }

@@ -2,7 +2,7 @@
 //! leave were worked out by hand from dpkg(1) and Debian Policy 5; the architecture is amd64.
 use plantext::read_step;
 use rows::unescaped;
-use status_store::{ApplyError, Database, Record, Step};
+use status_store::{ApplyError, Database, FileRecord, Step};
 use std::alloc::{AllocError, Global};
 use std::str;
 use std::test::Fail;
@@ -133,7 +133,7 @@ fn steps_leave_these_texts_which_are_read_again(rt: HostRuntime) -> Result<(), F
 const NAMED: &[u8] =
     b"Package: b\nStatus: install ok installed\nArchitecture: all\nVersion: 1\n\nPackage: x\nStatus: unknown ok not-installed\nArchitecture: i386\n\nPackage: a\nStatus: hold ok not-installed\n";
 
-fn is_held_alone(record: Option<&Record<'_>>) -> bool {
+fn is_held_alone(record: Option<&FileRecord<'_>>) -> bool {
     match record {
         Some(record) => record.is_held() && !record.is_present(),
         None => false,

@@ -4,11 +4,11 @@ use Rattle.std.specs.Ordering.{ordering_then}
 use Rattle.std.specs.declared.cmp.Ordering.{Ordering}
 use Rattle.rules.specs.Name.{name_cmp}
 use Rattle.rules.specs.Package.{Pkg}
-use Rattle.rules.specs.Step.{Listed, no_relations}
+use Rattle.rules.specs.Step.{IndexPackage, no_relations}
 use Rattle.rules.specs.Version.{version_cmp}
 
 -- the counting package: the one that stands, or else that of the index; one of the two is there
-abbrev pub counting_pkg : Option Pkg → Option Listed → Pkg
+abbrev pub counting_pkg : Option Pkg → Option IndexPackage → Pkg
 counting_pkg (Some standing) listed = standing
 counting_pkg None (Some listed) = listed.pkg
 counting_pkg None None = record { name = []; version = []; relations = no_relations }

@@ -4,7 +4,7 @@ use Rattle.std.specs.List.{AllPairs, position, slice_get}
 use Rattle.std.specs.Option.{option_and_then, option_map}
 use Rattle.rules.specs.Available.{is_of}
 use Rattle.rules.specs.Package.{Pkg}
-use Rattle.rules.specs.Step.{Listed}
+use Rattle.rules.specs.Step.{IndexPackage}
 use Rattle.rules.specs.Universe.{Pair, Start}
 
 -- the item of this number, counted from 1
@@ -13,7 +13,7 @@ numbered zero items = None
 numbered (suc place) items = slice_get items place
 
 -- the stanza in the indices of the pair of this number, if the pair is in an index
-abbrev pub numbered_stanza : ℕ → List Pair → Option Listed
+abbrev pub numbered_stanza : ℕ → List Pair → Option IndexPackage
 numbered_stanza number pairs = option_and_then (λ pair. pair.listed) (numbered number pairs)
 
 -- the place of the pair of this version of the name, counted from 0, if there is one

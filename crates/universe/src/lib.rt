@@ -13,7 +13,7 @@ mod universe;
 
 pub use candidate::Candidate;
 pub use candidates::Candidates;
-pub use index::Entry;
+pub use index::IndexEntry;
 pub use packages::{CountingPkg, lend_packages};
 pub use pair::Pair;
 pub use pairs::Pairs;

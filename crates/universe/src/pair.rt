@@ -8,7 +8,7 @@ ghost use Rattle.rules.specs.Universe.{pair_cmp};
 ghost use Rattle.rules.specs.UniverseLaws.{pair_cmp_total};
 
 use debversion::Version;
-use index::Entry;
+use index::IndexEntry;
 use relation::Pkg;
 use std::alloc::{AllocError, Global};
 use std::cmp::Ordering;
@@ -20,7 +20,7 @@ use std::marker::Model;
 #[derive(Drop)]
 pub struct Pair<'p, 'a> {
     standing: Option<Box<Pkg<'a>>>,
-    listed: Option<&'p Entry<'a>>,
+    listed: Option<&'p IndexEntry<'a>>,
 }
 
 impl<'p, 'a> Model for Pair<'p, 'a> {
@@ -42,7 +42,7 @@ impl<'p, 'a> Pair<'p, 'a> {
     pub fn standing(
         alloc: Global,
         pkg: Pkg<'a>,
-        listed: Option<&'p Entry<'a>>,
+        listed: Option<&'p IndexEntry<'a>>,
     ) -> Result<Pair<'p, 'a>, AllocError>
         ensures { IfOk result (λ pair. pair ≡ record { pkg = pkg.entry; listed = option_copied listed.entry }) }
     {
@@ -51,7 +51,7 @@ impl<'p, 'a> Pair<'p, 'a> {
     }
 
     /// The pair of a package that the indices alone have.
-    pub fn listed_alone(listed: &'p Entry<'a>) -> Pair<'p, 'a>
+    pub fn listed_alone(listed: &'p IndexEntry<'a>) -> Pair<'p, 'a>
         ensures { result ≡ record { pkg = listed.now.pkg; listed = Some listed.now } }
     {
         Pair {
@@ -99,7 +99,7 @@ impl<'p, 'a> Pair<'p, 'a> {
     }
 
     /// The stanza of the pair in the indices, if there is one.
-    pub fn listed(&self) -> Option<&'p Entry<'a>>
+    pub fn listed(&self) -> Option<&'p IndexEntry<'a>>
         ensures { option_copied result ≡ self.now.listed }
     {
         self.listed

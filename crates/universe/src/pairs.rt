@@ -11,7 +11,7 @@ ghost use Rattle.universe.specs.Universe.{number_among, place_among};
 
 use crate::pair::Pair;
 use debversion::Version;
-use index::Entry;
+use index::IndexEntry;
 use std::cmp::Ordering;
 use std::marker::Model;
 
@@ -98,7 +98,7 @@ impl<'p, 'a> Pairs<'p, 'a> {
     }
 
     // The stanza of this version of the name, if the pair is admitted and in an index. A binary search.
-    pub(crate) fn listed_of(&self, name: &[u8], version: &Version<'_>) -> Option<&'p Entry<'a>>
+    pub(crate) fn listed_of(&self, name: &[u8], version: &Version<'_>) -> Option<&'p IndexEntry<'a>>
         ensures { option_copied result ≡ listed_among self.now name.now version.now }
     {
         match pair_of(self.pairs.as_slice(), name, version) {

@@ -14,7 +14,7 @@ use crate::pairs::Pairs;
 use crate::start::Start;
 use crate::starts::Starts;
 use debversion::Version;
-use index::Entry;
+use index::IndexEntry;
 use rules::Goal;
 use std::alloc::{AllocError, Global};
 use std::marker::Model;
@@ -104,7 +104,7 @@ impl<'p, 'a> Universe<'p, 'a> {
     }
 
     /// The stanza in the indices of the pair of this number, counted from 1, if the pair is in an index.
-    pub fn stanza(&self, number: u32) -> Option<&'p Entry<'a>>
+    pub fn stanza(&self, number: u32) -> Option<&'p IndexEntry<'a>>
         ensures { option_copied result ≡ numbered_stanza number self.now.pairs }
     {
         match self.pair(number) {
@@ -139,7 +139,7 @@ impl<'p, 'a> Universe<'p, 'a> {
 
     /// The stanza of this version of the name, if the pair is admitted and in an index. A binary search among the
     /// pairs.
-    pub fn listed_of(&self, name: &[u8], version: &Version<'_>) -> Option<&'p Entry<'a>>
+    pub fn listed_of(&self, name: &[u8], version: &Version<'_>) -> Option<&'p IndexEntry<'a>>
         ensures { option_copied result ≡ listed_of self.now name.now version.now }
     {
         self.pairs.listed_of(name, version)

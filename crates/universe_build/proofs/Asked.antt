@@ -4,7 +4,7 @@ use Rattle.std.specs.List.{Any, Contains, cons_option, filter_map}
 use Rattle.std.proofs.lemmas.Option.{same_Some}
 use Rattle.rules.specs.Available.{is_of}
 use Rattle.rules.specs.ElementLaws.{Any-elim, Any-from_list_any, Any-intro, Contains-cons, Contains-head, Contains-map, Contains-map_intro, Contains-nil, Contains-rest, list_any-from_contains}
-use Rattle.rules.specs.Step.{Listed}
+use Rattle.rules.specs.Step.{IndexPackage}
 use Rattle.rules.specs.Universe.{IsOf, NamesExactly}
 use Rattle.rules.specs.Version.{SameVersion}
 use Rattle.rules.specs.VersionOrderLaws.{SameVersion-symm, SameVersion-trans}
@@ -98,7 +98,7 @@ NamesExactly-is name version goal.UpgradeAll names = absurd names
 NamesExactly-is name version goal.NoRemove names = absurd names
 
 -- a stanza that is asked for is named by a goal, as is each text of its version
-pub is_sought-names : (goals : List Goal) (found : Listed) → is_sought (exacts_of goals) found ≡ true
+pub is_sought-names : (goals : List Goal) (found : IndexPackage) → is_sought (exacts_of goals) found ≡ true
     → (name version : List ℕ) → IsOf name version found.pkg → Any (NamesExactly name version) goals
 is_sought-names goals found passes name version of = Any-elim
     (λ (exact : Exact). is_of exact.name exact.version found.pkg ≡ true) (exacts_of goals) (Any (NamesExactly name version) goals)
@@ -111,7 +111,7 @@ is_sought-names goals found passes name version of = Any-elim
     (Any-from_list_any (λ (exact : Exact). is_of exact.name exact.version found.pkg) (exacts_of goals) passes)
 
 -- a stanza that a goal names is asked for
-pub is_sought-from : (goals : List Goal) (found : Listed) (name version : List ℕ) → IsOf name version found.pkg
+pub is_sought-from : (goals : List Goal) (found : IndexPackage) (name version : List ℕ) → IsOf name version found.pkg
     → Any (NamesExactly name version) goals → is_sought (exacts_of goals) found ≡ true
 is_sought-from goals found name version of some = Any-elim (NamesExactly name version) goals (is_sought (exacts_of goals) found ≡ true)
     (λ asked within names.
@@ -123,13 +123,13 @@ is_sought-from goals found name version of some = Any-elim (NamesExactly name ve
     some
 
 -- a stanza of the best offer's version is sought
-pub sought_best : (best : List Offer) (offer : Offer) → Contains best offer → (found : Listed)
+pub sought_best : (best : List Offer) (offer : Offer) → Contains best offer → (found : IndexPackage)
     → IsOf offer.name offer.version found.pkg → is_sought (best_exacts best) found ≡ true
 sought_best best offer within found of = list_any-from_contains (λ (exact : Exact). is_of exact.name exact.version found.pkg)
     (best_exacts best) (offered_exact offer) (Contains-map_intro offered_exact best offer within)
     (is_of-from offer.name offer.version found.pkg of)
 
-pub best_sought : (best : List Offer) (found : Listed) → is_sought (best_exacts best) found ≡ true
+pub best_sought : (best : List Offer) (found : IndexPackage) → is_sought (best_exacts best) found ≡ true
     → (offer : Offer) × Contains best offer × IsOf offer.name offer.version found.pkg
 best_sought best found passes = Any-elim (λ (exact : Exact). is_of exact.name exact.version found.pkg ≡ true) (best_exacts best)
     ((offer : Offer) × Contains best offer × IsOf offer.name offer.version found.pkg)

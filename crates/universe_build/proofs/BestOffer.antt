@@ -10,7 +10,7 @@ use Rattle.std.proofs.lemmas.Map.Text.{is_eq-slice_cmp}
 use Rattle.rules.specs.Available.{same_version}
 use Rattle.rules.specs.Name.{name_cmp}
 use Rattle.rules.specs.NamedLaws.{bytes_eq-true, bytes_eq-same}
-use Rattle.rules.specs.Step.{Listed}
+use Rattle.rules.specs.Step.{IndexPackage}
 use Rattle.rules.specs.Version.{version_cmp}
 use Rattle.universe.proofs.Finding.{find-none, find-some, not_back, sorted-one}
 use Rattle.universe.proofs.Searching.{searched_find, searched_none}
@@ -68,7 +68,7 @@ named_found best name ascending offer within named = at (find (λ (other : Offer
         ap Some (one_named best name ascending offer other within there.0 named there.1) ∙ sym found
 
 -- where no offer has the name, no stanza of it is of a best offer's version
-pub none_best : (best : List Offer) (found : Listed) → None ≡ find (λ offer. bytes_eq offer.name found.pkg.name) best
+pub none_best : (best : List Offer) (found : IndexPackage) → None ≡ find (λ offer. bytes_eq offer.name found.pkg.name) best
     → is_sought (best_exacts best) found ≡ false
 none_best best found none = false_from_ne_true (is_sought (best_exacts best) found) (λ sought.
     let there = best_sought best found sought in
@@ -77,7 +77,7 @@ none_best best found none = false_from_ne_true (is_sought (best_exacts best) fou
     let f : bytes_eq there.0.name found.pkg.name ≡ true = bytes_eq-same there.0.name found.pkg.name (sym there.2.0) in cc)
 
 -- a stanza is of the best version where its version is that of its name's offer
-pub best_version : (best : List Offer) (found : Listed) → IsStrictlySortedBy offer_name_cmp best → (offer : Offer)
+pub best_version : (best : List Offer) (found : IndexPackage) → IsStrictlySortedBy offer_name_cmp best → (offer : Offer)
     → Some offer ≡ find (λ other. bytes_eq other.name found.pkg.name) best
     → is_sought (best_exacts best) found ≡ same_version found.pkg.version offer.version
 best_version best found ascending offer is = at (same_version found.pkg.version offer.version) refl

@@ -3,7 +3,7 @@ use Rattle.std.proofs.Common.{◌≡◌, List, map, sym, ap, ◌∙◌}
 use Rattle.pins.specs.Prefs.{Preferences}
 use Rattle.rules.specs.Available.{Index, all_listed}
 use Rattle.rules.specs.Database.{Record}
-use Rattle.rules.specs.Step.{Listed}
+use Rattle.rules.specs.Step.{IndexPackage}
 use Rattle.rules.specs.Universe.{IsUniverse, Pair}
 use Rattle.rules.specs.declared.goal.GoalLine.{GoalLine}
 use Rattle.candidates.specs.Inputs.{inputs_of}
@@ -15,15 +15,15 @@ use Rattle.universe_build.proofs.Made.{universe_of}
 use Rattle.universe_build.proofs.Searching.{first_unknown-ordered}
 
 -- the first unknown name among the records and the stanzas in order is that of the request
-pub first_unknown-offered : (start known : List Record) (indices : List Index) (prefs : Preferences) (ordered among : List Listed)
+pub first_unknown-offered : (start known : List Record) (indices : List Index) (prefs : Preferences) (ordered among : List IndexPackage)
     (best : List Offer) (lines : List GoalLine) → AreOffered start indices prefs known ordered best → among ≡ ordered
     → first_unknown start (all_listed indices) lines ≡ first_unknown known among lines
 first_unknown-offered start known indices prefs ordered among best lines offered same =
-    sym (ap (λ (o : List Listed). first_unknown known o lines) same
+    sym (ap (λ (o : List IndexPackage). first_unknown known o lines) same
     ∙ first_unknown-ordered start known (all_listed indices) ordered offered.records offered.stanzas lines)
 
 -- the universe of the pairs that are chosen, and of the candidates
-pub universe_offered : (start known : List Record) (indices : List Index) (prefs : Preferences) (ordered : List Listed)
+pub universe_offered : (start known : List Record) (indices : List Index) (prefs : Preferences) (ordered : List IndexPackage)
     (best : List Offer) (lines : List GoalLine) (pairs : List Pair) → AreOffered start indices prefs known ordered best
     → ArePairs (chosen_pairs known ordered best (exacts_of (goals_of lines))) pairs
     → IsUniverse (inputs_of start indices prefs (goals_of lines)) (universe_with start lines pairs (map candidate_at best))

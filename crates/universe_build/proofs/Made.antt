@@ -12,7 +12,7 @@ use Rattle.pins.specs.Prefs.{Preferences}
 use Rattle.rules.specs.Package.{Pkg}
 use Rattle.rules.specs.Priority.{HasPriority, HasPriorityAs, IsCandidate, IsEligible}
 use Rattle.rules.specs.State.{is_hold}
-use Rattle.rules.specs.Step.{Listed}
+use Rattle.rules.specs.Step.{IndexPackage}
 use Rattle.rules.specs.Universe.{Candidate, IsAdmitted, IsKeptCandidate, IsOf, IsOffered, IsUniverse, Pair, candidate_cmp, pair_cmp, starts_of}
 use Rattle.rules.specs.Version.{SameVersion}
 use Rattle.rules.specs.VersionOrderLaws.{SameVersion-refl, SameVersion-symm, SameVersion-trans}
@@ -40,14 +40,14 @@ not_is false is = refl
 not_is true is = absurd (let e : false ≡ true = is in cc)
 
 -- the pair of a record that stands
-abbrev pair_at : List Listed → Record → Pair
+abbrev pair_at : List IndexPackage → Record → Pair
 pair_at listed found = record { pkg = pkg_of found; listed = stanza_of listed found.name found.version }
 
-standing_pair-from : (listed : List Listed) (found : Record) → stands found ≡ true → standing_pair listed found ≡ Some (pair_at listed found)
+standing_pair-from : (listed : List IndexPackage) (found : Record) → stands found ≡ true → standing_pair listed found ≡ Some (pair_at listed found)
 standing_pair-from listed found stood = ap (λ (b : Bool).
     if b then Some (record { pkg = pkg_of found; listed = if b then stanza_of listed found.name found.version else None }) else None) stood
 
-standing_pair-is : (listed : List Listed) (found : Record) (pair : Pair) → standing_pair listed found ≡ Some pair
+standing_pair-is : (listed : List IndexPackage) (found : Record) (pair : Pair) → standing_pair listed found ≡ Some pair
     → (stands found ≡ true) × (pair_at listed found ≡ pair)
 standing_pair-is listed found pair is = at (stands found) refl is
   where
@@ -73,7 +73,7 @@ eligible_priority : (inputs : Inputs) (name version : List ℕ) (priority : ℤ)
 unfolding IsEligible
 eligible_priority inputs name version priority may = may.0
 
-module _ (db : List Record) (indices : List Index) (prefs : Preferences) (goals : List Goal) (known : List Record) (ordered : List Listed)
+module _ (db : List Record) (indices : List Index) (prefs : Preferences) (goals : List Goal) (known : List Record) (ordered : List IndexPackage)
     (best : List Offer) (distinct : HasDistinctNames db) (named : IsByName db known) (is : IsOrdered (all_listed indices) ordered)
     (are : AreCandidates (inputs_of db indices prefs goals) best) where
   abbrev inputs : Inputs
@@ -88,13 +88,13 @@ module _ (db : List Record) (indices : List Index) (prefs : Preferences) (goals 
   abbrev made : List Pair
   made = chosen_pairs known ordered best (exacts_of goals)
 
-  abbrev free_ones : List Listed
+  abbrev free_ones : List IndexPackage
   free_ones = filter (is_free known) ordered
 
-  abbrev is_wanted : Listed → Bool
+  abbrev is_wanted : IndexPackage → Bool
   is_wanted found = is_sought (best_exacts best) found || is_sought (exacts_of goals) found
 
-  abbrev kept_ones : List Listed
+  abbrev kept_ones : List IndexPackage
   kept_ones = admitted_among best (exacts_of goals) free_ones
 
   -- where a pair comes from: a record that stands
@@ -103,7 +103,7 @@ module _ (db : List Record) (indices : List Index) (prefs : Preferences) (goals 
 
   -- or a stanza in order that is free and wanted
   abbrev IsKept : Pair → Type 0
-  IsKept pair = (found : Listed) × Contains ordered found × (stands_as db found.pkg.name found.pkg.version ≡ false)
+  IsKept pair = (found : IndexPackage) × Contains ordered found × (stands_as db found.pkg.name found.pkg.version ≡ false)
       × (is_held db found.pkg.name ≡ false) × (is_wanted found ≡ true) × (listed_pair found ≡ pair)
 
   same_stands : (name version : List ℕ) → stands_as known name version ≡ stands_as db name version
@@ -138,7 +138,7 @@ module _ (db : List Record) (indices : List Index) (prefs : Preferences) (goals 
       (Contains-filter_map_intro (standing_pair ordered) known found (pair_at ordered found)
       (within_known db known distinct named found within) (standing_pair-from ordered found stood))
 
-  kept_made : (found : Listed) → Contains ordered found → stands_as db found.pkg.name found.pkg.version ≡ false
+  kept_made : (found : IndexPackage) → Contains ordered found → stands_as db found.pkg.name found.pkg.version ≡ false
       → is_held db found.pkg.name ≡ false → is_wanted found ≡ true → Contains made (listed_pair found)
   kept_made found within stood held wanted = Contains-append_right (standing_pairs ordered known) (map listed_pair kept_ones) (listed_pair found)
       (Contains-map_intro listed_pair kept_ones found
@@ -149,24 +149,24 @@ module _ (db : List Record) (indices : List Index) (prefs : Preferences) (goals 
       (not_from (is_held known found.pkg.name) (same_held found.pkg.name ∙ held)))) wanted))
 
   -- a stanza in order is found of its own version
-  found_own : (found : Listed) → Contains ordered found → index_package indices found.pkg.name found.pkg.version ≡ Some found
+  found_own : (found : IndexPackage) → Contains ordered found → index_package indices found.pkg.name found.pkg.version ≡ Some found
   found_own found within = found_ordered (all_listed indices) ordered is found within found.pkg.name found.pkg.version (of_itself found.pkg)
 
   -- where the version doesn't stand, the package of an index counts
   counting_listed : (name version : List ℕ) → stands_as db name version ≡ false
-      → counting_package inputs name version ≡ option_map (λ (listed : Listed). listed.pkg) (index_package indices name version)
+      → counting_package inputs name version ≡ option_map (λ (listed : IndexPackage). listed.pkg) (index_package indices name version)
   counting_listed name version stood = ap (λ (o : Option Record). option_or (option_map pkg_of o)
-      (option_map (λ (listed : Listed). listed.pkg) (index_package indices name version))) (standing_record-none db distinct name version stood)
+      (option_map (λ (listed : IndexPackage). listed.pkg) (index_package indices name version))) (standing_record-none db distinct name version stood)
 
   counts : (pair : Pair) → IsStanding pair ⊎ IsKept pair → counting_package inputs pair.pkg.name pair.pkg.version ≡ Some pair.pkg
   counts pair (inl (found, within, stood, same)) =
       subst (λ (p : Pair). counting_package inputs p.pkg.name p.pkg.version ≡ Some p.pkg) same
       (ap (λ (o : Option Record). option_or (option_map pkg_of o)
-      (option_map (λ (listed : Listed). listed.pkg) (index_package indices found.name found.version)))
+      (option_map (λ (listed : IndexPackage). listed.pkg) (index_package indices found.name found.version)))
       (standing_record-one db distinct found.name found.version found within refl stood (SameVersion-refl found.version)))
   counts pair (inr (found, within, stood, held, wanted, same)) =
       subst (λ (p : Pair). counting_package inputs p.pkg.name p.pkg.version ≡ Some p.pkg) same
-      (counting_listed found.pkg.name found.pkg.version stood ∙ ap (option_map (λ (listed : Listed). listed.pkg)) (found_own found within))
+      (counting_listed found.pkg.name found.pkg.version stood ∙ ap (option_map (λ (listed : IndexPackage). listed.pkg)) (found_own found within))
 
   listed_as : (pair : Pair) → IsStanding pair ⊎ IsKept pair → index_package indices pair.pkg.name pair.pkg.version ≡ pair.listed
   listed_as pair (inl (found, within, stood, same)) =
@@ -185,7 +185,7 @@ module _ (db : List Record) (indices : List Index) (prefs : Preferences) (goals 
       (pair_at ordered found, standing_made found within stood, (own, same))
 
   -- another one that is free, in order and wanted
-  made_listed : (name version : List ℕ) (found : Listed) → Contains ordered found → IsOf name version found.pkg
+  made_listed : (name version : List ℕ) (found : IndexPackage) → Contains ordered found → IsOf name version found.pkg
       → stands_as db name version ≡ false → is_held db name ≡ false → is_wanted found ≡ true → IsMade name version
   made_listed name version found within of stood held wanted = (
     listed_pair found,
@@ -203,7 +203,7 @@ module _ (db : List Record) (indices : List Index) (prefs : Preferences) (goals 
       (subst IsSome (counting_listed name version stood)
       (has_counting inputs name version candidate.0 (eligible_priority inputs name version candidate.0 candidate.1.eligible)))
     where
-      at : (o : Option Listed) → index_package indices name version ≡ o → IsSome (option_map (λ (listed : Listed). listed.pkg) o)
+      at : (o : Option IndexPackage) → index_package indices name version ≡ o → IsSome (option_map (λ (listed : IndexPackage). listed.pkg) o)
           → IsMade name version
       at None from some = absurd (let e : false ≡ true = some in cc)
       at (Some found) from some =
@@ -219,7 +219,7 @@ module _ (db : List Record) (indices : List Index) (prefs : Preferences) (goals 
   made_offered name version stood held (inr (inl asked)) = at (index_package indices name version) refl
       (subst IsSome (counting_listed name version stood) asked.0)
     where
-      at : (o : Option Listed) → index_package indices name version ≡ o → IsSome (option_map (λ (listed : Listed). listed.pkg) o)
+      at : (o : Option IndexPackage) → index_package indices name version ≡ o → IsSome (option_map (λ (listed : IndexPackage). listed.pkg) o)
           → IsMade name version
       at None from some = absurd (let e : false ≡ true = some in cc)
       at (Some found) from some =
@@ -250,7 +250,7 @@ module _ (db : List Record) (indices : List Index) (prefs : Preferences) (goals 
       at false stood = made_offered name version stood (not_held name offered.0) offered.1
 
   -- each made version is admitted
-  offered_kept : (name version : List ℕ) (found : Listed) → Contains ordered found → stands_as db found.pkg.name found.pkg.version ≡ false
+  offered_kept : (name version : List ℕ) (found : IndexPackage) → Contains ordered found → stands_as db found.pkg.name found.pkg.version ≡ false
       → is_wanted found ≡ true → IsOf name version found.pkg → IsOffered inputs name version
   unfolding IsOffered
   offered_kept name version found within stood wanted of =
@@ -268,7 +268,7 @@ module _ (db : List Record) (indices : List Index) (prefs : Preferences) (goals 
           subst IsSome (sym (counting_listed name version
               (sym (stands_as-same db name found.pkg.version version of.1)
               ∙ ap (λ (n : List ℕ). stands_as db n found.pkg.version) (sym of.0) ∙ stood)
-              ∙ ap (option_map (λ (listed : Listed). listed.pkg)) (found_ordered (all_listed indices) ordered is found within name version of))) refl,
+              ∙ ap (option_map (λ (listed : IndexPackage). listed.pkg)) (found_ordered (all_listed indices) ordered is found within name version of))) refl,
           is_sought-names goals found asked name version of,
         ))
       ]

@@ -12,7 +12,7 @@ use Rattle.rules.specs.Available.{is_of, same_version}
 use Rattle.rules.specs.Database.{Record}
 use Rattle.rules.specs.Name.{name_cmp}
 use Rattle.rules.specs.State.{is_not_installed_state}
-use Rattle.rules.specs.Step.{Listed}
+use Rattle.rules.specs.Step.{IndexPackage}
 use Rattle.rules.specs.Version.{version_cmp}
 use Rattle.rules.specs.declared.goal.Goal.{Goal}
 use Rattle.rules.specs.declared.goal.GoalLine.{GoalLine}
@@ -33,7 +33,7 @@ is_eq-reverse Equal = refl
 is_eq-reverse Greater = refl
 
 -- what is sought ties with just the stanzas of that name and version
-exact_ties : (exact : Exact) (found : Listed)
+exact_ties : (exact : Exact) (found : IndexPackage)
     → is_eq (exact_cmp exact (exact_at found)) ≡ is_of exact.name exact.version found.pkg
 exact_ties exact found = ap is_eq (exact_cmp_total.antisymm exact (exact_at found))
     ∙ is_eq-reverse (exact_cmp (exact_at found) exact)
@@ -41,7 +41,7 @@ exact_ties exact found = ap is_eq (exact_cmp_total.antisymm exact (exact_at foun
     ∙ ap (λ (b : Bool). b && same_version found.pkg.version exact.version) (is_eq-slice_cmp found.pkg.name exact.name)
 
 -- a binary search in what is sought tells whether the stanza is one
-pub searched_exact : (exacts : List Exact) (found : Listed) (r : Result ℕ ℕ) → IsSorted exact_cmp exacts
+pub searched_exact : (exacts : List Exact) (found : IndexPackage) (r : Result ℕ ℕ) → IsSorted exact_cmp exacts
     → IsSearchInRange r (length exacts) → IsBinarySearchResult (λ exact. exact_cmp exact (exact_at found)) exacts r
     → is_ok r ≡ is_sought exacts found
 searched_exact exacts found r ascending within at =
@@ -50,7 +50,7 @@ searched_exact exacts found r ascending within at =
     (searchable_from_sorted exact_cmp_total (λ (exact : Exact). exact) exacts (exact_at found) ascending) within at
 
 -- among records and stanzas that have the same names a goal is unknown alike
-is_unknown-agree : (start known : List Record) (listed other : List Listed)
+is_unknown-agree : (start known : List Record) (listed other : List IndexPackage)
     → ((name : List ℕ) → is_recorded start name ≡ is_recorded known name)
     → ((name : List ℕ) → has_name listed name ≡ has_name other name) → (asked : Goal)
     → is_unknown start listed asked ≡ is_unknown known other asked
@@ -63,7 +63,7 @@ is_unknown-agree start known listed other alike same asked = at (named_by asked)
         ∙ ap (λ (b : Bool). not (has_name other name) && not b) (alike name)
 
 -- among the records and the stanzas in order the first unknown name is that among all
-pub first_unknown-ordered : (start known : List Record) (listed ordered : List Listed) → IsByName start known
+pub first_unknown-ordered : (start known : List Record) (listed ordered : List IndexPackage) → IsByName start known
     → IsOrdered listed ordered → (lines : List GoalLine) → first_unknown known ordered lines ≡ first_unknown start listed lines
 first_unknown-ordered start known listed ordered are is lines = ap (option_map (λ (asked : GoalLine). asked.line))
     (find-agree (λ (asked : GoalLine). is_unknown known ordered asked.goal) (λ (asked : GoalLine). is_unknown start listed asked.goal)

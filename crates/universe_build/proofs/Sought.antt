@@ -5,7 +5,7 @@ use Rattle.std.specs.List.Sorted.{IsPermutation}
 use Rattle.std.proofs.lemmas.List.Elements.{filter_agree}
 use Rattle.std.proofs.lemmas.List.Sorted.{list_any-IsPermutation}
 use Rattle.rules.specs.Available.{is_of}
-use Rattle.rules.specs.Step.{Listed}
+use Rattle.rules.specs.Step.{IndexPackage}
 use Rattle.rules.specs.declared.goal.GoalLine.{GoalLine}
 use Rattle.universe_build.specs.Build.{goals_of}
 use Rattle.universe_build.specs.Choice.{AreExacts, Exact, best_exacts, exact_of, exacts_of, is_sought}
@@ -19,7 +19,7 @@ filter_map-map h f [] = refl
 filter_map-map h f (x ∷ xs) = ap (cons_option (h (f x))) (filter_map-map h f xs)
 
 -- what is asked for in order admits the same stanzas
-pub admitted_alike : (lines : List GoalLine) (best : List Offer) (asked : List Exact) (free : List Listed)
+pub admitted_alike : (lines : List GoalLine) (best : List Offer) (asked : List Exact) (free : List IndexPackage)
     → AreExacts (filter_map (λ line. exact_of line.goal) lines) asked
     → filter (λ found. is_sought (best_exacts best) found || is_sought asked found) free
     ≡ admitted_among best (exacts_of (goals_of lines)) free
@@ -29,7 +29,7 @@ admitted_alike lines best asked free of_goals =
     sym (filter_map-map exact_of (λ (line : GoalLine). line.goal) lines) in
     let moved : IsPermutation own asked = subst (λ (e : List Exact). IsPermutation e asked) goals_same of_goals.same in
     filter_agree
-    (λ (found : Listed). is_sought (best_exacts best) found || is_sought asked found) (λ (found : Listed). is_sought (best_exacts best) found || is_sought own found)
+    (λ (found : IndexPackage). is_sought (best_exacts best) found || is_sought asked found) (λ (found : IndexPackage). is_sought (best_exacts best) found || is_sought own found)
     (λ found.
     let test : Exact → Bool = λ (exact : Exact). is_of exact.name exact.version found.pkg in
     let second : is_sought own found ≡ is_sought asked found = list_any-IsPermutation test own asked moved in

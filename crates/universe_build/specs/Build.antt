@@ -6,7 +6,7 @@ pub use Rattle.candidates.specs.Inputs.{indices_of, inputs_of}
 use Rattle.pins.specs.Prefs.{Preferences}
 use Rattle.rules.specs.Available.{Index, all_listed}
 use Rattle.rules.specs.Database.{HasDistinctNames, Record}
-use Rattle.rules.specs.Step.{Listed}
+use Rattle.rules.specs.Step.{IndexPackage}
 use Rattle.rules.specs.Universe.{Candidate, Pair, Universe, starts_of}
 use Rattle.rules.specs.declared.goal.Goal.{Goal}
 use Rattle.rules.specs.declared.goal.Goal.TheVariants as goal
@@ -30,17 +30,17 @@ named_by goal.UpgradeAll = None
 named_by goal.NoRemove = None
 
 -- the goal names a package that no stanza has, and that is in no state but not-installed
-abbrev pub is_unknown : List Record → List Listed → Goal → Bool
+abbrev pub is_unknown : List Record → List IndexPackage → Goal → Bool
 is_unknown start listed asked =
     option_map_or (λ name. not (has_name listed name) && not (is_recorded start name)) (named_by asked) false
 
 -- the line of the first goal that names an unknown package
-abbrev pub first_unknown : List Record → List Listed → List GoalLine → Option ℕ
+abbrev pub first_unknown : List Record → List IndexPackage → List GoalLine → Option ℕ
 first_unknown start listed lines =
     option_map (λ asked. asked.line) (find (λ asked. is_unknown start listed asked.goal) lines)
 
 -- the records, the stanzas and the candidates, each in their order, are those of the start, the indices and the preferences
-pub record AreOffered (start : List Record) (indices : List Index) (prefs : Preferences) (known : List Record) (ordered : List Listed) (best : List Offer) : Type 0 where
+pub record AreOffered (start : List Record) (indices : List Index) (prefs : Preferences) (known : List Record) (ordered : List IndexPackage) (best : List Offer) : Type 0 where
   pub distinct : HasDistinctNames start
   pub records : IsByName start known
   pub stanzas : IsOrdered (all_listed indices) ordered

@@ -6,7 +6,7 @@ use Rattle.std.specs.Ordering.{on, then_cmp}
 use Rattle.std.specs.declared.cmp.Ordering.{Ordering}
 use Rattle.rules.specs.Available.{is_of}
 use Rattle.rules.specs.Name.{name_cmp}
-use Rattle.rules.specs.Step.{Listed}
+use Rattle.rules.specs.Step.{IndexPackage}
 use Rattle.rules.specs.Universe.{Candidate, Pair}
 use Rattle.rules.specs.Version.{version_cmp}
 use Rattle.rules.specs.declared.goal.Goal.{Goal}
@@ -17,7 +17,7 @@ use Rattle.rules.specs.declared.op.Op.TheVariants as op
 use Rattle.candidates.specs.Offer.{Offer}
 
 -- the pair of a stanza that counts alone
-abbrev pub listed_pair : Listed → Pair
+abbrev pub listed_pair : IndexPackage → Pair
 listed_pair found = record { pkg = found.pkg; listed = Some found }
 
 -- a version of a name that is sought
@@ -30,7 +30,7 @@ abbrev pub exact_cmp : Exact → Exact → Ordering
 exact_cmp = then_cmp (on (λ exact. exact.name) name_cmp) (on (λ exact. exact.version) version_cmp)
 
 -- the version of a stanza, as it is sought
-abbrev pub exact_at : Listed → Exact
+abbrev pub exact_at : IndexPackage → Exact
 exact_at found = record { name = found.pkg.name; version = found.pkg.version }
 
 -- the operator is `=`
@@ -66,7 +66,7 @@ pub record AreExacts (sought exacts : List Exact) : Type 0 where
   pub same : IsPermutation sought exacts
 
 -- the stanza is one that is sought
-abbrev pub is_sought : List Exact → Listed → Bool
+abbrev pub is_sought : List Exact → IndexPackage → Bool
 is_sought exacts found = list_any (λ exact. is_of exact.name exact.version found.pkg) exacts
 
 -- the version of an offer, as it is sought

@@ -3,7 +3,7 @@ use Rattle.std.specs.Prelude.{not, Bool, List, map, ◌++◌, ◌||◌, ◌&&◌
 use Rattle.std.specs.List.{Any, Contains, filter, filter_map}
 use Rattle.std.specs.List.Sorted.{IsStrictlySortedBy}
 use Rattle.rules.specs.Database.{Record, pkg_of, stands}
-use Rattle.rules.specs.Step.{Listed}
+use Rattle.rules.specs.Step.{IndexPackage}
 use Rattle.rules.specs.Universe.{IsOf, Pair, pair_cmp}
 use Rattle.candidates.specs.Offer.{Offer}
 use Rattle.candidates.specs.Recorded.{is_held, stands_as}
@@ -11,29 +11,29 @@ use Rattle.candidates.specs.Stanza.{stanza_of}
 use Rattle.universe_build.specs.Choice.{Exact, best_exacts, is_sought, listed_pair}
 
 -- the stanza of what stands, if there is one
-abbrev pub standing_stanza : List Listed → Record → Option Listed
+abbrev pub standing_stanza : List IndexPackage → Record → Option IndexPackage
 standing_stanza listed found = if stands found then stanza_of listed found.name found.version else None
 
 -- the pair of the record, if it stands: its package, and the stanza of its version
-abbrev pub standing_pair : List Listed → Record → Option Pair
+abbrev pub standing_pair : List IndexPackage → Record → Option Pair
 standing_pair listed found =
     if stands found then Some (record { pkg = pkg_of found; listed = standing_stanza listed found }) else None
 
 -- the pairs of what stands
-abbrev pub standing_pairs : List Listed → List Record → List Pair
+abbrev pub standing_pairs : List IndexPackage → List Record → List Pair
 standing_pairs listed db = filter_map (standing_pair listed) db
 
 -- the stanza is free to be chosen: its version doesn't stand, and its name isn't held
-abbrev pub is_free : List Record → Listed → Bool
+abbrev pub is_free : List Record → IndexPackage → Bool
 is_free db found = not (stands_as db found.pkg.name found.pkg.version) && not (is_held db found.pkg.name)
 
 -- the stanzas of the best offers' versions, and those that are asked for
-abbrev pub admitted_among : List Offer → List Exact → List Listed → List Listed
+abbrev pub admitted_among : List Offer → List Exact → List IndexPackage → List IndexPackage
 admitted_among best exacts listed =
     filter (λ found. is_sought (best_exacts best) found || is_sought exacts found) listed
 
 -- the pairs to choose from: those of what stands, and of the free stanzas those that are chosen or asked for
-abbrev pub chosen_pairs : List Record → List Listed → List Offer → List Exact → List Pair
+abbrev pub chosen_pairs : List Record → List IndexPackage → List Offer → List Exact → List Pair
 chosen_pairs db listed best exacts =
     standing_pairs listed db ++ map listed_pair (admitted_among best exacts (filter (is_free db) listed))
 

@@ -6,7 +6,7 @@ ghost use Rattle.std.specs.Option.{option_copied};
 ghost use Rattle.pins.specs.Prefs.{Preferences};
 ghost use Rattle.rules.specs.Available.{Index as IndexValue};
 ghost use Rattle.rules.specs.Database.{HasDistinctNames, Record as RecordValue};
-ghost use Rattle.rules.specs.Entry.{records_of};
+ghost use Rattle.rules.specs.FileRecord.{records_of};
 ghost use Rattle.rules.specs.Universe.{pair_cmp, starts_of};
 ghost use Rattle.candidates.specs.Offer.{offer_name_cmp};
 ghost use Rattle.candidates.specs.Stanza.{listed_cmp};
@@ -21,7 +21,7 @@ use candidates::{Found, Known, Offer, Offered, Recorded, has_name, is_recorded, 
 use index::Index;
 use pins::Prefs;
 use rules::{Goal, GoalLine, PAIRS};
-use status_record::Record;
+use status_record::FileRecord;
 use std::alloc::{AllocError, Global};
 use universe::{Candidate, Candidates, Pair, Pairs, Start, Starts, Universe};
 
@@ -172,7 +172,7 @@ fn chosen<'p, 'a>(
 /// each version what `Prefs::priority` costs, and for m goals about m log n and n log m comparisons more.
 pub fn build<'p, 'a>(
     alloc: Global,
-    start: &[&Record<'a>],
+    start: &[&FileRecord<'a>],
     indices: &'p [Index<'a>],
     prefs: &Prefs,
     goals: Vec<GoalLine>,

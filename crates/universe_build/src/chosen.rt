@@ -13,7 +13,7 @@ ghost use Rattle.universe_build.specs.Chosen.{ArePairs, admitted_among, chosen_p
 use crate::best::{is_best, place_from};
 use crate::exact::{Exact, exacts_of, is_sought};
 use candidates::{Found, Known, Offer, Recorded, is_held, stands_as, stanza_of};
-use index::Entry;
+use index::IndexEntry;
 use rules::GoalLine;
 use std::alloc::{AllocError, Global};
 use universe::Pair;
@@ -84,7 +84,10 @@ fn listed_pairs<'p, 'a>(
 }
 
 // The stanza of the record's version in the indices, if there is one.
-fn stanza_by<'p, 'a>(ordered: &[Found<'p, 'a>], found: &Recorded<'_, 'a>) -> Option<&'p Entry<'a>>
+fn stanza_by<'p, 'a>(
+    ordered: &[Found<'p, 'a>],
+    found: &Recorded<'_, 'a>,
+) -> Option<&'p IndexEntry<'a>>
     requires { IsStrictlySortedBy listed_cmp ordered.now }
     ensures { option_copied result ≡ standing_stanza ordered.now found.now }
 {

@@ -3,11 +3,10 @@ use Rattle.std.proofs.Common.{[], refl}
 use Rattle.std.proofs.lemmas.Result.{IfOk-at_ok}
 use Rattle.cli.proofs.KeptLemmas.{kept_at}
 use Rattle.cli.proofs.find.find_candidate.Goals as goal
+use Rattle.cli.proofs.WholeLemmas.{candidate_kept}
 use Rattle.cli.specs.Inputs.{texts_with}
+use Rattle.cli.specs.Kept.{with_indices}
 use Rattle.cli_engine.specs.Answer.{IsCandidateAnswer}
-use Rattle.kept_index.proofs.EnoughLemmas.{is-enough}
-use Rattle.kept_texts.proofs.AnswerLemmas.{candidate_kept}
-use Rattle.kept_texts.specs.Texts.{with_indices}
 
 pub returns-in-Ok : goal.returns-in-Ok
 returns-in-Ok g c = record {
@@ -29,6 +28,6 @@ returns-in-Ok g c = record {
       let holds = IfOk-at_ok (λ found. IsCandidateAnswer texts c.args.query.now.name.now found) c.in-Ok.ensures.same c.found_in.ensures in (
         with_indices read.indices texts,
         read.whole,
-        candidate_kept is-enough texts read.indices c.args.query.now.name.now c.in-Ok.found read.kept holds,
+        candidate_kept texts read.indices c.args.query.now.name.now c.in-Ok.found read.kept holds,
       );
 }

@@ -6,7 +6,7 @@ use Rattle.cli.proofs.read.read_texts.Goals as goal
 use Rattle.cli.specs.Files.{kept_in}
 use Rattle.cli.specs.Stop.{stop_in, unread}
 use Rattle.cli_engine.specs.Texts.{sources_of}
-use Rattle.cli_engine.specs.declared.refusal.Place.TheVariants as place
+use Rattle.cli_engine.specs.declared.refusal.Input.TheVariants as place
 
 pub returns-clause-stops : goal.returns-clause-stops
 returns-clause-stops g c = λ at known.

@@ -17,7 +17,7 @@ loop-source-preserved c =
     record {
       left = omega arith;
       count = omega arith;
-      bounded = rw c.packages.ensures (index_fits c.args.arch.now c.into_release-release.result at.before _ c.in-Ok.index c.in-Ok.ensures.ok at.invariant.bounded);
+      bounded = rw c.packages.ensures (index_fits c.args.arch.now _ c.into_release-release.result at.before _ c.in-Ok.index c.in-Ok.ensures.ok at.invariant.bounded);
       same = at.invariant.same
           ∙ goes_on c.args.arch.now (at.number + 1) at.before at.number at.indices.items c.push.new.self.items
           (into_iter_items at.source-iterator) c.in-Some.source (into_iter_items c.next.new.self) c.args.texts.now _ c.into_release-release.result

@@ -3,19 +3,19 @@ use Rattle.std.proofs.Common.{rules, ◌≡◌, ℕ, suc, ◌+◌, ◌<◌, List
 use Rattle.std.proofs.lemmas.List.{get_or-map}
 use Rattle.rules.specs.Run.{Run, StopsAt, after}
 use Rattle.rules.specs.RunStepLaws.{Run-next, StopsAt-place}
-use Rattle.rules.specs.Step.{Listed}
+use Rattle.rules.specs.Step.{IndexPackage}
 use Rattle.rules.specs.Universe.{Universe, listed_for}
 use Rattle.rules.specs.declared.step.Step.{Step}
 use Rattle.plancheck.proofs.check.run.Goals as goal
 
 -- the stanza at the place of the step is that of the step
-stanza_of_step : (u : Universe) (steps : List Step) (stanzas : List (Option Listed)) (listed : Option Listed) (i n : ℕ)
+stanza_of_step : (u : Universe) (steps : List Step) (stanzas : List (Option IndexPackage)) (listed : Option IndexPackage) (i n : ℕ)
     (step : Step) → stanzas ≡ map (listed_for u) steps → i < length steps → n ≡ i
-    → ((none : Option Listed) → listed ≡ get_or stanzas n none) → get_or steps i step ≡ step → listed ≡ listed_for u step
+    → ((none : Option IndexPackage) → listed ≡ get_or stanzas n none) → get_or steps i step ≡ step → listed ≡ listed_for u step
 stanza_of_step u steps stanzas listed i n step are within place at is =
     at None
     ∙ ap (λ (k : ℕ). get_or stanzas k None) place
-    ∙ ap (λ (all : List (Option Listed)). get_or all i None) are
+    ∙ ap (λ (all : List (Option IndexPackage)). get_or all i None) are
     ∙ get_or-map (listed_for u) steps i step None within
     ∙ ap (listed_for u) is
 

@@ -1,8 +1,8 @@
 -- The literals so far, before the words that are left, give the line of all words.
 use Rattle.std.proofs.Common.{◌≡◌, []}
-use Rattle.refutation_text.specs.Cut.{parts_left, len_left}
+use Rattle.plantext.specs.Cut.{parts_left, len_left}
 use Rattle.refutation_text.specs.Derived.{derived_from}
-use Rattle.refutation_text.specs.declared.cut.TheConstants.{SPACE}
+use Rattle.plantext.specs.declared.cut.TheConstants.{SPACE}
 use Rattle.refutation_text.proofs.derived.derived_of.Given as goal
 
 abbrev pub invariant-loop-left : goal.invariant-loop-left

@@ -1,8 +1,8 @@
 -- The hints so far with those of the words that are left are those of all words.
 use Rattle.std.proofs.Common.{◌≡◌, []}
-use Rattle.refutation_text.specs.Cut.{parts_left, len_left}
+use Rattle.plantext.specs.Cut.{parts_left, len_left}
 use Rattle.refutation_text.specs.Derived.{hints_from}
-use Rattle.refutation_text.specs.declared.cut.TheConstants.{SPACE}
+use Rattle.plantext.specs.declared.cut.TheConstants.{SPACE}
 use Rattle.refutation_text.proofs.derived.hints_of.Given as goal
 
 abbrev pub invariant-loop-left : goal.invariant-loop-left

@@ -2,10 +2,10 @@
 use Rattle.std.proofs.Common.{◌≡◌, ◌∙◌, ◌+◌, ℕ, Ok, length, ap, arith, subst}
 use Rattle.std.proofs.lemmas.List.{length_push}
 use Rattle.std.proofs.lemmas.Grind.{common_steps}
-use Rattle.refutation_text.specs.Cut.{parts_at}
+use Rattle.plantext.specs.Cut.{parts_at}
 use Rattle.refutation_text.specs.Error.{IsRefutationFault}
 use Rattle.refutation_text.specs.Text.{line_in_text, read_lines}
-use Rattle.refutation_text.specs.declared.cut.TheConstants.{NEWLINE}
+use Rattle.plantext.specs.declared.cut.TheConstants.{NEWLINE}
 use Rattle.refutation_text.proofs.LineLemmas.{lines_read, lines_refused}
 use Rattle.refutation_text.proofs.read.read_lines.Goals as goal
 

@@ -1,9 +1,9 @@
 -- The lines so far, before those of what is left, are those of all lines.
 use Rattle.std.proofs.Common.{◌≡◌, ◌+◌, ◌≤◌, length}
 use Rattle.refutation_text.specs.declared.limits.TheConstants.{LINES}
-use Rattle.refutation_text.specs.Cut.{parts_at}
+use Rattle.plantext.specs.Cut.{parts_at}
 use Rattle.refutation_text.specs.Text.{put_lines, read_lines}
-use Rattle.refutation_text.specs.declared.cut.TheConstants.{NEWLINE}
+use Rattle.plantext.specs.declared.cut.TheConstants.{NEWLINE}
 use Rattle.refutation_text.proofs.read.read_lines.Given as goal
 
 abbrev pub invariant-loop-text : goal.invariant-loop-text

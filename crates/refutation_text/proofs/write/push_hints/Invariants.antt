@@ -2,7 +2,7 @@
 use Rattle.std.proofs.Common.{◌≡◌, ◌∷◌, ◌++◌, take}
 use Rattle.std.specs.List.{flat_map}
 use Rattle.std.specs.Prelude.{decimal}
-use Rattle.refutation_text.specs.declared.cut.TheConstants.{SPACE}
+use Rattle.plantext.specs.declared.cut.TheConstants.{SPACE}
 use Rattle.refutation_text.proofs.write.push_hints.Given as goal
 
 abbrev pub invariant-loop-hint : goal.invariant-loop-hint

@@ -2,7 +2,7 @@
 use Rattle.std.proofs.Common.{◌≡◌, ◌∷◌, ◌++◌, take}
 use Rattle.std.specs.List.{flat_map}
 use Rattle.refutation_text.specs.Number.{literal_word}
-use Rattle.refutation_text.specs.declared.cut.TheConstants.{SPACE}
+use Rattle.plantext.specs.declared.cut.TheConstants.{SPACE}
 use Rattle.refutation_text.proofs.write.push_literals.Given as goal
 
 abbrev pub invariant-loop-literal : goal.invariant-loop-literal

@@ -1,7 +1,7 @@
 use Rattle.std.proofs.Common.{Some, None, ap, subst, sym, if◌then◌else◌}
 use Rattle.std.specs.Option.{option_copied}
 use Rattle.rules.specs.declared.step.Step.TheVariants as step
-use Rattle.status_store.proofs.FoundLemmas.{new-listed}
+use Rattle.status_store.proofs.FoundLemmas.{new-indexed}
 use Rattle.status_store.specs.Applicable.{handed_in}
 use Rattle.status_store.specs.Error.{IsApplyFault}
 use Rattle.status_store.proofs.apply.unpack.Goals as goal
@@ -10,7 +10,7 @@ pub returns-in-Err : goal.returns-in-Err
 returns-in-Err c =
     let name = c.args.name.now in
     let given = handed_in c.args.arch.now (option_copied c.args.given) in
-    let fresh = new-listed name c.args.version.now given c.in-Some.entry c.args.table.now c.in-Some.ensures.0 c.in-Some.ensures.1 c.in-Err.ensures.new in
+    let fresh = new-indexed name c.args.version.now given c.in-Some.indexed c.args.table.now c.in-Some.ensures.0 c.in-Some.ensures.1 c.in-Err.ensures.new in
     let none = ap (λ b. if b then None else Some name) c.in-Some.ensures.1 in (
       subst (λ fault. IsApplyFault fault given (step.Unpack name c.args.version.now) c.args.table.now) (sym c.into.ensures) (none, fresh),
       c.in-Err.ensures.err,

@@ -1,5 +1,5 @@
 use Rattle.std.proofs.Common.{◌≡◌, ◌∙◌, ◌&&◌, ◌++◌, ◌∷◌, [], ◌+◌, ap, take, sym, add-one}
-use Rattle.rules.specs.Entry.{touched_entry}
+use Rattle.rules.specs.FileRecord.{touched_entry}
 use Rattle.rules.specs.RunStepLaws.{take-one_more}
 use Rattle.rules.specs.Step.{configured, is_named}
 use Rattle.std.proofs.lemmas.List.{take_all}

@@ -1,5 +1,5 @@
 use Rattle.std.proofs.Common.{◌≡◌, take}
-use Rattle.rules.specs.Entry.{touched_entry}
+use Rattle.rules.specs.FileRecord.{touched_entry}
 use Rattle.rules.specs.Step.{configured}
 use Rattle.status_store.specs.Slots.{changed_slots}
 use Rattle.status_store.proofs.GroupLemmas.{is_due}

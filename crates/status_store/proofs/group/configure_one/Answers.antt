@@ -1,5 +1,5 @@
 use Rattle.std.proofs.Common.{◌∙◌, ap, sym}
-use Rattle.rules.specs.Entry.{touched_entry}
+use Rattle.rules.specs.FileRecord.{touched_entry}
 use Rattle.rules.specs.Step.{is_named, configured}
 use Rattle.status_store.proofs.FoundLemmas.{changed-found, changed-tested, found-name, ready-none, ready-some, unchanged-tested}
 use Rattle.status_store.specs.Applicable.{is_configurable}

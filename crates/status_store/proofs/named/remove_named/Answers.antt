@@ -1,5 +1,5 @@
 use Rattle.std.proofs.Common.{◌∙◌, ap, sym}
-use Rattle.rules.specs.Entry.{touched_entry}
+use Rattle.rules.specs.FileRecord.{touched_entry}
 use Rattle.rules.specs.Step.{is_named, removed}
 use Rattle.status_store.proofs.FoundLemmas.{changed-found, found-name, ready-none, ready-some}
 use Rattle.status_store.specs.Applicable.{is_removable}

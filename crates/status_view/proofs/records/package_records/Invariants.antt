@@ -1,6 +1,6 @@
 -- The view so far, and the records that are left, are the records of all; the place is that of the record.
 use Rattle.std.proofs.Common.{◌≡◌, ◌++◌, drop, map}
-use Rattle.rules.specs.Entry.{records_of}
+use Rattle.rules.specs.FileRecord.{records_of}
 use Rattle.status_view.proofs.records.package_records.Given as goal
 
 abbrev pub invariant-loop-record : goal.invariant-loop-record

@@ -1,0 +1,53 @@
+-- A refutation has one answer, and where that is yes no selection is acceptable.
+use Rattle.std.proofs.Common.{◌≡◌, List, refl, ap, subst}
+use Rattle.candidates.specs.Inputs.{inputs_of}
+use Rattle.refutation.specs.declared.line.Line.{Line}
+use Rattle.refutation.specs.Laws.{HasAscendingPairs}
+use Rattle.rules.specs.Database.{Record}
+use Rattle.rules.specs.Universe.{Universe}
+use Rattle.refutecheck.specs.Answer.{IsVerdict}
+use Rattle.refutecheck.specs.declared.verdict.Verdict.{Verdict}
+use Rattle.refutecheck.specs.declared.verdict.Verdict.TheVariants as verdict
+use Rattle.universe_build.specs.Build.{goals_of}
+use Rattle.cli_engine.specs.Answer.{Denotes}
+use Rattle.cli_engine.specs.Texts.{Texts, refutation_of}
+use Rattle.cli_engine.proofs.DistinctLemmas.{distinct_start}
+use Rattle.cli_engine.proofs.MeaningLemmas.{ok-same, one_meaning}
+use Rattle.refutation.proofs.LineLemmas.{one_answer as one_bad_line}
+use Rattle.refutation.proofs.NeededLemmas.{universe_has_needed_pairs}
+use Rattle.refutation.proofs.PremiseLemmas.{none_is_acceptable}
+use Rattle.cli_engine.specs.Refuted.{RefutationHasOneAnswer, YesRefutes}
+
+-- the pairs of the universe that texts denote ascend
+ascending_pairs : (texts : Texts) (u : Universe) (start : List Record) → Denotes texts u start → HasAscendingPairs u
+ascending_pairs texts u start is = (universe_has_needed_pairs (inputs_of start is.indices is.prefs (goals_of is.lines)) u
+    (distinct_start texts start is.indices is.read.listed) is.requested.built.universe).0
+
+pub yes-refutes : YesRefutes
+yes-refutes texts refutation answer = record {
+  universe = answer.universe;
+  start = answer.start;
+  denoted = answer.denoted;
+  only = λ u begin also. (one_meaning texts answer.universe u answer.start begin answer.denoted also).0;
+  none = none_is_acceptable answer.universe answer.lines
+      (ascending_pairs texts answer.universe answer.start answer.denoted) answer.holds;
+}
+
+-- lines have one verdict
+one_line_verdict : (u : Universe) (lines : List Line) (first second : Verdict) → IsVerdict u lines first → IsVerdict u lines second
+    → first ≡ second
+one_line_verdict u lines verdict.Yes verdict.Yes is also = refl
+one_line_verdict u lines verdict.Yes (verdict.No number) is also = absurd ((one_bad_line u lines number also).0 is)
+one_line_verdict u lines (verdict.No number) verdict.Yes is also = absurd ((one_bad_line u lines number is).0 also)
+one_line_verdict u lines (verdict.No number) (verdict.No other) is also = ap verdict.No ((one_bad_line u lines number is).1 other also)
+
+pub one-answer : RefutationHasOneAnswer
+one-answer texts refutation first second answer other = one_line_verdict other.universe other.lines first second
+    (subst (λ (ls : List Line). IsVerdict other.universe ls first) lines
+    (subst (λ (u : Universe). IsVerdict u answer.lines first) one.0 answer.holds)) other.holds
+  where
+    one : (answer.universe ≡ other.universe) × (answer.start ≡ other.start)
+    one = one_meaning texts answer.universe other.universe answer.start other.start answer.denoted other.denoted
+
+    lines : answer.lines ≡ other.lines
+    lines = ok-same answer.lines other.lines (refutation_of refutation) answer.read other.read

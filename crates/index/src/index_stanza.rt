@@ -1,0 +1,121 @@
+// A stanza of an index that counts, with the fields from which an unpacking writes.
+
+ghost use Rattle.std.specs.Prelude.{◌≡◌, IfOk, MatchResult, None, Ok, Some};
+ghost use Rattle.index.specs.Index.{indexed_at};
+ghost use Rattle.relation.specs.PkgFields.{fields_of};
+ghost use Rattle.relation.specs.PkgText.{pkg_fault, pkg_of, read_pkg};
+ghost use Rattle.package_stanza.specs.Stanza.{is_essential as marked_essential, read_stanza};
+
+use relation::{Pkg, PkgError, PkgFault, PkgFields, Version};
+use rules::IndexPlace;
+use stanza::Stanza;
+use std::alloc::{AllocError, Global};
+use std::marker::Model;
+
+/// A stanza of an index that counts: its package, whether it is marked essential, its place in the indices, and the stanza
+/// itself. Its relation fields have been tested, and `pkg` reads them each time that it is called.
+#[derive(Drop)]
+pub struct IndexStanza<'a> {
+    name: &'a [u8],
+    version: Version<'a>,
+    arch: &'a [u8],
+    is_essential: bool,
+    place: IndexPlace,
+    stanza: Stanza<'a>,
+}
+
+impl<'a> Model for IndexStanza<'a> {
+    ghost use Rattle.std.specs.Prelude.{◌≡◌, None};
+    ghost use Rattle.relation.specs.PkgFields.{fields_of};
+    ghost use Rattle.relation.specs.PkgText.{pkg_fault, pkg_of, value_in};
+    ghost use Rattle.rules.specs.FileRecord.{IndexStanza as IndexStanzaValue};
+    ghost use Rattle.package_stanza.specs.Stanza.{read_stanza};
+
+    ghost Value = { IndexStanzaValue };
+
+    ghost view = { λ s. record {
+      listed = record { pkg = pkg_of s.arch.now (fields_of s.stanza); is_essential = s.is_essential; place = s.place };
+      fields = (read_stanza s.stanza).fields;
+    } };
+
+    ghost invariant = { λ s. (pkg_fault (fields_of s.stanza) ≡ None)
+        × (s.name.now ≡ value_in (fields_of s.stanza).name)
+        × (s.version ≡ value_in (fields_of s.stanza).version) };
+}
+
+impl<'a> IndexStanza<'a> {
+    // The stanza at the place, with the package that its fields, which are these, spell for this configured architecture,
+    // or their first refusal.
+    pub(crate) fn read(
+        fields: &PkgFields<'a>,
+        arch: &'a [u8],
+        is_essential: bool,
+        place: IndexPlace,
+        stanza: Stanza<'a>,
+    ) -> Result<IndexStanza<'a>, PkgFault>
+        requires fields { fields.now ≡ fields_of stanza }
+        requires essential { is_essential ≡ marked_essential stanza.fields }
+        ensures { MatchResult result
+            (λ indexed. (pkg_fault fields.now ≡ None) × (indexed ≡ indexed_at place stanza.entry (pkg_of arch.now fields.now)))
+            (λ fault. pkg_fault fields.now ≡ Some fault) }
+    {
+        let name = fields.name()?;
+        let version = fields.version()?;
+        fields.check_relations()?;
+        Ok(IndexStanza {
+            name,
+            version,
+            arch,
+            is_essential,
+            place,
+            stanza,
+        })
+    }
+
+    /// The name of the package.
+    pub fn name(&self) -> &'a [u8]
+        ensures { result.now ≡ self.now.listed.pkg.name }
+    {
+        self.name
+    }
+
+    /// The version of the package.
+    pub fn version(&self) -> &Version<'a>
+        ensures { result.now ≡ self.now.listed.pkg.version }
+    {
+        &self.version
+    }
+
+    /// Whether the stanza marks the package essential.
+    pub fn is_essential(&self) -> bool
+        ensures { result ≡ self.now.listed.is_essential }
+    {
+        self.is_essential
+    }
+
+    /// The place of the stanza in the indices.
+    pub fn place(&self) -> IndexPlace
+        ensures { result ≡ self.now.listed.place }
+    {
+        self.place
+    }
+
+    /// The stanza, and the configured architecture for which it was read: its package is read from these alone.
+    pub fn origin(&self) -> (&Stanza<'a>, &'a [u8])
+        ensures fields { (read_stanza result.0.now).fields ≡ self.now.fields }
+        ensures pkg { read_pkg result.1.now result.0.now ≡ Ok self.now.listed.pkg }
+    {
+        (&self.stanza, self.arch)
+    }
+
+    /// The package, with its relations. Memory alone can fail. Linear in the stanza.
+    pub fn pkg(&self, alloc: Global) -> Result<Pkg<'a>, AllocError>
+        ensures { IfOk result (λ pkg. pkg ≡ self.now.listed.pkg) }
+    {
+        match Pkg::from_stanza(alloc, &self.stanza, self.arch) {
+            Ok(pkg) => Ok(pkg),
+            Err(PkgError::OutOfMemory) => Err(AllocError),
+            Err(_) => unreachable!(),
+        }
+    }
+}

@@ -1,3 +1,0 @@
-pub mod IndexLemmas
-pub mod UniverseLemmas
-pub mod AnswerLemmas

@@ -1,0 +1,9 @@
+pub mod FalsesLemmas
+pub mod FollowLemmas
+pub mod OpenLemmas
+pub mod SoughtLemmas
+pub mod PairLemmas
+pub mod StartLemmas
+pub mod GoalLemmas
+pub mod AnswerLemmas
+pub mod LineLemmas

@@ -1,0 +1,131 @@
+-- The package of a pair by its number, and which pairs are those of packages that are sought.
+use Rattle.std.proofs.Common.{◌≡◌, ℕ, zero, suc, ◌+◌, ◌<◌, ◌⊎◌, Bool, List, [], ◌∷◌, ◌++◌, Option, Some, None, length, take, get_or, refl, sym, ap, subst, ◌∙◌, add-one}
+use Rattle.std.specs.Prelude.{◌↔◌, IsTrue, slice_get}
+use Rattle.std.specs.List.{Any, Contains}
+use Rattle.std.specs.Option.{option_map}
+use Rattle.std.proofs.lemmas.List.{take_more}
+use Rattle.std.proofs.lemmas.Option.{slice_get-map, same_Some}
+use Rattle.rules.specs.ElementLaws.{Any-append, Any-append_left, Any-append_right, Any-elim, Any-intro, Contains-cons, Contains-head, Contains-nil}
+use Rattle.rules.specs.Package.{Matches, Pkg}
+use Rattle.rules.specs.Universe.{Pair, Universe}
+use Rattle.index.specs.Providers.{IsProviderAt, plain_atom}
+use Rattle.refutation.specs.Clause.{item_at}
+use Rattle.refutation.specs.Premise.{PairHas, Selects}
+use Rattle.refutation.specs.declared.literal.Literal.{Literal}
+use Rattle.refutation.specs.declared.literal.Literal.TheVariants as literal
+use Rattle.universe.specs.Universe.{packages_of}
+use Rattle.refutecheck.specs.Sought.{IsSelectedAt}
+use mathlib.Core.Logic.{inl, inr}
+
+-- what a mapped value comes from
+mapped_from : {X Y : Type 0} (f : X → Y) (o : Option X) (y : Y) → option_map f o ≡ Some y → (x : X) × (o ≡ Some x) × (f x ≡ y)
+mapped_from f None y is = absurd (let e : None ≡ Some y = is in cc)
+mapped_from f (Some x) y is = (x, refl, same_Some (f x) y is)
+
+-- the package of the pair of a number, and the pair of a package
+pub pair_at : (u : Universe) (number : ℕ) (pkg : Pkg) → item_at (packages_of u.pairs) number ≡ Some pkg
+    → (pair : Pair) × (item_at u.pairs number ≡ Some pair) × (pair.pkg ≡ pkg)
+pair_at u zero pkg is = absurd (let e : None ≡ Some pkg = is in cc)
+pair_at u (suc place) pkg is =
+    let f : Pair → Pkg = λ pair. pair.pkg in
+    mapped_from f (slice_get u.pairs place) pkg (sym (slice_get-map f u.pairs place) ∙ is)
+
+pub pkg_there : (u : Universe) (number : ℕ) (pair : Pair) → item_at u.pairs number ≡ Some pair
+    → item_at (packages_of u.pairs) number ≡ Some pair.pkg
+pkg_there u zero pair is = absurd (let e : None ≡ Some pair = is in cc)
+pkg_there u (suc place) pair is =
+    let f : Pair → Pkg = λ p. p.pkg in
+    slice_get-map f u.pairs place ∙ ap (option_map f) is
+
+-- the pair has what its package has
+pub has_at : (u : Universe) (number : ℕ) (pkg : Pkg) (P : Pkg → Type 0) → item_at (packages_of u.pairs) number ≡ Some pkg
+    → P pkg ↔ PairHas u number P
+has_at u number pkg P is = (to, from)
+  where
+    to : P pkg → PairHas u number P
+    to holds = let found = pair_at u number pkg is in (found.0, found.1, subst P (sym found.2) holds)
+
+    from : PairHas u number P → P pkg
+    from (pair, there, holds) =
+        let same : pair.pkg ≡ pkg = same_Some pair.pkg pkg (sym (pkg_there u number pair there) ∙ is) in subst P same holds
+
+-- what decides of the package decides of the pair
+pub decides_at : (u : Universe) (number : ℕ) (pkg : Pkg) (P : Pkg → Type 0) (answer : Bool) → Some pkg ≡ item_at (packages_of u.pairs) number
+    → (IsTrue answer ↔ P pkg) → IsTrue answer ↔ PairHas u number P
+decides_at u number pkg P answer is decides =
+    let has = has_at u number pkg P (sym is) in
+    (λ so. has.0 (decides.0 so), λ there. decides.1 (has.1 there))
+
+-- the literals of the places of all providers of a name are those of the packages with a property that has the name
+pub at_places : (u : Universe) (name : List ℕ) (places : List ℕ) (P : Pkg → Type 0)
+    → ((place : ℕ) → Contains places place ↔ IsProviderAt name (packages_of u.pairs) place)
+    → ((pkg : Pkg) → P pkg → Matches pkg (plain_atom name))
+    → (found : Literal) → Any (λ place. IsSelectedAt (packages_of u.pairs) P place found) places ↔ Selects u P found
+at_places u name places P exact named found = (to, from found)
+  where
+    to : Any (λ place. IsSelectedAt (packages_of u.pairs) P place found) places → Selects u P found
+    to some = Any-elim (λ place. IsSelectedAt (packages_of u.pairs) P place found) places (Selects u P found)
+        (λ place within (is, (pkg, there, holds)).
+        let has : PairHas u (suc place) P = (has_at u (suc place) pkg P there).0 holds in
+        subst (Selects u P) (sym is) (let N : ℕ → Type 0 = λ n. PairHas u n P in subst N (sym (add-one place)) has)) some
+
+    from : (f : Literal) → Selects u P f → Any (λ place. IsSelectedAt (packages_of u.pairs) P place f) places
+    from (literal.Selected zero) (pair, there, holds) = absurd (let e : None ≡ Some pair = there in cc)
+    from (literal.Selected (suc place)) (pair, there, holds) =
+        let lent : slice_get (packages_of u.pairs) place ≡ Some pair.pkg = pkg_there u (suc place) pair there in
+        let within : Contains places place = (exact place).1 (pair.pkg, lent, named pair.pkg holds) in
+        Any-intro (λ p. IsSelectedAt (packages_of u.pairs) P p (literal.Selected (suc place))) places place within
+        (ap literal.Selected (sym (add-one place)), (pair.pkg, lent, holds))
+    from (literal.Unselected number) has = absurd has
+
+-- one place more: what is selected at it
+pub one_place_more : (packages : List Pkg) (P : Pkg → Type 0) (places : List ℕ) (index : ℕ) → index < length places
+    → (before middle after : Literal → Type 0)
+    → ((found : Literal) → middle found ↔ (before found ⊎ Any (λ place. IsSelectedAt packages P place found) (take index places)))
+    → ((found : Literal) → after found ↔ (middle found ⊎ IsSelectedAt packages P (get_or places index 0) found))
+    → (found : Literal) → after found ↔ (before found ⊎ Any (λ place. IsSelectedAt packages P place found) (take (index + 1) places))
+one_place_more packages P places index within before middle after so_far adds found =
+    let Step : List ℕ → Type 0 = λ done. after found ↔ (before found ⊎ Any (λ place. IsSelectedAt packages P place found) done) in
+    subst Step (sym (take_more places index 0 within)) (to, from)
+  where
+    last : ℕ
+    last = get_or places index 0
+
+    to : after found → before found ⊎ Any (λ place. IsSelectedAt packages P place found) (take index places ++ last ∷ [])
+    to now = elim ((adds found).0 now) [
+      | inl earlier ↦ elim ((so_far found).0 earlier) [
+        | inl was ↦ inl was
+        | inr some ↦ inr (Any-append_left (λ place. IsSelectedAt packages P place found) (take index places) (last ∷ []) some)
+      ]
+      | inr here ↦ inr (Any-append_right (λ place. IsSelectedAt packages P place found) (take index places) (last ∷ [])
+          (Any-intro (λ place. IsSelectedAt packages P place found) (last ∷ []) last (Contains-head last []) here))
+    ]
+
+    from : before found ⊎ Any (λ place. IsSelectedAt packages P place found) (take index places ++ last ∷ []) → after found
+    from (inl was) = (adds found).1 (inl ((so_far found).1 (inl was)))
+    from (inr some) = elim (Any-append (λ place. IsSelectedAt packages P place found) (take index places) (last ∷ []) some) [
+      | inl earlier ↦ (adds found).1 (inl ((so_far found).1 (inr earlier)))
+      | inr here ↦ (adds found).1 (inr (only here))
+    ]
+      where
+        only : Any (λ place. IsSelectedAt packages P place found) (last ∷ []) → IsSelectedAt packages P last found
+        only there = Any-elim (λ place. IsSelectedAt packages P place found) (last ∷ []) (IsSelectedAt packages P last found)
+            (λ place within holds. elim (Contains-cons last [] place within) [
+              | inl same ↦ let Q : ℕ → Type 0 = λ p. IsSelectedAt packages P p found in subst Q (sym same) holds
+              | inr none ↦ absurd (Contains-nil place none)
+            ]) there
+
+-- the places of the packages that are sought, all of which have or provide the name
+pub by_places : (u : Universe) (packages : List Pkg) → packages ≡ packages_of u.pairs → (name places slice : List ℕ) → slice ≡ places
+    → (P : Pkg → Type 0) → ((place : ℕ) → Contains places place ↔ IsProviderAt name packages place)
+    → ((pkg : Pkg) → P pkg → Matches pkg (plain_atom name)) → (before after : Literal → Type 0)
+    → ((found : Literal) → after found ↔ (before found ⊎ Any (λ place. IsSelectedAt (packages_of u.pairs) P place found) slice))
+    → (found : Literal) → after found ↔ (before found ⊎ Selects u P found)
+by_places u packages are name places slice is P matching named before after adds found =
+    let Exact : List Pkg → Type 0 = λ ps. (place : ℕ) → Contains places place ↔ IsProviderAt name ps place in
+    let Adds : List ℕ → Type 0 = λ ps. after found ↔ (before found ⊎ Any (λ place. IsSelectedAt (packages_of u.pairs) P place found) ps) in
+    let all = at_places u name places P (subst Exact are matching) named found in
+    let here : Adds places = subst Adds is (adds found) in (
+      λ now. elim (here.0 now) [ inl was ↦ inl was | inr some ↦ inr (all.0 some) ],
+      λ either. elim either [ inl was ↦ here.1 (inl was) | inr selects ↦ here.1 (inr (all.1 selects)) ],
+    )

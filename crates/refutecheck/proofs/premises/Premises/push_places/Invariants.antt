@@ -1,0 +1,12 @@
+-- The literals are those before with what is selected at the places so far.
+use Rattle.std.proofs.Common.{take, ◌⊎◌}
+use Rattle.std.specs.Prelude.{◌↔◌}
+use Rattle.std.specs.List.{Any, Contains}
+use Rattle.refutation.specs.declared.literal.Literal.{Literal}
+use Rattle.universe.specs.Universe.{packages_of}
+use Rattle.refutecheck.specs.Sought.{IsSelectedAt, IsSought}
+use Rattle.refutecheck.proofs.premises.Premises.push_places.Given as goal
+
+abbrev pub invariant-loop-place : goal.invariant-loop-place
+invariant-loop-place l = (found : Literal) → Contains l.literals.items found ↔ (Contains l.fn.literals.items found
+    ⊎ Any (λ place. IsSelectedAt (packages_of l.self.pairs) (IsSought l.sought) place found) (take l.place-index l.places))

@@ -1,0 +1,56 @@
+-- The clause of a premise and of a line, as a list of its literals.
+use Rattle.std.specs.Prelude.{◌≡◌, ℕ, List, [], ◌∷◌, ◌++◌, ◌⊎◌, ⊤, Option, Bool, MatchOption}
+use Rattle.std.specs.declared.cmp.Ordering.TheVariants.{Less}
+use Rattle.rules.specs.Package.{Atom, MatchesSome}
+use Rattle.rules.specs.Sound.{IsAcceptable}
+use Rattle.rules.specs.Universe.{Universe}
+use Rattle.rules.specs.Version.{SameVersion, version_cmp}
+use Rattle.refutation.specs.Clause.{IsListOf}
+use Rattle.refutation.specs.Premise.{IsInPremise, IsPremise, Selects}
+use Rattle.refutation.specs.Refutation.{IsAccepted, IsFirstBad, IsGoodLine, IsInLine}
+use Rattle.refutation.specs.declared.line.Line.{Line}
+use Rattle.refutation.specs.declared.line.Premise.{Premise}
+use Rattle.refutation.specs.declared.literal.Literal.{Literal}
+use Rattle.refutation.specs.declared.literal.Literal.TheVariants as literal
+use Rattle.refutecheck.specs.declared.verdict.Verdict.{Verdict}
+use Rattle.refutecheck.specs.declared.verdict.Verdict.TheVariants as verdict
+
+-- a clause is answered exactly where the fact holds, and the list has just its literals
+abbrev pub IsClauseWhere : Type 0 → (Literal → Type 0) → Option (List Literal) → Type 0
+IsClauseWhere holds clause found = MatchOption found (¬ holds) (λ literals. holds × IsListOf clause literals)
+
+-- a list is answered exactly where the premise is one of the universe, and it has just the literals of its clause
+abbrev pub IsAnswer : Universe → Premise → Option (List Literal) → Type 0
+IsAnswer u premise found = IsClauseWhere (IsPremise u premise) (IsInPremise u premise) found
+
+-- a list is answered exactly where the line is good behind the earlier ones, and it has just the literals of its clause
+abbrev pub IsLineAnswer : Universe → List Line → Line → Option (List Literal) → Type 0
+IsLineAnswer u earlier line found = IsClauseWhere (IsGoodLine u earlier line) (IsInLine u line) found
+
+-- the list has just the literals of the clause of the line
+abbrev pub IsClauseOf : Universe → Line → List Literal → Type 0
+IsClauseOf u line literals = IsListOf (IsInLine u line) literals
+
+-- the literal says that the pair isn't selected, or that one is whose package matches an atom of the list
+abbrev pub IsOutOrMatching : Universe → ℕ → List Atom → Literal → Type 0
+IsOutOrMatching u number atoms found =
+    (found ≡ literal.Unselected number) ⊎ Selects u (λ other. MatchesSome other atoms) found
+
+-- the verdict on the lines: yes exactly where they are accepted, and else the number of the first bad one
+abbrev pub IsVerdict : Universe → List Line → Verdict → Type 0
+IsVerdict u lines verdict.Yes = IsAccepted u lines
+IsVerdict u lines (verdict.No number) = IsFirstBad u lines number
+
+-- where the verdict is yes, no selection is acceptable
+abbrev pub Refutes : Universe → Verdict → Type 0
+Refutes u verdict.Yes = (selection : ℕ → Bool) → ¬ IsAcceptable u selection
+Refutes u (verdict.No number) = ⊤
+
+-- there is a version that stands and a candidate, the first is lower, and the version is the candidate
+abbrev pub IsLowerThanCandidate : Option (List ℕ) → Option (List ℕ) → List ℕ → Type 0
+IsLowerThanCandidate standing candidate version = MatchOption standing ⊥ (λ lower. MatchOption candidate ⊥
+    (λ higher. (version_cmp lower higher ≡ Less) × SameVersion version higher))
+
+-- there is a last clause, and it has no literal
+abbrev pub EndsWithNone : List (List Literal) → Type 0
+EndsWithNone clauses = (earlier : List (List Literal)) × (clauses ≡ earlier ++ [] ∷ [])

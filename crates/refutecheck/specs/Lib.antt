@@ -1,0 +1,5 @@
+pub mod Answer
+pub mod Falses
+pub mod Following
+pub mod Open
+pub mod Sought

@@ -1,0 +1,132 @@
+// Whether a refutation is accepted, line by line.
+
+ghost use Rattle.std.specs.Prelude.{◌≡◌, ◌↔◌, ◌^◌, ◌<◌, List, IfOk, IsTrue, length};
+ghost use Rattle.std.specs.List.{AllZip, Contains};
+ghost use Rattle.refutation.specs.Following.{EndsFalse};
+ghost use Rattle.refutation.specs.declared.line.Line.{Line as LineValue};
+ghost use Rattle.universe.specs.Universe.{HaveDistinctNames};
+ghost use Rattle.refutecheck.specs.Answer.{EndsWithNone, IsClauseOf, IsClauseWhere, IsLineAnswer, IsVerdict, Refutes};
+
+use crate::follow::follows;
+use crate::premise::clause_of;
+use crate::premises::Premises;
+use crate::verdict::Verdict;
+use refutation::{
+    Line, Literal, Refutation, empty_list_is_good, follows_from_lists, good_lines_grow,
+    none_is_acceptable,
+};
+use rules::Items;
+use std::alloc::{AllocError, Global};
+use universe::{Universe, lend_packages};
+
+// The same literals.
+fn copy_of(alloc: Global, literals: &[Literal]) -> Result<Items<Literal>, AllocError>
+    ensures { IfOk result (λ copy. copy ≡ literals.now) }
+{
+    let mut copy = Vec::new(alloc);
+    for literal in literals {
+        copy.push(*literal)?;
+    }
+    Ok(Items::new(copy))
+}
+
+// The clause of a derived line, if it follows from these clauses.
+fn derived_clause(
+    alloc: Global,
+    clauses: &[Items<Literal>],
+    literals: &[Literal],
+    hints: &[u32],
+) -> Result<Option<Items<Literal>>, AllocError>
+    ensures { IfOk result (IsClauseWhere (EndsFalse Contains clauses.now (Contains literals.now) hints.now) (Contains literals.now)) }
+{
+    if !follows(alloc, clauses, literals, hints)? {
+        return Ok(None);
+    }
+    let copy = copy_of(alloc, literals)?;
+    Ok(Some(copy))
+}
+
+// The clause of a line, if it is good behind the lines of these clauses.
+fn clause_of_line(
+    premises: &Premises<'_, '_, '_>,
+    clauses: &[Items<Literal>],
+    line: &Line,
+) -> Result<Option<Items<Literal>>, AllocError>
+    ensures { IfOk result (λ found. (earlier : List LineValue) → AllZip (IsClauseOf premises.now) earlier clauses.now
+        → IsLineAnswer premises.now earlier line.now found) }
+{
+    follows_from_lists();
+    match line {
+        Line::Premise(premise) => {
+            let found = clause_of(premises, premise)?;
+            Ok(found)
+        }
+        Line::Derived(literals, hints) => {
+            let found = derived_clause(
+                premises.alloc(),
+                clauses,
+                literals.as_slice(),
+                hints.as_slice(),
+            )?;
+            Ok(found)
+        }
+    }
+}
+
+// Whether there is a last clause, and it is empty.
+fn ends_with_none(clauses: &[Items<Literal>]) -> bool
+    ensures { IsTrue result ↔ EndsWithNone clauses.now }
+{
+    match clauses.split_last() {
+        None => false,
+        Some((last, _)) => last.as_slice().is_empty(),
+    }
+}
+
+// The verdict on the lines. Their clauses are kept until the end.
+fn judge(premises: &Premises<'_, '_, '_>, lines: &[Line]) -> Result<Verdict, AllocError>
+    ensures { IfOk result (IsVerdict premises.now lines.now) }
+{
+    empty_list_is_good();
+    good_lines_grow();
+    let mut clauses = Vec::new(premises.alloc());
+    for line in lines {
+        match clause_of_line(premises, clauses.as_slice(), line)? {
+            None => return Ok(Verdict::No(clauses.len() + 1)),
+            Some(clause) => clauses.push(clause)?,
+        }
+    }
+    if ends_with_none(clauses.as_slice()) {
+        Ok(Verdict::Yes)
+    } else {
+        Ok(Verdict::No(clauses.len() + 1))
+    }
+}
+
+/// The verdict on the refutation: yes exactly where every line is a premise of the universe or follows from the earlier
+/// lines that it hints at, and the last one's clause is empty (docs/FORMATS.md). A yes means that no selection of the
+/// pairs is acceptable. The packages of all pairs are read once; each line then costs what its clause, or the clauses of
+/// its hints, have, and for a premise the packages that have or provide its names. Memory alone can fail.
+pub fn check_refutation(
+    alloc: Global,
+    universe: &Universe<'_, '_>,
+    refutation: &Refutation,
+) -> Result<Verdict, AllocError>
+    // pairs have numbers of 32 bits, as those of a request have (`rules::PAIRS`)
+    requires few { length universe.now.pairs < 2 ^ 32 }
+    // no two facts of the start are about one name, as of a status file
+    requires distinct { HaveDistinctNames universe.now.starts }
+    // yes exactly where the refutation is accepted, and else the number of the first bad line
+    ensures exact { IfOk result (IsVerdict universe.now refutation.now) }
+    // where the answer is yes, no selection is acceptable
+    ensures refutes { IfOk result (Refutes universe.now) }
+{
+    none_is_acceptable();
+    let packages = universe.packages(alloc)?;
+    let lent = lend_packages(alloc, packages.as_slice())?;
+    let premises = Premises::new(alloc, universe, lent.as_slice())?;
+    let verdict = judge(&premises, refutation.as_slice())?;
+    // That the pairs ascend is known from here on.
+    let _ascending = universe.pairs();
+    Ok(verdict)
+}

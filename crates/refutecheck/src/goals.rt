@@ -1,0 +1,175 @@
+// The premises that speak of a goal (after apt-get(8)).
+
+ghost use Rattle.std.specs.Prelude.{◌≡◌, ◌↔◌, ⊤, IfOk, IsTrue, MatchOption};
+ghost use Rattle.std.specs.List.{Any};
+ghost use Rattle.std.specs.Option.{option_copied};
+ghost use Rattle.std.specs.declared.cmp.Ordering.TheVariants.{Less};
+ghost use Rattle.rules.specs.Universe.{IsOf, candidate_of};
+ghost use Rattle.rules.specs.Version.{SameVersion, version_cmp};
+ghost use Rattle.refutation.specs.Clause.{IsListOf};
+ghost use Rattle.refutation.specs.Premise.{AsksForMember, IsAskedBy, IsSaidBy, IsUpgradeFrom, PairHas, Selects, SpeaksOf};
+ghost use Rattle.refutation.specs.declared.literal.Literal.{Literal as LiteralValue};
+ghost use Rattle.refutecheck.specs.Answer.{IsAnswer, IsClauseWhere, IsLowerThanCandidate};
+
+use crate::literals::alone_if;
+use crate::pairs::is_named;
+use crate::premises::Premises;
+use crate::sought::{Sought, is_same};
+use debversion::Version;
+use refutation::{Literal, Premise};
+use relation::Pkg;
+use rules::{Goal, Items};
+use std::alloc::AllocError;
+use universe::Start;
+
+// The candidate of the name, if it is admitted.
+fn candidate_clause(
+    premises: &Premises<'_, '_, '_>,
+    name: &[u8],
+) -> Result<Items<Literal>, AllocError>
+    ensures { IfOk result (IsListOf (Selects premises.now
+        (λ pkg. MatchOption (candidate_of premises.now name.now) ⊥ (λ candidate. IsOf name.now candidate pkg)))) }
+{
+    match premises.candidate(name) {
+        None => Ok(Items::new(Vec::new(premises.alloc()))),
+        Some(version) => {
+            let literals = premises.all_sought(Sought::InVersion(name, version))?;
+            Ok(literals)
+        }
+    }
+}
+
+// The pairs that the goal asks for, if it asks for a member.
+fn clause_asked_by(
+    premises: &Premises<'_, '_, '_>,
+    goal: &Goal,
+) -> Result<Option<Items<Literal>>, AllocError>
+    ensures { IfOk result (IsClauseWhere (AsksForMember goal.now) (Selects premises.now (IsAskedBy premises.now goal.now))) }
+{
+    match goal {
+        Goal::Install(name, restriction) => {
+            let literals = premises.all_sought(Sought::Meeting(name.as_bytes(), restriction))?;
+            Ok(Some(literals))
+        }
+        Goal::Upgrade(name) => {
+            let literals = candidate_clause(premises, name.as_bytes())?;
+            Ok(Some(literals))
+        }
+        Goal::Remove(_) => Ok(None),
+        Goal::Purge(_) => Ok(None),
+        Goal::UpgradeAll => Ok(None),
+        Goal::NoRemove => Ok(None),
+    }
+}
+
+/// The clause of an install or upgrade goal. Memory alone can fail. Linear in the packages that have or provide the name.
+pub fn goal_clause(
+    premises: &Premises<'_, '_, '_>,
+    number: u32,
+) -> Result<Option<Items<Literal>>, AllocError>
+    ensures { IfOk result (IsAnswer premises.now (Premise.Goal number)) }
+{
+    match premises.goal_at(number) {
+        None => Ok(None),
+        Some(goal) => {
+            let found = clause_asked_by(premises, goal)?;
+            Ok(found)
+        }
+    }
+}
+
+// Whether what stands is lower than the candidate, and the version is the candidate.
+fn is_lower_than_candidate(
+    standing: Option<&Version<'_>>,
+    candidate: Option<&Version<'_>>,
+    version: &Version<'_>,
+) -> bool
+    ensures { IsTrue result
+        ↔ IsLowerThanCandidate (option_copied standing.entry) (option_copied candidate.entry) version.now }
+{
+    match (standing, candidate) {
+        (Some(standing), Some(candidate)) => standing.cmp(candidate).is_lt()
+            && version == candidate,
+        _ => false,
+    }
+}
+
+// Whether the package upgrades what the start says.
+fn is_upgrade_from(premises: &Premises<'_, '_, '_>, pkg: &Pkg<'_>, start: &Start<'_>) -> bool
+    ensures { IsTrue result ↔ ((start.now.name ≡ pkg.now.name) × (IsTrue start.now.is_held → ⊥)
+        × IsLowerThanCandidate start.now.standing (candidate_of premises.now start.now.name) pkg.now.version) }
+{
+    is_same(start.name(), pkg.name())
+        && !start.is_held()
+        && is_lower_than_candidate(
+            start.standing(),
+            premises.candidate(start.name()),
+            pkg.version(),
+        )
+}
+
+fn is_upgrade(premises: &Premises<'_, '_, '_>, pkg: &Pkg<'_>) -> bool
+    ensures { IsTrue result ↔ Any (IsUpgradeFrom premises.now pkg.now) premises.now.starts }
+{
+    match premises.start(pkg.name()) {
+        None => false,
+        Some(start) => is_upgrade_from(premises, pkg, start),
+    }
+}
+
+fn is_pair_of_upgrade(premises: &Premises<'_, '_, '_>, number: u32) -> bool
+    ensures { IsTrue result
+        ↔ PairHas premises.now number (λ pkg. Any (IsUpgradeFrom premises.now pkg) premises.now.starts) }
+{
+    match premises.pkg_at(number) {
+        None => false,
+        Some(pkg) => is_upgrade(premises, pkg),
+    }
+}
+
+// What the goal says of the pair by itself, if it speaks of it.
+fn clause_said_by(
+    premises: &Premises<'_, '_, '_>,
+    goal: &Goal,
+    pair: u32,
+) -> Result<Option<Items<Literal>>, AllocError>
+    ensures { IfOk result (IsClauseWhere (PairHas premises.now pair (SpeaksOf premises.now goal.now)) (IsSaidBy goal.now pair)) }
+{
+    match goal {
+        Goal::Install(_, _) => Ok(None),
+        Goal::Remove(name) => {
+            let is_premise = is_named(premises, pair, name.as_bytes());
+            let found = alone_if(premises.alloc(), is_premise, Literal::Unselected(pair))?;
+            Ok(found)
+        }
+        Goal::Purge(name) => {
+            let is_premise = is_named(premises, pair, name.as_bytes());
+            let found = alone_if(premises.alloc(), is_premise, Literal::Unselected(pair))?;
+            Ok(found)
+        }
+        Goal::Upgrade(_) => Ok(None),
+        Goal::UpgradeAll => {
+            let is_premise = is_pair_of_upgrade(premises, pair);
+            let found = alone_if(premises.alloc(), is_premise, Literal::Selected(pair))?;
+            Ok(found)
+        }
+        Goal::NoRemove => Ok(None),
+    }
+}
+
+/// The clause of a goal and a pair that it speaks of by itself. Memory alone can fail. Linear in the name.
+pub fn goal_on_clause(
+    premises: &Premises<'_, '_, '_>,
+    number: u32,
+    pair: u32,
+) -> Result<Option<Items<Literal>>, AllocError>
+    ensures { IfOk result (IsAnswer premises.now (Premise.GoalOn number pair)) }
+{
+    match premises.goal_at(number) {
+        None => Ok(None),
+        Some(goal) => {
+            let found = clause_said_by(premises, goal, pair)?;
+            Ok(found)
+        }
+    }
+}

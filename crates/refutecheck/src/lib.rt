@@ -1,0 +1,21 @@
+// The judge of refutations: whether every line is a premise of the universe or follows from earlier ones by unit
+// propagation along its hints, and the last one's clause is empty. It stands on the definitions of `rules` and
+// `refutation`, which it decides, and shares nothing with what finds refutations (`encode`, `search`, `order`).
+#![tactic(auto)]
+
+mod check;
+mod falses;
+mod follow;
+mod goals;
+mod literals;
+mod needs;
+mod open;
+mod pairs;
+mod premise;
+mod premises;
+mod sought;
+mod starts;
+mod verdict;
+
+pub use check::check_refutation;
+pub use verdict::Verdict;

@@ -1,0 +1,219 @@
+// The premises of a universe: what their clauses are found in.
+
+ghost use Rattle.std.specs.Prelude.{◌≡◌, ◌↔◌, ◌⊎◌, ◌+◌, ◌^◌, ◌<◌, ℕ, IfOk, IsTrue, OnOk, length, map};
+ghost use Rattle.std.specs.List.{Any, Contains, list_any, slice_get};
+ghost use Rattle.std.specs.Option.{option_copied};
+ghost use Rattle.rules.specs.Universe.{candidate_of, start_in};
+ghost use Rattle.refutation.specs.Clause.{IsListOf, item_at};
+ghost use Rattle.refutation.specs.Premise.{PairHas, PairsAre, Selects};
+ghost use Rattle.refutation.specs.declared.literal.Literal.{Literal};
+ghost use Rattle.universe.specs.Universe.{HaveDistinctNames, packages_of};
+ghost use Rattle.refutecheck.specs.Sought.{IsSelectedAt, IsSought, is_no_remove};
+
+use crate::sought::{Sought, is_same, is_sought, name_of};
+use debversion::Version;
+use index::Providers;
+use refutation::Literal;
+use relation::Pkg;
+use rules::{Goal, Items};
+use std::alloc::{AllocError, Global};
+use std::marker::Model;
+use universe::{Start, Universe};
+
+/// The premises of a universe: its parts, with its packages and who has or provides a name.
+#[derive(Drop)]
+pub struct Premises<'u, 'p, 'a> {
+    alloc: Global,
+    universe: &'u Universe<'p, 'a>,
+    packages: &'u [&'u Pkg<'a>],
+    providers: Providers<'u, 'a>,
+    keeps: bool,
+}
+
+impl<'u, 'p, 'a> Model for Premises<'u, 'p, 'a> {
+    ghost use Rattle.std.specs.Prelude.{◌≡◌, ◌^◌, ◌<◌, length, map};
+    ghost use Rattle.std.specs.List.{AllPairs, list_any};
+    ghost use Rattle.rules.specs.Universe.{Universe as UniverseValue};
+    ghost use Rattle.universe.specs.Universe.{HaveDistinctNames, packages_of};
+    ghost use Rattle.refutecheck.specs.Sought.{is_no_remove};
+
+    ghost Value = { UniverseValue };
+
+    ghost view = { λ p. p.universe.now };
+
+    ghost invariant = { λ p. (map (λ pkg. pkg.now) p.packages.now ≡ packages_of p.universe.now.pairs)
+        × (p.providers ≡ packages_of p.universe.now.pairs)
+        × (p.keeps ≡ list_any is_no_remove p.universe.now.goals)
+        × (length p.universe.now.pairs < 2 ^ 32)
+        × HaveDistinctNames p.universe.now.starts };
+}
+
+// Whether the goal is that nothing is removed.
+fn is_no_remove(goal: &Goal) -> bool
+    ensures { result ≡ is_no_remove goal.now }
+{
+    matches!(goal, Goal::NoRemove)
+}
+
+// Whether a goal is that nothing is removed.
+fn has_no_remove(goals: &[Goal]) -> bool
+    ensures { result ≡ list_any is_no_remove goals.now }
+{
+    goals.iter().any(|goal| is_no_remove(goal))
+}
+
+// The package that is lent at this place.
+fn lent_at<'u, 'a>(packages: &'u [&'u Pkg<'a>], place: usize) -> Option<&'u Pkg<'a>>
+    ensures { option_copied result ≡ slice_get (map (λ pkg. pkg.now) packages.now) place }
+{
+    match packages.get(place) {
+        None => None,
+        Some(pkg) => Some(*pkg),
+    }
+}
+
+impl<'u, 'p, 'a> Premises<'u, 'p, 'a> {
+    /// The premises of the universe, whose packages these are. Memory alone can fail. About n log n comparisons of the n
+    /// names that they have and provide.
+    pub fn new(
+        alloc: Global,
+        universe: &'u Universe<'p, 'a>,
+        packages: &'u [&'u Pkg<'a>],
+    ) -> Result<Premises<'u, 'p, 'a>, AllocError>
+        requires packages { map (λ pkg. pkg.now) packages.now ≡ packages_of universe.now.pairs }
+        requires few { length universe.now.pairs < 2 ^ 32 }
+        requires distinct { HaveDistinctNames universe.now.starts }
+        ensures { IfOk result (λ premises. premises ≡ universe.now) }
+    {
+        let providers = Providers::build(alloc, packages)?;
+        Ok(Premises {
+            alloc,
+            universe,
+            packages,
+            providers,
+            keeps: has_no_remove(universe.goals()),
+        })
+    }
+
+    /// The allocator that memory is taken from.
+    pub fn alloc(&self) -> Global {
+        self.alloc
+    }
+
+    // The package at this place, counted from 0.
+    fn pkg_in(&self, place: usize) -> Option<&'u Pkg<'a>>
+        ensures { option_copied result ≡ slice_get (packages_of self.now.pairs) place }
+    {
+        lent_at(self.packages, place)
+    }
+
+    /// The package of the pair of this number.
+    pub fn pkg_at(&self, number: u32) -> Option<&'u Pkg<'a>>
+        ensures { option_copied result ≡ item_at (packages_of self.now.pairs) number }
+    {
+        let place = number.checked_sub(1)?;
+        self.pkg_in(place as usize)
+    }
+
+    // The number of the pair at this place, at which there is one.
+    fn number_at(&self, place: usize) -> u32
+        requires { place < length self.now.pairs }
+        ensures { result ≡ place + 1 }
+    {
+        let _few = self.keeps;
+        (place + 1) as u32
+    }
+
+    // Puts the pair at this place behind the literals, if its package is sought.
+    fn push_place(
+        &self,
+        literals: &mut Vec<Literal>,
+        place: usize,
+        sought: Sought<'_, '_>,
+    ) -> Result<(), AllocError>
+        ensures { OnOk result ((found : Literal) → Contains literals.new.items found ↔ (Contains literals.old.items found
+            ⊎ IsSelectedAt (packages_of self.now.pairs) (IsSought sought.entry) place found)) }
+    {
+        match self.pkg_in(place) {
+            None => Ok(()),
+            Some(pkg) => {
+                if !is_sought(pkg, sought) {
+                    return Ok(());
+                }
+                literals.push(Literal::Selected(self.number_at(place)))?;
+                Ok(())
+            }
+        }
+    }
+
+    // Puts the pairs at these places behind the literals whose packages are sought.
+    fn push_places(
+        &self,
+        literals: &mut Vec<Literal>,
+        places: &[usize],
+        sought: Sought<'_, '_>,
+    ) -> Result<(), AllocError>
+        ensures { OnOk result ((found : Literal) → Contains literals.new.items found ↔ (Contains literals.old.items found
+            ⊎ Any (λ place. IsSelectedAt (packages_of self.now.pairs) (IsSought sought.entry) place found) places.now)) }
+    {
+        for place in places {
+            self.push_place(literals, *place, sought)?;
+        }
+        Ok(())
+    }
+
+    /// Puts the pairs behind the literals whose packages are sought. Memory alone can fail. Linear in the packages that
+    /// have or provide the name.
+    pub fn push_sought(
+        &self,
+        literals: &mut Vec<Literal>,
+        sought: Sought<'_, '_>,
+    ) -> Result<(), AllocError>
+        ensures { OnOk result ((found : Literal) → Contains literals.new.items found ↔ (Contains literals.old.items found
+            ⊎ Selects self.now (IsSought sought.entry) found)) }
+    {
+        let places = self.providers.of(self.alloc, name_of(sought))?;
+        self.push_places(literals, places.as_slice(), sought)?;
+        Ok(())
+    }
+
+    /// The pairs whose packages are sought, selected. Memory alone can fail. Linear in the packages that have or provide
+    /// the name.
+    pub fn all_sought(&self, sought: Sought<'_, '_>) -> Result<Items<Literal>, AllocError>
+        ensures { IfOk result (IsListOf (Selects self.now (IsSought sought.entry))) }
+    {
+        let mut literals = Vec::new(self.alloc);
+        self.push_sought(&mut literals, sought)?;
+        Ok(Items::new(literals))
+    }
+
+    /// The goal of this number.
+    pub fn goal_at(&self, number: u32) -> Option<&'u Goal>
+        ensures { option_copied result ≡ item_at self.now.goals number }
+    {
+        let place = number.checked_sub(1)?;
+        self.universe.goals().get(place as usize)
+    }
+
+    /// What the start says of the name, if it knows it.
+    pub fn start(&self, name: &[u8]) -> Option<&'u Start<'a>>
+        ensures found { option_copied result ≡ start_in self.now name.now }
+        ensures distinct { HaveDistinctNames self.now.starts }
+    {
+        self.universe.start(name)
+    }
+
+    /// The candidate's version, if the name has one.
+    pub fn candidate(&self, name: &[u8]) -> Option<&'u Version<'a>>
+        ensures { option_copied result ≡ candidate_of self.now name.now }
+    {
+        self.universe.candidate(name)
+    }
+
+    /// Whether a goal is that nothing is removed.
+    pub fn keeps(&self) -> bool
+        ensures { IsTrue result ↔ Contains self.now.goals Goal.NoRemove }
+    {
+        self.keeps
+    }
+}

@@ -1,4 +1,0 @@
-pub mod MappedLemmas
-pub mod CandidateLemmas
-pub mod UniverseLemmas
-pub mod VerdictLemmas

@@ -1,2 +1,0 @@
-pub mod Rewritten
-pub mod Laws
