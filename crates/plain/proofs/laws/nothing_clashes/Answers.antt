@@ -1,0 +1,5 @@
+use Rattle.plain.proofs.PeaceLemmas.{nothing_clashes}
+use Rattle.plain.proofs.laws.nothing_clashes.Goals as goal
+
+pub returns : goal.returns
+returns c = nothing_clashes

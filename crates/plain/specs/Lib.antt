@@ -1,0 +1,5 @@
+pub mod Change
+pub mod Counted
+pub mod Laws
+pub mod Order
+pub mod Underway

@@ -1,0 +1,8 @@
+// When a change from a start to a selection is plain, and the fixed order in which it is then made: definitions and
+// laws. It stands on `rules`, and decides nothing: its laws are public functions with empty bodies. The main one says
+// that steps in the fixed order are a run to a good end. Begin with `specs/Change.antt`.
+#![tactic(auto)]
+
+mod laws;
+
+pub use laws::{start_is_quiet, nothing_clashes};
