@@ -1,6 +1,6 @@
 // Laws that follow from the definitions: each function has an empty body, and its contract is the law.
 
-ghost use Rattle.plain.specs.Laws.{StartIsQuiet, NothingClashes};
+ghost use Rattle.plain.specs.Laws.{UniverseIsCounted, StartIsQuiet, NothingClashes};
 
 /// The start of a plain change is quiet.
 pub fn start_is_quiet()
@@ -11,4 +11,9 @@ pub fn start_is_quiet()
 /// stands in the way of a step.
 pub fn nothing_clashes()
     ensures { NothingClashes }
+{}
+
+/// The universe of inputs is counted by their start.
+pub fn universe_is_counted()
+    ensures { UniverseIsCounted }
 {}

@@ -5,4 +5,4 @@
 
 mod laws;
 
-pub use laws::{start_is_quiet, nothing_clashes};
+pub use laws::{start_is_quiet, nothing_clashes, universe_is_counted};
