@@ -1,2 +1,4 @@
+pub mod ChangedLemmas
 pub mod MemberLemmas
 pub mod PeaceLemmas
+pub mod UnpackLemmas

@@ -5,4 +5,4 @@
 
 mod laws;
 
-pub use laws::{start_is_quiet, nothing_clashes, universe_is_counted};
+pub use laws::{start_is_quiet, nothing_clashes, universe_is_counted, unpacks_are_allowed};
