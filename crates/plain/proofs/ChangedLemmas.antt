@@ -1,10 +1,10 @@
 -- The records of a database after a change of some, and after an unpack.
 use Rattle.std.proofs.Common.{◌≡◌, ◌≢◌, ℕ, Bool, true, false, cond, not, List, [], ◌∷◌, ◌++◌, ◌⊎◌, Option, Some, None, refl, sym, ap, subst, ◌∙◌}
 use Rattle.std.specs.Prelude.{IsTrue}
-use Rattle.std.specs.List.{Any, Contains, list_any}
-use Rattle.std.proofs.lemmas.List.Elements.{Contains-append_cases, Contains-append_left, Contains-append_right}
+use Rattle.std.specs.List.{All, Any, Contains, list_any}
+use Rattle.std.proofs.lemmas.List.Elements.{All-contains, Contains-append_cases, Contains-append_left, Contains-append_right}
 use Rattle.rules.specs.Database.{Record, IsHeld, HasSoundFlag, Stands, pkg_of}
-use Rattle.rules.specs.ElementLaws.{Any-intro, Any-elim, Any-from_list_any, Contains-cons, Contains-head, Contains-nil, Contains-map, Contains-map_intro}
+use Rattle.rules.specs.ElementLaws.{All-intro, Any-intro, Any-elim, Any-from_list_any, Contains-cons, Contains-head, Contains-nil, Contains-map, Contains-map_intro}
 use Rattle.rules.specs.NamedLaws.{bytes_eq-true, bytes_eq-same}
 use Rattle.rules.specs.Package.{Pkg}
 use Rattle.rules.specs.Step.{IndexPackage, is_named, changed, unpacked_over, unpacked_with, after_unpack}
@@ -48,6 +48,24 @@ pub changed_has : (test : Record → Bool) (change : Record → Record) (db : Li
 changed_has test change db old within passes =
     let same : cond (test old) (change old) old ≡ change old = ap (λ (b : Bool). cond b (change old) old) passes in
     subst (Contains (changed test change db)) same (Contains-map_intro (λ r. cond (test r) (change r) r) db old within)
+
+-- what holds of all records, and of what is changed, holds of all behind the change
+pub All-behind : (P : Record → Type 0) (test : Record → Bool) (change : Record → Record) (db : List Record)
+    → ((old : Record) → Contains db old → test old ≡ true → P (change old)) → All P db → All P (changed test change db)
+All-behind P test change db each all = All-intro P (changed test change db) (λ found within.
+    elim (changed_each test change db found within) [
+      | inl made ↦ subst P made.3 (each made.0 made.1 made.2)
+      | inr left ↦ All-contains P db found all left.0
+    ])
+
+-- a record with a property that a change keeps is some record with it behind the change
+pub Any-behind : (P : Record → Type 0) (test : Record → Bool) (change : Record → Record) (db : List Record) (found : Record)
+    → Contains db found → P found → (test found ≡ true → P (change found)) → Any P (changed test change db)
+Any-behind P test change db found within holds changes = at (test found) refl
+  where
+    at : (b : Bool) → test found ≡ b → Any P (changed test change db)
+    at true is = Any-intro P (changed test change db) (change found) (changed_has test change db found within is) (changes is)
+    at false is = Any-intro P (changed test change db) found (changed_keeps test change db found within is) holds
 
 -- the record is of the package as an unpack leaves it
 pub record IsUnpackedAs (pkg : Pkg) (found : Record) : Type 0 where

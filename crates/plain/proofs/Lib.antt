@@ -1,4 +1,6 @@
 pub mod ChangedLemmas
 pub mod MemberLemmas
 pub mod PeaceLemmas
+pub mod RemovalLemmas
+pub mod UnderwayLemmas
 pub mod UnpackLemmas

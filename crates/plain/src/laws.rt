@@ -1,6 +1,6 @@
 // Laws that follow from the definitions: each function has an empty body, and its contract is the law.
 
-ghost use Rattle.plain.specs.Laws.{UniverseIsCounted, StartIsQuiet, NothingClashes, UnpacksAreAllowed};
+ghost use Rattle.plain.specs.Laws.{UniverseIsCounted, StartIsQuiet, NothingClashes, UnpacksAreAllowed, LastRemovalIsAllowed, RemovalsGoOn, RemovalsAreAllowed};
 
 /// The start of a plain change is quiet.
 pub fn start_is_quiet()
@@ -22,4 +22,19 @@ pub fn universe_is_counted()
 /// and each installed package that isn't to be removed is a member that stays.
 pub fn unpacks_are_allowed()
     ensures { UnpacksAreAllowed }
+{}
+
+/// A name to be removed may go where no other one that is to be removed is installed.
+pub fn last_removal_is_allowed()
+    ensures { LastRemovalIsAllowed }
+{}
+
+/// While a name is to be removed, one may go or one is installed, which may then be deconfigured.
+pub fn removals_go_on()
+    ensures { RemovalsGoOn }
+{}
+
+/// The next of the removals is allowed, keeps the change underway, and leaves fewer steps.
+pub fn removals_are_allowed()
+    ensures { RemovalsAreAllowed }
 {}
