@@ -1,4 +1,5 @@
 pub mod ChangedLemmas
+pub mod ConfigureLemmas
 pub mod MemberLemmas
 pub mod PeaceLemmas
 pub mod RemovalLemmas

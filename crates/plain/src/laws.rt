@@ -1,6 +1,6 @@
 // Laws that follow from the definitions: each function has an empty body, and its contract is the law.
 
-ghost use Rattle.plain.specs.Laws.{UniverseIsCounted, StartIsQuiet, NothingClashes, UnpacksAreAllowed, LastRemovalIsAllowed, RemovalsGoOn, RemovalsAreAllowed};
+ghost use Rattle.plain.specs.Laws.{UniverseIsCounted, StartIsQuiet, NothingClashes, UnpacksAreAllowed, LastRemovalIsAllowed, RemovalsGoOn, RemovalsAreAllowed, UnconfiguredPass, ConfiguresKeep};
 
 /// The start of a plain change is quiet.
 pub fn start_is_quiet()
@@ -37,4 +37,14 @@ pub fn removals_go_on()
 /// The next of the removals is allowed, keeps the change underway, and leaves fewer steps.
 pub fn removals_are_allowed()
     ensures { RemovalsAreAllowed }
+{}
+
+/// Where nothing is to be removed, all that isn't configured passes as a group, but for the rule of its parts.
+pub fn unconfigured_pass()
+    ensures { UnconfiguredPass }
+{}
+
+/// A configure that is allowed keeps the change underway, with nothing to be removed.
+pub fn configures_keep()
+    ensures { ConfiguresKeep }
 {}

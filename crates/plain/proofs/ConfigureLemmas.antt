@@ -1,0 +1,220 @@
+-- Where nothing is to be removed, all that isn't configured passes as a group, and configures keep a change underway.
+use Rattle.std.proofs.Common.{◌≡◌, ◌≢◌, ℕ, Bool, true, false, ◌&&◌, ◌||◌, List, [], ◌∷◌, ◌++◌, map, ◌⊎◌, None, refl, sym, ap, subst, ◌∙◌}
+use Rattle.std.specs.Prelude.{IsTrue}
+use Rattle.std.specs.List.{All, Any, Contains, filter}
+use Rattle.std.proofs.lemmas.List.Elements.{All-contains, All-cons, All-nil, All-head, All-weaker, Contains-append_left, Contains-append_right}
+use Rattle.rules.specs.Configure.{is_present_among, members_of, HasConfigurable, IsConfigurable, AreConfigurable, ArePreDependsInstalled, AreDependsInstalled, AreUnbroken, GroupPasses, IsIndivisible}
+use Rattle.rules.specs.Database.{Record, HasRecord, IsPresent, IsInstalled, IsUnconfigured, IsRemoved, HasSoundFlag, IsHeld, Stands, installed_of, pkg_of}
+use Rattle.rules.specs.ElementLaws.{All-intro, Any-intro, Any-elim, Contains-map, Contains-map_intro, Contains-filter, Contains-filter_intro}
+use Rattle.rules.specs.Legal.{Allowed, ConfigureAsks}
+use Rattle.rules.specs.NamedLaws.{contains-is_among, is_among-contains}
+use Rattle.rules.specs.Package.{Pkg, Atom, MatchesSome, MeetsClause}
+use Rattle.rules.specs.Run.{after}
+use Rattle.rules.specs.Sound.{HasMember, HasItsRelations, IsAcceptable, IsSound, MeetsClauses, selected}
+use Rattle.rules.specs.State.{is_installed_state, is_present_state, is_unconfigured_state, is_sound_flag}
+use Rattle.rules.specs.Step.{changed, configured, is_among}
+use Rattle.rules.specs.Universe.{Universe}
+use Rattle.rules.specs.declared.status.State.{State}
+use Rattle.rules.specs.declared.status.State.TheVariants.{NotInstalled, ConfigFiles, HalfInstalled, Unpacked, HalfConfigured, TriggersAwaited, TriggersPending, Installed}
+use Rattle.rules.specs.declared.step.Rule.TheVariants as rule
+use Rattle.rules.specs.declared.step.Step.TheVariants as step
+use Rattle.rules.proofs.EndLemmas.{both_true}
+use Rattle.rules.proofs.GroupLemmas.{MeetsClauses-more}
+use Rattle.rules.proofs.PlanLemmas.{installed_contains}
+use Rattle.rules.proofs.QuietLemmas.{distinct_names_kept, one_record, the_record}
+use Rattle.plain.specs.Change.{IsPlainChange, IsReady, IsMetByStaying, IsToRemove, Stays}
+use Rattle.plain.specs.Laws.{UnconfiguredPass, ConfiguresKeep}
+use Rattle.plain.specs.Underway.{IsFree, IsUnderway, unconfigured_of}
+use Rattle.plain.proofs.ChangedLemmas.{changed_each}
+use Rattle.plain.proofs.PeaceLemmas.{nothing_clashes}
+use Rattle.plain.proofs.UnderwayLemmas.{dec_HasMember, named, member_record, record_of_member, record_of_staying, free_record, underway_changed, underway_has_old_and_new}
+use Rattle.plain.proofs.UnpackLemmas.{stands_sound}
+use mathlib.Core.Logic.{inl, inr}
+
+-- what isn't configured is present and not installed
+pub unconfigured_present : (state : State) → IsTrue (is_unconfigured_state state) → IsTrue (is_present_state state)
+unconfigured_present NotInstalled is = absurd (let e : false ≡ true = is in cc)
+unconfigured_present ConfigFiles is = absurd (let e : false ≡ true = is in cc)
+unconfigured_present HalfInstalled is = refl
+unconfigured_present Unpacked is = refl
+unconfigured_present HalfConfigured is = refl
+unconfigured_present TriggersAwaited is = refl
+unconfigured_present TriggersPending is = refl
+unconfigured_present Installed is = refl
+
+unconfigured_uninstalled : (state : State) → IsTrue (is_unconfigured_state state) → ¬ IsTrue (is_installed_state state)
+unconfigured_uninstalled NotInstalled is installed = absurd (let e : false ≡ true = is in cc)
+unconfigured_uninstalled ConfigFiles is installed = absurd (let e : false ≡ true = is in cc)
+unconfigured_uninstalled HalfInstalled is installed = absurd (let e : false ≡ true = is in cc)
+unconfigured_uninstalled Unpacked is installed = absurd (let e : false ≡ true = installed in cc)
+unconfigured_uninstalled HalfConfigured is installed = absurd (let e : false ≡ true = installed in cc)
+unconfigured_uninstalled TriggersAwaited is installed = absurd (let e : false ≡ true = installed in cc)
+unconfigured_uninstalled TriggersPending is installed = absurd (let e : false ≡ true = installed in cc)
+unconfigured_uninstalled Installed is installed = absurd (let e : false ≡ true = is in cc)
+
+-- what stands is installed or isn't configured
+pub stands_either : (found : Record) → Stands found → IsInstalled found ⊎ IsUnconfigured found
+stands_either found stands = at (is_unconfigured_state found.state) (is_installed_state found.state)
+    (both_true (is_unconfigured_state found.state || is_installed_state found.state) (is_sound_flag found.flag) stands).0
+  where
+    at : (x y : Bool) → IsTrue (x || y) → IsTrue y ⊎ IsTrue x
+    at true y either = inr refl
+    at false y either = inl either
+
+-- a configure that keeps its rules is allowed
+pub allowed_configure : (u : Universe) (db : List Record) (names : List (List ℕ)) → GroupPasses db names → IsIndivisible db names
+    → Allowed u db (step.Configure names)
+unfolding Allowed
+allowed_configure u db names passes indivisible =
+    All-cons (ConfigureAsks db names) rule.WrongState (rule.PreDepends ∷ rule.Depends ∷ rule.Breaks ∷ rule.Group ∷ []) passes.configurable
+    (All-cons (ConfigureAsks db names) rule.PreDepends (rule.Depends ∷ rule.Breaks ∷ rule.Group ∷ []) passes.pre_depends
+    (All-cons (ConfigureAsks db names) rule.Depends (rule.Breaks ∷ rule.Group ∷ []) passes.depends
+    (All-cons (ConfigureAsks db names) rule.Breaks (rule.Group ∷ []) passes.unbroken
+    (All-cons (ConfigureAsks db names) rule.Group [] indivisible (All-nil (ConfigureAsks db names))))))
+
+-- a name that isn't configured is that of a record
+pub unconfigured_record : (db : List Record) (name : List ℕ) → Contains (unconfigured_of db) name
+    → (found : Record) × Contains db found × IsUnconfigured found × (found.name ≡ name)
+unconfigured_record db name within =
+    let from = Contains-map (λ (r : Record). r.name) (filter (λ r. is_unconfigured_state r.state) db) name within in
+    let kept = Contains-filter (λ r. is_unconfigured_state r.state) db from.0 from.1 in
+    (from.0, kept.0, kept.1, from.2)
+
+pub record_unconfigured : (db : List Record) (found : Record) → Contains db found → IsUnconfigured found
+    → Contains (unconfigured_of db) found.name
+record_unconfigured db found there is = Contains-map_intro (λ (r : Record). r.name) (filter (λ r. is_unconfigured_state r.state) db) found
+    (Contains-filter_intro (λ r. is_unconfigured_state r.state) db found there is)
+
+-- where nothing is to be removed, a present record is of a member, and stands
+pub all_members : (u : Universe) (start : List Record) (members : List Pkg) (db : List Record) → IsUnderway u start members db
+    → ((name : List ℕ) → ¬ IsToRemove members db name) → (found : Record) → Contains db found → IsPresent found
+    → Stands found × Contains members (pkg_of found)
+all_members u start members db underway none found there present = at (dec_HasMember found.name members)
+  where
+    at : Dec (HasMember found.name members) → Stands found × Contains members (pkg_of found)
+    at (yes has) = member_record u start members db underway found there has
+    at (no alone) = absurd (none found.name (Any-intro (λ (r : Record). (r.name ≡ found.name) × IsPresent r) db found there (refl, present), alone))
+
+module _ (u : Universe) (start db : List Record) (selection : ℕ → Bool) (change : IsPlainChange u start selection)
+    (underway : IsUnderway u start (selected u selection) db) (none : (name : List ℕ) → ¬ IsToRemove (selected u selection) db name) where
+  abbrev members : List Pkg
+  members = selected u selection
+
+  abbrev names : List (List ℕ)
+  names = unconfigured_of db
+
+  -- a record of one of the names isn't configured, and stands with a member's relations
+  is_unconfigured : (found : Record) → Contains db found → Contains names found.name → IsUnconfigured found
+  is_unconfigured found there within =
+      let from = unconfigured_record db found.name within in
+      subst (λ (r : Record). IsUnconfigured r) (one_record db underway.distinct found from.0 there from.1 from.3) from.2
+
+  is_of_member : (found : Record) → Contains db found → IsPresent found → Stands found × Contains members (pkg_of found)
+  is_of_member = all_members u start members db underway none
+
+  configurable : AreConfigurable db names
+  unfolding AreConfigurable HasConfigurable
+  configurable = All-intro (λ name. HasRecord IsConfigurable name db) names (λ name within.
+      let from = unconfigured_record db name within in
+      Any-intro (λ (r : Record). (r.name ≡ name) × IsConfigurable r) db from.0 from.1
+      (from.3, (from.2, stands_sound from.0 (is_of_member from.0 from.1 (unconfigured_present from.0.state from.2)).0)))
+
+  -- a member that isn't configured doesn't stay
+  stays_not : (found : Record) → Contains db found → IsUnconfigured found → Contains members (pkg_of found) → ¬ Stays start (pkg_of found)
+  stays_not found there is within stays =
+      let other = record_of_staying u start members db underway (pkg_of found) within stays in
+      unconfigured_uninstalled found.state is (subst (λ (r : Record). IsInstalled r)
+      (one_record db underway.distinct found other.0 there other.1 (named other.0 (pkg_of found) other.3)) other.2)
+
+  -- what a staying member meets, the installed packages meet
+  met_by_installed : (name : List ℕ) (clause : List Atom) → IsMetByStaying start members name clause → MeetsClause (installed_of db) clause
+  unfolding IsMetByStaying MeetsClause
+  met_by_installed name clause met = Any-elim (λ (other : Pkg). (other.name ≢ name) × Stays start other × MatchesSome other clause) members
+      (Any (λ member. MatchesSome member clause) (installed_of db)) (λ other there is.
+      let found = record_of_staying u start members db underway other there is.1 in
+      Any-intro (λ member. MatchesSome member clause) (installed_of db) other
+      (subst (Contains (installed_of db)) found.3 (installed_contains db found.0 found.1 found.2)) is.2) met
+
+  pre_depends : ArePreDependsInstalled db names
+  unfolding ArePreDependsInstalled MeetsClauses
+  pre_depends = All-intro (λ (r : Record). Contains names r.name → All (MeetsClause (installed_of db)) r.relations.pre_depends) db
+      (λ found there within.
+      let is = is_unconfigured found there within in
+      let mine = (is_of_member found there (unconfigured_present found.state is)).1 in
+      All-weaker (IsMetByStaying start members found.name) (MeetsClause (installed_of db)) (met_by_installed found.name)
+      found.relations.pre_depends (All-contains (IsReady start members) members (pkg_of found) change.plain.ready mine
+      (stays_not found there is mine)))
+
+  -- each member is installed or of one of the names
+  available : (pkg : Pkg) → Contains members pkg → Contains (installed_of db ++ members_of names db) pkg
+  available pkg within =
+      let found = record_of_member u start members db underway pkg within in
+      subst (Contains (installed_of db ++ members_of names db)) found.3 (at found.0 found.1 (stands_either found.0 found.2))
+    where
+      at : (found : Record) → Contains db found → IsInstalled found ⊎ IsUnconfigured found
+          → Contains (installed_of db ++ members_of names db) (pkg_of found)
+      at found there (inl installed) = Contains-append_left (installed_of db) (members_of names db) (pkg_of found)
+          (installed_contains db found there installed)
+      at found there (inr is) =
+          let present : is_present_state found.state ≡ true = unconfigured_present found.state is in
+          let among : is_among names found ≡ true = is_among-contains names found (record_unconfigured db found there is) in
+          let passes : is_present_among names found ≡ true = rw (present, among) refl in
+          Contains-append_right (installed_of db) (members_of names db) (pkg_of found)
+          (Contains-map_intro pkg_of (filter (is_present_among names) db) found
+          (Contains-filter_intro (is_present_among names) db found there passes))
+
+  depends : AreDependsInstalled db names
+  unfolding AreDependsInstalled IsAcceptable IsSound
+  depends = All-intro (λ (r : Record). Contains names r.name → MeetsClauses (installed_of db ++ members_of names db) r.relations.depends) db
+      (λ found there within.
+      let mine = (is_of_member found there (unconfigured_present found.state (is_unconfigured found there within))).1 in
+      MeetsClauses-more members (installed_of db ++ members_of names db) available found.relations.depends
+      (All-contains (HasItsRelations members) members (pkg_of found) change.acceptable.sound mine).depends)
+
+  all_pass : GroupPasses db names
+  all_pass = record {
+    configurable = configurable;
+    pre_depends = pre_depends;
+    depends = depends;
+    unbroken = (nothing_clashes u start members db change.plain (underway_has_old_and_new u start members db underway)).unbroken names;
+  }
+
+pub unconfigured_pass : UnconfiguredPass
+unconfigured_pass u start db selection change underway none = all_pass u start db selection change underway none
+
+-- a record of a group that may be configured may be so itself
+pub group_record : (u : Universe) (db : List Record) (names : List (List ℕ)) → Allowed u db (step.Configure names)
+    → (name : List ℕ) → Contains names name → HasRecord IsConfigurable name db
+unfolding Allowed AreConfigurable HasConfigurable
+group_record u db names allowed name within = All-contains (λ n. HasRecord IsConfigurable n db) names name
+    (All-head (ConfigureAsks db names) rule.WrongState (rule.PreDepends ∷ rule.Depends ∷ rule.Breaks ∷ rule.Group ∷ []) allowed) within
+
+module _ (u : Universe) (start db : List Record) (members : List Pkg) (names : List (List ℕ)) (underway : IsUnderway u start members db)
+    (allowed : Allowed u db (step.Configure names)) where
+  was_configurable : (old : Record) → Contains db old → is_among names old ≡ true → IsConfigurable old
+  was_configurable old there is = the_record IsConfigurable db underway.distinct old there
+      (group_record u db names allowed old.name (contains-is_among names old is))
+
+  configured_underway : IsUnderway u start members (changed (is_among names) configured db)
+  configured_underway = underway_changed u start members db underway (is_among names) configured
+      (distinct_names_kept None (step.Configure names) db underway.distinct) (λ old. refl)
+      (λ old there is has. ((λ stands. rw (stands_sound old stands) refl), (λ installed. refl), refl))
+      (λ old there is present none.
+      let free = free_record u start members db underway old there (unconfigured_present old.state (was_configurable old there is).0) none in
+      record { was = free.was; sound = free.sound; unheld = free.unheld; inessential = free.inessential })
+      (λ old there is gone. absurd (let e : false ≡ true = gone in cc))
+
+  -- what is present behind the configure was so before
+  was_present : (name : List ℕ) → HasRecord IsPresent name (changed (is_among names) configured db) → HasRecord IsPresent name db
+  was_present name has = Any-elim (λ (r : Record). (r.name ≡ name) × IsPresent r) (changed (is_among names) configured db)
+      (HasRecord IsPresent name db) (λ found there is. elim (changed_each (is_among names) configured db found there) [
+        | inl made ↦ Any-intro (λ (r : Record). (r.name ≡ name) × IsPresent r) db made.0 made.1
+            (ap (λ (r : Record). r.name) made.3 ∙ is.0, unconfigured_present made.0.state (was_configurable made.0 made.1 made.2).0)
+        | inr left ↦ Any-intro (λ (r : Record). (r.name ≡ name) × IsPresent r) db found left.0 is
+      ]) has
+
+pub configures_keep : ConfiguresKeep
+configures_keep u start db members names underway none allowed = (
+  configured_underway u start db members names underway allowed,
+  λ name goes. none name (was_present u start db members names underway allowed name goes.0, goes.1),
+)
