@@ -1,5 +1,6 @@
 pub mod ChangedLemmas
 pub mod ConfigureLemmas
+pub mod LeastGroupLemmas
 pub mod MemberLemmas
 pub mod PeaceLemmas
 pub mod RemovalLemmas

@@ -1,6 +1,6 @@
 // Laws that follow from the definitions: each function has an empty body, and its contract is the law.
 
-ghost use Rattle.plain.specs.Laws.{UniverseIsCounted, StartIsQuiet, NothingClashes, UnpacksAreAllowed, LastRemovalIsAllowed, RemovalsGoOn, RemovalsAreAllowed, UnconfiguredPass, ConfiguresKeep};
+ghost use Rattle.plain.specs.Laws.{UniverseIsCounted, StartIsQuiet, NothingClashes, UnpacksAreAllowed, LastRemovalIsAllowed, RemovalsGoOn, RemovalsAreAllowed, UnconfiguredPass, ConfiguresKeep, LeastGroupIsThere};
 
 /// The start of a plain change is quiet.
 pub fn start_is_quiet()
@@ -47,4 +47,9 @@ pub fn unconfigured_pass()
 /// A configure that is allowed keeps the change underway, with nothing to be removed.
 pub fn configures_keep()
     ensures { ConfiguresKeep }
+{}
+
+/// Where some group passes but for the rule of its parts, there is a least group that may be configured.
+pub fn least_group_is_there()
+    ensures { LeastGroupIsThere }
 {}
