@@ -166,7 +166,7 @@ same_names_pass db group other to from passes = GroupPasses-from_each db other
     (λ name within. MemberPasses-more db group other to name (GroupPasses-each db group passes name (from name within)))
 
 -- a list with an element has a length, and one with a length has an element
-some_length : (names : List Name) (name : Name) → Contains names name → 0 < length names
+pub some_length : (names : List Name) (name : Name) → Contains names name → 0 < length names
 some_length names name within = let h = within.1 in omega arith
 
 some_name : (names : List Name) → 0 < length names → (name : Name) × Contains names name
@@ -363,9 +363,6 @@ walk db [] kept group way = (
     all_kept name within = elim (way.between.upper name within) [ inl here ↦ here | inr none ↦ absurd (Contains-nil name none) ]
 walk db (name ∷ left) kept group way = at (greatest_part db (kept ++ left)) (λ keeps some on. walk db left keeps some on)
   where
-    Result : List Name → List Name → Type 0
-    Result keeps rest = (found : List Name) × IsLeastBetween db keeps rest found
-
     decided : (part : List Name) → IsGreatestPart db (kept ++ left) part → Dec (HasWithout db kept name left part)
         → ((keeps some : List Name) → IsOnTheWay db keeps left some → (found : List Name) × IsLeastBetween db keeps left found)
         → (found : List Name) × IsLeastBetween db kept (name ∷ left) found

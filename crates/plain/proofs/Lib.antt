@@ -1,8 +1,11 @@
 pub mod ChangedLemmas
 pub mod ConfigureLemmas
+pub mod FittingLemmas
 pub mod LeastGroupLemmas
 pub mod MemberLemmas
+pub mod OrderLemmas
 pub mod PeaceLemmas
+pub mod PurgeLemmas
 pub mod RemovalLemmas
 pub mod UnderwayLemmas
 pub mod UnpackLemmas

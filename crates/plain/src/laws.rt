@@ -1,6 +1,6 @@
 // Laws that follow from the definitions: each function has an empty body, and its contract is the law.
 
-ghost use Rattle.plain.specs.Laws.{UniverseIsCounted, StartIsQuiet, NothingClashes, UnpacksAreAllowed, LastRemovalIsAllowed, RemovalsGoOn, RemovalsAreAllowed, UnconfiguredPass, ConfiguresKeep, LeastGroupIsThere};
+ghost use Rattle.plain.specs.Laws.{UniverseIsCounted, StartIsQuiet, NothingClashes, UnpacksAreAllowed, LastRemovalIsAllowed, RemovalsGoOn, RemovalsAreAllowed, UnconfiguredPass, ConfiguresKeep, LeastGroupIsThere, PurgesEndWell, PlainChangeIsOrdered};
 
 /// The start of a plain change is quiet.
 pub fn start_is_quiet()
@@ -52,4 +52,16 @@ pub fn configures_keep()
 /// Where some group passes but for the rule of its parts, there is a least group that may be configured.
 pub fn least_group_is_there()
     ensures { LeastGroupIsThere }
+{}
+
+/// Where nothing is to be removed and no group may be configured, the purges by name are allowed, and behind them the
+/// end is good and just the selected packages are installed.
+pub fn purges_end_well()
+    ensures { PurgesEndWell }
+{}
+
+/// A plain change to an acceptable selection is ordered: steps in the fixed order are a run from the start, which is
+/// quiet, to a good end at which just the selected packages are installed.
+pub fn plain_change_is_ordered()
+    ensures { PlainChangeIsOrdered }
 {}
