@@ -1,29 +1,30 @@
--- Where some group passes but for the rule of its parts there is a least one, and it passes that rule too. It is
--- found by leaving out names from the greatest down, each where a part that passes remains without it.
-use Rattle.std.proofs.Common.{◌≡◌, ◌≢◌, ℕ, ◌<◌, Bool, true, false, List, [], ◌∷◌, ◌++◌, map, length, ◌⊎◌, refl, sym, ap, subst, ◌∙◌, arith}
+-- The walk from a group that passes to the least group that may be configured, which there is where some group passes.
+use Rattle.std.proofs.Common.{◌≡◌, ◌≢◌, ℕ, ◌<◌, List, [], ◌∷◌, map, length, ◌⊎◌, refl, sym, ap, subst, ◌∙◌, arith}
 use Rattle.std.specs.Prelude.{◌↔◌}
 use Rattle.std.specs.Cmp.Lexicographic.{nat_list_cmp_total}
 use Rattle.std.specs.List.{All, AllPairs, Any, Contains}
 use Rattle.std.specs.Ordering.{ordering_reverse}
 use Rattle.std.specs.declared.cmp.Ordering.{Ordering}
 use Rattle.std.specs.declared.cmp.Ordering.TheVariants.{Less, Equal, Greater}
-use Rattle.std.proofs.lemmas.List.Elements.{All-contains, Contains-append_cases, Contains-append_left, Contains-append_right}
+use Rattle.std.proofs.lemmas.List.Elements.{All-contains, All-contains_itself, All-cons, All-weaker}
 use Rattle.std.proofs.lemmas.List.Kept.{AllPairs-cons}
 use Rattle.std.proofs.lemmas.Map.Lookups.{exact_bytes}
-use Rattle.rules.specs.Configure.{GroupPasses, HasConfigurable, IsConfigurable, AreConfigurable, IsGreatestPart, IsIndivisible, IsProperPart}
+use Rattle.rules.specs.Configure.{GroupPasses, HasConfigurable, IsConfigurable, AreConfigurable, IsGreatestPart, IsIndivisible, IsProperPart, others_of}
 use Rattle.rules.specs.Database.{Record, HasRecord}
-use Rattle.rules.specs.ElementLaws.{All-intro, Any-intro, Any-elim, Any-weaker, Any-contains, Contains-cons, Contains-head, Contains-nil, Contains-rest, Contains-map_intro}
+use Rattle.rules.specs.ElementLaws.{All-intro, Any-elim, Contains-cons, Contains-head, Contains-nil, Contains-rest}
 use Rattle.rules.specs.Legal.{Allowed, ConfigureAsks}
 use Rattle.rules.specs.Name.{IsAscending, name_cmp}
 use Rattle.rules.specs.Universe.{Universe}
 use Rattle.rules.specs.declared.step.Rule.{Rule}
 use Rattle.rules.specs.declared.step.Rule.TheVariants as rule
 use Rattle.rules.specs.declared.step.Step.TheVariants as step
-use Rattle.rules.proofs.Decided.{dec_All, dec_Any, dec_Contains, dec_and, dec_not}
-use Rattle.rules.proofs.GroupLemmas.{GroupPasses-each, GroupPasses-from_each, MemberPasses-more, greatest_part}
-use Rattle.plain.specs.Laws.{LeastGroupIsThere}
+use Rattle.rules.proofs.Decided.{dec_Contains}
+use Rattle.rules.proofs.GroupLemmas.{GroupPasses-each, GroupPasses-from_each, MemberPasses-more, contains-others_of, others_of-contains, greatest_part, none_of}
+use Rattle.plain.specs.Laws.{LeastGroupIsThere, WalkBegins, WalkEnds, WalkKeeps, WalkLeavesOut}
 use Rattle.plain.specs.Order.{IsConfigurableGroup, IsLeastGroup, IsLesserGroup}
-use Rattle.plain.proofs.ConfigureLemmas.{allowed_configure}
+use Rattle.plain.specs.Underway.{unconfigured_of}
+use Rattle.plain.specs.Walk.{IsInOrAbove, IsNextName, IsOnWalk, IsPassing}
+use Rattle.plain.proofs.ConfigureLemmas.{allowed_configure, record_unconfigured}
 use Rattle.plain.proofs.MemberLemmas.{pairs_head, pairs_tail}
 use Rattle.plain.proofs.UnpackLemmas.{less_differ}
 use mathlib.Core.Logic.{inl, inr}
@@ -127,38 +128,6 @@ sorted (first ∷ rest) =
       ]),
     )
 
--- of the names of an ascending list that have a property there is a greatest
-highest : (Q : Name → Type 0) → ((name : Name) → Dec (Q name)) → (names : List Name) → IsAscending names → Any Q names
-    → (name : Name) × Contains names name × Q name × ((higher : Name) → Contains names higher → name_cmp name higher ≡ Less → ¬ Q higher)
-highest Q each [] rises some = absurd (Contains-nil some.1 (Any-contains Q [] some))
-highest Q each (first ∷ rest) rises some = at (dec_Any Q each rest)
-    (λ behind. highest Q each rest (pairs_tail (λ (a b : Name). name_cmp a b ≡ Less) first rest rises) behind)
-  where
-    heads : (b : Name) → Contains rest b → name_cmp first b ≡ Less
-    heads b within = All-contains (λ b. name_cmp first b ≡ Less) rest b (pairs_head (λ (a b : Name). name_cmp a b ≡ Less) first rest rises) within
-
-    at : Dec (Any Q rest)
-        → (Any Q rest → (name : Name) × Contains rest name × Q name × ((higher : Name) → Contains rest higher → name_cmp name higher ≡ Less → ¬ Q higher))
-        → (name : Name) × Contains (first ∷ rest) name × Q name × ((higher : Name) → Contains (first ∷ rest) higher → name_cmp name higher ≡ Less → ¬ Q higher)
-    at (yes behind) later =
-        let found = later behind in
-        (found.0, Contains-rest first rest found.0 found.1, found.2, (λ higher within above. elim (Contains-cons first rest higher within) [
-          | inl same ↦ absurd (not_both first found.0 (heads found.0 found.1) (subst (λ n. name_cmp found.0 n ≡ Less) (sym same) above))
-          | inr further ↦ found.3 higher further above
-        ]))
-    at (no none) later = (
-      first,
-      Contains-head first rest,
-      Any-elim Q (first ∷ rest) (Q first) (λ name within has. elim (Contains-cons first rest name within) [
-        | inl same ↦ subst Q (sym same) has
-        | inr behind ↦ absurd (none (Any-intro Q rest name behind has))
-      ]) some,
-      λ higher within above. elim (Contains-cons first rest higher within) [
-        | inl same ↦ absurd (not_below_itself first (subst (λ n. name_cmp first n ≡ Less) (sym same) above))
-        | inr behind ↦ λ has. none (Any-intro Q rest higher behind has)
-      ],
-    )
-
 -- a group of the same names passes too
 same_names_pass : (db : List Record) (group other : List Name) → ((name : Name) → Contains group name → Contains other name)
     → ((name : Name) → Contains other name → Contains group name) → GroupPasses db group → GroupPasses db other
@@ -173,256 +142,105 @@ some_name : (names : List Name) → 0 < length names → (name : Name) × Contai
 some_name [] some = absurd (omega arith)
 some_name (first ∷ rest) some = (first, Contains-head first rest)
 
--- the group has the names that are kept, and else only names that are left
-record IsBetween (kept left group : List Name) : Type 0 where
-  pub lower : (name : Name) → Contains kept name → Contains group name
-  pub upper : (name : Name) → Contains group name → Contains kept name ⊎ Contains left name
-
--- the least of the groups between that pass
-record IsLeastBetween (db : List Record) (kept left group : List Name) : Type 0 where
-  pub some : 0 < length group
-  pub passes : GroupPasses db group
-  pub ascending : IsAscending group
-  pub between : IsBetween kept left group
-  pub least : (other : List Name) → 0 < length other → GroupPasses db other → IsBetween kept left other → ¬ IsLesserGroup other group
-
--- what the walk takes: a group that passes, between what is kept, and what is left below that
-record IsOnTheWay (db : List Record) (kept left group : List Name) : Type 0 where
-  pub rises : IsAscending kept
-  pub falls : IsDescending left
-  pub below : (low high : Name) → Contains left low → Contains kept high → name_cmp low high ≡ Less
-  pub some : 0 < length group
-  pub passes : GroupPasses db group
-  pub between : IsBetween kept left group
-
-module _ (db : List Record) (kept : List Name) (name : Name) (left : List Name) where
-  -- the greatest part that does without the name has what is kept, and is something
-  abbrev HasWithout : List Name → Type 0
-  HasWithout part = All (Contains part) kept × Any (λ other. Contains part other) part
-
-  dec_without : (part : List Name) → Dec (HasWithout part)
-  dec_without part = dec_and (dec_All (Contains part) (dec_Contains part) kept)
-      (dec_Any (λ other. Contains part other) (dec_Contains part) part)
-
-  -- what is left is below the name
-  lower_left : IsDescending (name ∷ left) → (low : Name) → Contains left low → name_cmp low name ≡ Less
-  lower_left falls low within = All-contains (λ b. name_cmp b name ≡ Less) left low
-      (pairs_head (λ (a b : Name). name_cmp b a ≡ Less) name left falls) within
-
-  module _ (part : List Name) (greatest : IsGreatestPart db (kept ++ left) part) where
-    part_upper : (other : Name) → Contains part other → Contains kept other ⊎ Contains left other
-    part_upper other within = Contains-append_cases kept left other (All-contains (Contains (kept ++ left)) part other greatest.within within)
-
-    -- where there is such a part, the walk goes on without the name
-    without_name : (group : List Name) → IsOnTheWay db kept (name ∷ left) group → HasWithout part → IsOnTheWay db kept left part
-    without_name group way has = record {
-      rises = way.rises;
-      falls = pairs_tail (λ (a b : Name). name_cmp b a ≡ Less) name left way.falls;
-      below = λ low high within there. way.below low high (Contains-rest name left low within) there;
-      some = some_length part has.1.1 (Any-contains (λ other. Contains part other) part has.1);
-      passes = greatest.passes;
-      between = record {
-        lower = λ other within. All-contains (Contains part) kept other has.0 within;
-        upper = part_upper;
-      };
-    }
-
-    -- where there is none, each group that passes has the name
-    has_name : ¬ HasWithout part → (group : List Name) → 0 < length group → GroupPasses db group → IsBetween kept (name ∷ left) group
-        → Contains group name
-    has_name none group some passes between = at (dec_Contains group name)
-      where
-        inside : ¬ Contains group name → All (Contains (kept ++ left)) group
-        inside outside = All-intro (Contains (kept ++ left)) group (λ other within. elim (between.upper other within) [
-          | inl here ↦ Contains-append_left kept left other here
-          | inr there ↦ elim (Contains-cons name left other there) [
-            | inl same ↦ absurd (outside (subst (Contains group) (sym same) within))
-            | inr behind ↦ Contains-append_right kept left other behind
-          ]
-        ])
-
-        at : Dec (Contains group name) → Contains group name
-        at (yes within) = within
-        at (no outside) =
-            let all = greatest.greatest group (inside outside) passes in
-            let first = some_name group some in
-            let there : Contains part first.0 = All-contains (Contains part) group first.0 all first.1 in
-            absurd (none (
-              All-intro (Contains part) kept (λ other within. All-contains (Contains part) group other all (between.lower other within)),
-              Any-intro (λ other. Contains part other) part first.0 there there,
-            ))
-
-    -- and the walk goes on with the name kept
-    between_with : (group : List Name) → Contains group name → IsBetween kept (name ∷ left) group → IsBetween (name ∷ kept) left group
-    between_with group has between = record {
-      lower = λ other within. elim (Contains-cons name kept other within) [
-        | inl same ↦ subst (Contains group) same has
-        | inr behind ↦ between.lower other behind
-      ];
-      upper = λ other within. elim (between.upper other within) [
-        | inl here ↦ inl (Contains-rest name kept other here)
-        | inr there ↦ elim (Contains-cons name left other there) [
-          | inl same ↦ inl (subst (Contains (name ∷ kept)) same (Contains-head name kept))
-          | inr behind ↦ inr behind
-        ]
-      ];
-    }
-
-    with_name : (group : List Name) → IsOnTheWay db kept (name ∷ left) group → ¬ HasWithout part → IsOnTheWay db (name ∷ kept) left group
-    with_name group way none = record {
-      rises = AllPairs-cons (λ (a b : Name). name_cmp a b ≡ Less) name kept (All-intro (λ b. name_cmp name b ≡ Less) kept
-          (λ high there. way.below name high (Contains-head name left) there)) way.rises;
-      falls = pairs_tail (λ (a b : Name). name_cmp b a ≡ Less) name left way.falls;
-      below = λ low high within there. elim (Contains-cons name kept high there) [
-        | inl same ↦ subst (λ n. name_cmp low n ≡ Less) same (lower_left way.falls low within)
-        | inr behind ↦ way.below low high (Contains-rest name left low within) behind
-      ];
-      some = way.some;
-      passes = way.passes;
-      between = between_with group (has_name none group way.some way.passes way.between) way.between;
-    }
-
-    -- the least without the name is the least
-    least_without : (group found : List Name) → IsOnTheWay db kept (name ∷ left) group → IsLeastBetween db kept left found
-        → IsLeastBetween db kept (name ∷ left) found
-    least_without group found way least = record {
-      some = least.some;
-      passes = least.passes;
-      ascending = least.ascending;
-      between = record {
-        lower = least.between.lower;
-        upper = λ other within. elim (least.between.upper other within) [
-          | inl here ↦ inl here
-          | inr there ↦ inr (Contains-rest name left other there)
-        ];
-      };
-      least = λ other some passes between lesser. least.least other some passes (narrow other between lesser) lesser;
-    }
-      where
-        outside : ¬ Contains found name
-        outside within = elim (least.between.upper name within) [
-          | inl here ↦ not_below_itself name (way.below name name (Contains-head name left) here)
-          | inr there ↦ not_below_itself name (lower_left way.falls name there)
-        ]
-
-        above : (other : List Name) → IsBetween kept (name ∷ left) other → (lesser : IsLesserGroup other found)
-            → name_cmp lesser.name name ≡ Less
-        above other between lesser = elim (least.between.upper lesser.name lesser.within) [
-          | inl here ↦ absurd (lesser.without (between.lower lesser.name here))
-          | inr there ↦ lower_left way.falls lesser.name there
-        ]
-
-        narrow : (other : List Name) → IsBetween kept (name ∷ left) other → IsLesserGroup other found → IsBetween kept left other
-        narrow other between lesser = record {
-          lower = between.lower;
-          upper = λ one_ within. elim (between.upper one_ within) [
-            | inl here ↦ inl here
-            | inr there ↦ elim (Contains-cons name left one_ there) [
-              | inl same ↦ absurd (outside ((lesser.above name (above other between lesser)).0 (subst (Contains other) (sym same) within)))
-              | inr behind ↦ inr behind
-            ]
-          ];
-        }
-
-    -- the least with the name is the least where each has it
-    least_with : (found : List Name) → ¬ HasWithout part → IsLeastBetween db (name ∷ kept) left found
-        → IsLeastBetween db kept (name ∷ left) found
-    least_with found none least = record {
-      some = least.some;
-      passes = least.passes;
-      ascending = least.ascending;
-      between = record {
-        lower = λ other within. least.between.lower other (Contains-rest name kept other within);
-        upper = λ other within. elim (least.between.upper other within) [
-          | inl here ↦ elim (Contains-cons name kept other here) [
-            | inl same ↦ inr (subst (Contains (name ∷ left)) same (Contains-head name left))
-            | inr behind ↦ inl behind
-          ]
-          | inr there ↦ inr (Contains-rest name left other there)
-        ];
-      };
-      least = λ other some passes between. least.least other some passes
-          (between_with other (has_name none other some passes between) between);
-    }
-
--- the walk ends with the least
-walk : (db : List Record) (left kept group : List Name) → IsOnTheWay db kept left group
-    → (found : List Name) × IsLeastBetween db kept left found
-walk db [] kept group way = (
-  kept,
-  record {
-    some = let first = some_name group way.some in some_length kept first.0 (all_kept first.0 first.1);
-    passes = same_names_pass db group kept all_kept way.between.lower way.passes;
-    ascending = way.rises;
-    between = record { lower = λ name within. within; upper = λ name within. inl within };
-    least = λ other some passes between lesser. lesser.without (between.lower lesser.name lesser.within);
-  },
-)
-  where
-    all_kept : (name : Name) → Contains group name → Contains kept name
-    all_kept name within = elim (way.between.upper name within) [ inl here ↦ here | inr none ↦ absurd (Contains-nil name none) ]
-walk db (name ∷ left) kept group way = at (greatest_part db (kept ++ left)) (λ keeps some on. walk db left keeps some on)
-  where
-    decided : (part : List Name) → IsGreatestPart db (kept ++ left) part → Dec (HasWithout db kept name left part)
-        → ((keeps some : List Name) → IsOnTheWay db keeps left some → (found : List Name) × IsLeastBetween db keeps left found)
-        → (found : List Name) × IsLeastBetween db kept (name ∷ left) found
-    decided part greatest (yes has) go_on =
-        let later = go_on kept part (without_name db kept name left part greatest group way has) in
-        (later.0, least_without db kept name left part greatest group later.0 way later.1)
-    decided part greatest (no none) go_on =
-        let later = go_on (name ∷ kept) group (with_name db kept name left part greatest group way none) in
-        (later.0, least_with db kept name left part greatest later.0 none later.1)
-
-    at : (part : List Name) × IsGreatestPart db (kept ++ left) part
-        → ((keeps some : List Name) → IsOnTheWay db keeps left some → (found : List Name) × IsLeastBetween db keeps left found)
-        → (found : List Name) × IsLeastBetween db kept (name ∷ left) found
-    at (part, greatest) go_on = decided part greatest (dec_without db kept name left part) go_on
-
--- the names of a group that passes are in the database
-names_known : (db : List Record) (group : List Name) → GroupPasses db group → (name : Name) → Contains group name
-    → Contains (map (λ (r : Record). r.name) db) name
+-- the names of a group that passes aren't configured
+names_unconfigured : (db : List Record) (group : List Name) → GroupPasses db group → All (Contains (unconfigured_of db)) group
 unfolding AreConfigurable HasConfigurable
-names_known db group passes name within = Any-elim (λ (r : Record). (r.name ≡ name) × IsConfigurable r) db
-    (Contains (map (λ (r : Record). r.name) db) name)
-    (λ found there is. subst (Contains (map (λ (r : Record). r.name) db)) is.0 (Contains-map_intro (λ (r : Record). r.name) db found there))
-    (All-contains (λ n. HasRecord IsConfigurable n db) group name passes.configurable within)
+names_unconfigured db group passes = All-intro (Contains (unconfigured_of db)) group (λ name within.
+    Any-elim (λ (r : Record). (r.name ≡ name) × IsConfigurable r) db (Contains (unconfigured_of db) name)
+    (λ found there is. subst (Contains (unconfigured_of db)) is.0 (record_unconfigured db found there is.1.0))
+    (All-contains (λ n. HasRecord IsConfigurable n db) group name passes.configurable within))
 
-module _ (db : List Record) (left group : List Name) (known : (name : Name) → Contains (map (λ (r : Record). r.name) db) name → Contains left name)
-    (least : IsLeastBetween db [] left group) where
-  -- every group that passes is between
-  any_between : (other : List Name) → GroupPasses db other → IsBetween [] left other
-  any_between other passes = record {
-    lower = λ name none. absurd (Contains-nil name none);
-    upper = λ name within. inr (known name (names_known db other passes name within));
+-- nothing is kept of nothing
+all_of_none : (P : Name → Type 0) → All P []
+all_of_none P = All-intro P [] (λ name none. absurd (Contains-nil name none))
+
+pub walk_begins : WalkBegins
+walk_begins db group greatest some = record {
+  passing = record { some = some; passes = greatest.passes };
+  ascending = λ i j d before within. absurd (omega arith);
+  within = all_of_none (Contains group);
+  below = λ low there unkept. all_of_none (λ high. name_cmp low high ≡ Less);
+  whole = λ other passing inside. all_of_none (Contains other);
+  least = λ other passing. inl (greatest.greatest other (names_unconfigured db other passing.passes) passing.passes);
+}
+
+module _ (db : List Record) (kept group part : List Name) (name : Name) (walk : IsOnWalk db kept group)
+    (next : IsNextName kept group name) (greatest : IsGreatestPart db (others_of name group) part) where
+  -- what is of the part is of the group, and isn't the name
+  part_within : (other : Name) → Contains part other → Contains group other × (other ≢ name)
+  part_within other within = others_of-contains name group other (All-contains (Contains (others_of name group)) part other greatest.within within)
+
+  in_group : (other : List Name) → All (Contains part) other → All (Contains group) other
+  in_group other inside = All-weaker (Contains part) (Contains group) (λ one_ within. (part_within one_ within).0) other inside
+
+  -- a group of these names that passes without the name is of the part
+  in_part : (other : List Name) → IsPassing db other → All (Contains group) other → ¬ Contains other name → All (Contains part) other
+  in_part other passing inside without = greatest.greatest other (All-intro (Contains (others_of name group)) other (λ one_ within.
+      contains-others_of name group one_ (All-contains (Contains group) other one_ inside within)
+      (λ same. without (subst (Contains other) same within)))) passing.passes
+
+  -- a group with the name is no lesser one than a part without it
+  not_lesser : (other : List Name) → IsPassing db other → All (Contains group) other → Contains other name
+      → (found : List Name) → All (Contains part) found → ¬ IsLesserGroup other found
+  not_lesser other passing inside has found of_part lesser =
+      let there = part_within lesser.name (All-contains (Contains part) found lesser.name of_part lesser.within) in
+      let unkept : ¬ Contains kept lesser.name = λ among. lesser.without
+      (All-contains (Contains other) kept lesser.name (walk.whole other passing inside) among) in
+      let lower = next.greatest lesser.name there.0 unkept (λ same. lesser.without (subst (Contains other) (sym same) has)) in
+      (part_within name (All-contains (Contains part) found name of_part ((lesser.above name lower).0 has))).1 refl
+
+  leaves_out : 0 < length part → IsOnWalk db kept part
+  leaves_out some = record {
+    passing = record { some = some; passes = greatest.passes };
+    ascending = walk.ascending;
+    within = walk.whole part (record { some = some; passes = greatest.passes }) (in_group part (All-contains_itself part));
+    below = λ low there unkept. walk.below low (part_within low there).0 unkept;
+    whole = λ other passing inside. walk.whole other passing (in_group other inside);
+    least = λ other passing. elim (walk.least other passing) [
+      | inl inside ↦ decided other passing inside (dec_Contains other name)
+      | inr above ↦ inr (λ found of_part. above found (in_group found of_part))
+    ];
   }
-
-  -- a part without a name of the group is lesser
-  proper_lesser : (part : List Name) → IsProperPart part group → IsLesserGroup part group
-  proper_lesser part proper =
-      let found = highest (λ name. ¬ Contains part name) (λ name. dec_not (dec_Contains part name)) group least.ascending proper.proper in
-      record {
-        name = found.0;
-        within = found.1;
-        without = found.2;
-        above = λ higher above. (
-          (λ within. All-contains (Contains group) part higher proper.within within),
-          (λ within. decided higher (found.3 higher within above) (dec_Contains part higher)),
-        );
-      }
     where
-      decided : (higher : Name) → ¬ ¬ Contains part higher → Dec (Contains part higher) → Contains part higher
-      decided higher twice (yes within) = within
-      decided higher twice (no outside) = absurd (twice outside)
+      decided : (other : List Name) → IsPassing db other → All (Contains group) other → Dec (Contains other name)
+          → IsInOrAbove kept part other
+      decided other passing inside (yes has) = inr (λ found of_part has_kept. not_lesser other passing inside has found of_part)
+      decided other passing inside (no without) = inl (in_part other passing inside without)
 
-  indivisible : IsIndivisible db group
-  unfolding IsIndivisible
-  indivisible part proper passes = least.least part proper.some passes (any_between part passes) (proper_lesser part proper)
+pub walk_leaves_out : WalkLeavesOut
+walk_leaves_out db kept group part name walk next greatest some = leaves_out db kept group part name walk next greatest some
+
+pub walk_keeps : WalkKeeps
+walk_keeps db kept group name walk next greatest = record {
+  passing = walk.passing;
+  ascending = AllPairs-cons (λ (a b : Name). name_cmp a b ≡ Less) name kept (walk.below name next.within next.unkept) walk.ascending;
+  within = kept_and (Contains group) next.within walk.within;
+  below = λ low there unkept. kept_and (λ high. name_cmp low high ≡ Less)
+      (next.greatest low there (λ among. unkept (Contains-rest name kept low among))
+      (λ same. unkept (subst (Contains (name ∷ kept)) (sym same) (Contains-head name kept))))
+      (walk.below low there (λ among. unkept (Contains-rest name kept low among)));
+  whole = λ other passing inside. kept_and (Contains other) (has_name other passing inside (dec_Contains other name))
+      (walk.whole other passing inside);
+  least = λ other passing. elim (walk.least other passing) [
+    | inl inside ↦ inl inside
+    | inr above ↦ inr (λ found of_group has. above found of_group
+        (All-intro (Contains found) kept (λ one_ among. All-contains (Contains found) (name ∷ kept) one_ has (Contains-rest name kept one_ among))))
+  ];
+}
+  where
+    kept_and : (P : Name → Type 0) → P name → All P kept → All P (name ∷ kept)
+    kept_and P here all = All-cons P name kept here all
+
+    has_name : (other : List Name) → IsPassing db other → All (Contains group) other → Dec (Contains other name) → Contains other name
+    has_name other passing inside (yes has) = has
+    has_name other passing inside (no without) =
+        absurd (none_of other passing.some (in_part db kept group [] name walk next greatest other passing inside without))
 
 -- what is allowed to be configured passes
 pub allowed_passes : (u : Universe) (db : List Record) (names : List Name) → Allowed u db (step.Configure names) → GroupPasses db names
 unfolding Allowed
 allowed_passes u db names allowed = record {
-  configurable = All-contains (ConfigureAsks db names) asked rule.WrongState allowed (Contains-head rule.WrongState (rule.PreDepends ∷ rule.Depends ∷ rule.Breaks ∷ rule.Group ∷ []));
+  configurable = All-contains (ConfigureAsks db names) asked rule.WrongState allowed (0, omega arith, refl);
   pre_depends = All-contains (ConfigureAsks db names) asked rule.PreDepends allowed (1, omega arith, refl);
   depends = All-contains (ConfigureAsks db names) asked rule.Depends allowed (2, omega arith, refl);
   unbroken = All-contains (ConfigureAsks db names) asked rule.Breaks allowed (3, omega arith, refl);
@@ -431,26 +249,106 @@ allowed_passes u db names allowed = record {
     asked : List Rule
     asked = rule.WrongState ∷ rule.PreDepends ∷ rule.Depends ∷ rule.Breaks ∷ rule.Group ∷ []
 
+pub walk_ends : WalkEnds
+unfolding IsIndivisible
+walk_ends u db kept group walk all = record {
+  ascending = walk.ascending;
+  group = record { some = some; allowed = allowed_configure u db kept passes indivisible };
+  least = λ other may. at other (record { some = may.some; passes = allowed_passes u db other may.allowed })
+      (walk.least other (record { some = may.some; passes = allowed_passes u db other may.allowed }));
+}
+  where
+    some : 0 < length kept
+    some = let first = some_name group walk.passing.some in some_length kept first.0 (All-contains (Contains kept) group first.0 all first.1)
+
+    passes : GroupPasses db kept
+    passes = same_names_pass db group kept (λ name within. All-contains (Contains kept) group name all within)
+        (λ name within. All-contains (Contains group) kept name walk.within within) walk.passing.passes
+
+    indivisible : IsIndivisible db kept
+    indivisible part proper passes =
+        let inside : All (Contains group) part = All-weaker (Contains kept) (Contains group)
+        (λ name among. All-contains (Contains group) kept name walk.within among) part proper.within in
+        let has = walk.whole part (record { some = proper.some; passes = passes }) inside in
+        Any-elim (λ name. ¬ Contains part name) kept ⊥ (λ name among without. without (All-contains (Contains part) kept name has among)) proper.proper
+
+    at : (other : List Name) → IsPassing db other → IsInOrAbove kept group other → ¬ IsLesserGroup other kept
+    at other passing (inl inside) lesser = lesser.without (All-contains (Contains other) kept lesser.name (walk.whole other passing inside) lesser.within)
+    at other passing (inr above) lesser = above kept walk.within (All-contains_itself kept) lesser
+
+-- the walk comes to its end: each name is kept or among those to look at, of which each is above all that follow it
+walks : (u : Universe) (db : List Record) (left kept group : List Name) → IsDescending left → IsOnWalk db kept group
+    → ((name : Name) → Contains group name → Contains kept name ⊎ Contains left name)
+    → (found : List Name) × IsLeastGroup u db found
+walks u db [] kept group falls walk known = (kept, walk_ends u db kept group walk (All-intro (Contains kept) group (λ name within.
+    elim (known name within) [ inl among ↦ among | inr none ↦ absurd (Contains-nil name none) ])))
+walks u db (name ∷ left) kept group falls walk known = look (dec_Contains group name) (dec_Contains kept name)
+    (walks u db left kept group lower walk) (λ part. walks u db left kept part lower) (walks u db left (name ∷ kept) group lower)
+  where
+    lower : IsDescending left
+    lower = pairs_tail (λ (a b : Name). name_cmp b a ≡ Less) name left falls
+
+    -- what is known without the name
+    narrowed : ((other : Name) → Contains group other → (name ≡ other) → Contains kept other) → (other : Name) → Contains group other
+        → Contains kept other ⊎ Contains left other
+    narrowed here other within = elim (known other within) [
+      | inl among ↦ inl among
+      | inr there ↦ elim (Contains-cons name left other there) [ inl same ↦ inl (here other within same) | inr behind ↦ inr behind ]
+    ]
+
+    next : Contains group name → ¬ Contains kept name → IsNextName kept group name
+    next within unkept = record {
+      within = within;
+      unkept = unkept;
+      greatest = λ other there alone differ. elim (known other there) [
+        | inl among ↦ absurd (alone among)
+        | inr left_ ↦ elim (Contains-cons name left other left_) [
+          | inl same ↦ absurd (differ (sym same))
+          | inr behind ↦ All-contains (λ b. name_cmp b name ≡ Less) left other
+              (pairs_head (λ (a b : Name). name_cmp b a ≡ Less) name left falls) behind
+        ]
+      ];
+    }
+
+    looked : (part : List Name) → IsGreatestPart db (others_of name group) part → IsNextName kept group name
+        → ((more : List Name) → IsOnWalk db kept more → ((other : Name) → Contains more other → Contains kept other ⊎ Contains left other)
+        → (found : List Name) × IsLeastGroup u db found)
+        → (IsOnWalk db (name ∷ kept) group → ((other : Name) → Contains group other → Contains (name ∷ kept) other ⊎ Contains left other)
+        → (found : List Name) × IsLeastGroup u db found)
+        → (found : List Name) × IsLeastGroup u db found
+    looked [] greatest is without with_it = with_it (walk_keeps db kept group name walk is greatest) (λ other within. elim (known other within) [
+      | inl among ↦ inl (Contains-rest name kept other among)
+      | inr there ↦ elim (Contains-cons name left other there) [
+        | inl same ↦ inl (subst (Contains (name ∷ kept)) same (Contains-head name kept))
+        | inr behind ↦ inr behind
+      ]
+    ])
+    looked (first ∷ rest) greatest is without with_it = without (first ∷ rest)
+        (walk_leaves_out db kept group (first ∷ rest) name walk is greatest (omega arith)) (λ other within.
+        let there = part_within db kept group (first ∷ rest) name walk is greatest other within in
+        elim (known other there.0) [
+          | inl among ↦ inl among
+          | inr left_ ↦ elim (Contains-cons name left other left_) [ inl same ↦ absurd (there.1 (sym same)) | inr behind ↦ inr behind ]
+        ])
+
+    look : Dec (Contains group name) → Dec (Contains kept name)
+        → (((other : Name) → Contains group other → Contains kept other ⊎ Contains left other) → (found : List Name) × IsLeastGroup u db found)
+        → ((more : List Name) → IsOnWalk db kept more → ((other : Name) → Contains more other → Contains kept other ⊎ Contains left other)
+        → (found : List Name) × IsLeastGroup u db found)
+        → (IsOnWalk db (name ∷ kept) group → ((other : Name) → Contains group other → Contains (name ∷ kept) other ⊎ Contains left other)
+        → (found : List Name) × IsLeastGroup u db found)
+        → (found : List Name) × IsLeastGroup u db found
+    look (no outside) kept_too past without with_it = past (narrowed (λ other within same. absurd (outside (subst (Contains group) (sym same) within))))
+    look (yes within) (yes among) past without with_it = past (narrowed (λ other there same. subst (Contains kept) same among))
+    look (yes within) (no unkept) past without with_it =
+        let part = greatest_part db (others_of name group) in looked part.0 part.1 (next within unkept) without with_it
+
 pub least_group_is_there : LeastGroupIsThere
 least_group_is_there u db names some passes =
-    let all = sorted (map (λ (r : Record). r.name) db) in
-    let found = walk db all.0 [] names (record {
-      rises = λ i j d before within. absurd (omega arith);
-      falls = all.1;
-      below = λ low high within none. absurd (Contains-nil high none);
-      some = some;
-      passes = passes;
-      between = record {
-        lower = λ name none. absurd (Contains-nil name none);
-        upper = λ name within. inr (all.2 name (names_known db names passes name within));
-      };
-    }) in
-    (found.0, record {
-      ascending = found.1.ascending;
-      group = record {
-        some = found.1.some;
-        allowed = allowed_configure u db found.0 found.1.passes (indivisible db all.0 found.0 all.2 found.1);
-      };
-      least = λ other may. found.1.least other may.some (allowed_passes u db other may.allowed)
-          (any_between db all.0 found.0 all.2 found.1 other (allowed_passes u db other may.allowed));
-    })
+    let whole = greatest_part db (unconfigured_of db) in
+    let first = some_name names some in
+    let there = All-contains (Contains whole.0) names first.0
+    (whole.1.greatest names (names_unconfigured db names passes) passes) first.1 in
+    let all = sorted whole.0 in
+    walks u db all.0 [] whole.0 all.1 (walk_begins db whole.0 whole.1 (some_length whole.0 first.0 there))
+    (λ name within. inr (all.2 name within))

@@ -1,8 +1,8 @@
 -- What follows for plain changes and their fixed order.
-use Rattle.std.specs.Prelude.{◌≡◌, ◌↔◌, ℕ, ◌<◌, Bool, List, map, length, ◌⊎◌}
+use Rattle.std.specs.Prelude.{◌↔◌, ◌≡◌, ℕ, ◌<◌, Bool, List, [], ◌∷◌, map, length, ◌⊎◌}
 use Rattle.std.specs.List.{All, Contains}
 use Rattle.rules.specs.Available.{Inputs}
-use Rattle.rules.specs.Configure.{GroupPasses}
+use Rattle.rules.specs.Configure.{GroupPasses, IsGreatestPart, others_of}
 use Rattle.rules.specs.Database.{Record, HasDistinctNames, IsQuiet, IsInstalled, installed_of, pkg_of}
 use Rattle.rules.specs.Legal.{Allowed}
 use Rattle.rules.specs.Package.{Pkg}
@@ -15,6 +15,7 @@ use Rattle.plain.specs.Change.{IsPlain, IsPlainChange, IsToRemove, Stays}
 use Rattle.plain.specs.Counted.{IsCounted}
 use Rattle.plain.specs.Order.{after_all, unpack_of, AreUnpacks, MayGo, IsStillInstalled, IsNextRemoval, IsConfigurableGroup, IsLeastGroup, ArePurges, IsInFixedOrder}
 use Rattle.plain.specs.Underway.{HasOldAndNew, IsUndisturbed, IsUnderway, removals_left, unconfigured_of}
+use Rattle.plain.specs.Walk.{IsNextName, IsOnWalk}
 
 -- the universe of inputs is counted by their start
 abbrev pub UniverseIsCounted : Type 0
@@ -84,6 +85,26 @@ UnconfiguredPass = (u : Universe) (start db : List Record) (selection : ℕ → 
 abbrev pub LeastGroupIsThere : Type 0
 LeastGroupIsThere = (u : Universe) (db : List Record) (names : List (List ℕ)) → 0 < length names → GroupPasses db names
     → (group : List (List ℕ)) × IsLeastGroup u db group
+
+-- the walk begins with the greatest part of what isn't configured, if it is something
+abbrev pub WalkBegins : Type 0
+WalkBegins = (db : List Record) (group : List (List ℕ)) → IsGreatestPart db (unconfigured_of db) group → 0 < length group
+    → IsOnWalk db [] group
+
+-- where some of the others pass without the next name, it is left out: the walk goes on with the greatest part of those
+abbrev pub WalkLeavesOut : Type 0
+WalkLeavesOut = (db : List Record) (kept group part : List (List ℕ)) (name : List ℕ) → IsOnWalk db kept group
+    → IsNextName kept group name → IsGreatestPart db (others_of name group) part → 0 < length part → IsOnWalk db kept part
+
+-- where none of the others pass without the next name, it is kept
+abbrev pub WalkKeeps : Type 0
+WalkKeeps = (db : List Record) (kept group : List (List ℕ)) (name : List ℕ) → IsOnWalk db kept group
+    → IsNextName kept group name → IsGreatestPart db (others_of name group) [] → IsOnWalk db (name ∷ kept) group
+
+-- where all names are kept, they are the least group
+abbrev pub WalkEnds : Type 0
+WalkEnds = (u : Universe) (db : List Record) (kept group : List (List ℕ)) → IsOnWalk db kept group
+    → All (Contains kept) group → IsLeastGroup u db kept
 
 -- a configure that is allowed keeps the change underway and leaves nothing to be removed
 abbrev pub ConfiguresKeep : Type 0

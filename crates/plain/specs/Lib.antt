@@ -3,3 +3,4 @@ pub mod Counted
 pub mod Laws
 pub mod Order
 pub mod Underway
+pub mod Walk

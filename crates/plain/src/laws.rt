@@ -1,6 +1,6 @@
 // Laws that follow from the definitions: each function has an empty body, and its contract is the law.
 
-ghost use Rattle.plain.specs.Laws.{UniverseIsCounted, StartIsQuiet, NothingClashes, UnpacksAreAllowed, LastRemovalIsAllowed, RemovalsGoOn, RemovalsAreAllowed, UnconfiguredPass, ConfiguresKeep, LeastGroupIsThere, PurgesEndWell, PlainChangeIsOrdered};
+ghost use Rattle.plain.specs.Laws.{UniverseIsCounted, StartIsQuiet, NothingClashes, UnpacksAreAllowed, LastRemovalIsAllowed, RemovalsGoOn, RemovalsAreAllowed, UnconfiguredPass, ConfiguresKeep, LeastGroupIsThere, WalkBegins, WalkLeavesOut, WalkKeeps, WalkEnds, PurgesEndWell, PlainChangeIsOrdered};
 
 /// The start of a plain change is quiet.
 pub fn start_is_quiet()
@@ -64,4 +64,24 @@ pub fn purges_end_well()
 /// quiet, to a good end at which just the selected packages are installed.
 pub fn plain_change_is_ordered()
     ensures { PlainChangeIsOrdered }
+{}
+
+/// The walk to the least group begins with the greatest part of what isn't configured, if it is something.
+pub fn walk_begins()
+    ensures { WalkBegins }
+{}
+
+/// Where some of the others pass without the next name, the walk goes on with the greatest part of those.
+pub fn walk_leaves_out()
+    ensures { WalkLeavesOut }
+{}
+
+/// Where none of the others pass without the next name, it is kept.
+pub fn walk_keeps()
+    ensures { WalkKeeps }
+{}
+
+/// Where all names are kept, they are the least group.
+pub fn walk_ends()
+    ensures { WalkEnds }
 {}
