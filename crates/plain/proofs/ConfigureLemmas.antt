@@ -1,11 +1,11 @@
 -- Where nothing is to be removed, all that isn't configured passes as a group, and configures keep a change underway.
-use Rattle.std.proofs.Common.{◌≡◌, ◌≢◌, ℕ, Bool, true, false, ◌&&◌, ◌||◌, List, [], ◌∷◌, ◌++◌, map, ◌⊎◌, None, refl, sym, ap, subst, ◌∙◌}
+use Rattle.std.proofs.Common.{◌≡◌, ◌≢◌, ℕ, ◌+◌, ◌<◌, ◌≤◌, cond, length, arith, Bool, true, false, ◌&&◌, ◌||◌, List, [], ◌∷◌, ◌++◌, map, ◌⊎◌, None, refl, sym, ap, subst, ◌∙◌}
 use Rattle.std.specs.Prelude.{IsTrue}
 use Rattle.std.specs.List.{All, Any, Contains, filter}
 use Rattle.std.proofs.lemmas.List.Elements.{All-contains, All-cons, All-nil, All-head, All-weaker, Contains-append_left, Contains-append_right}
 use Rattle.rules.specs.Configure.{is_present_among, members_of, HasConfigurable, IsConfigurable, AreConfigurable, ArePreDependsInstalled, AreDependsInstalled, AreUnbroken, GroupPasses, IsIndivisible}
 use Rattle.rules.specs.Database.{Record, HasRecord, IsPresent, IsInstalled, IsUnconfigured, IsRemoved, HasSoundFlag, IsHeld, Stands, installed_of, pkg_of}
-use Rattle.rules.specs.ElementLaws.{All-intro, Any-intro, Any-elim, Contains-map, Contains-map_intro, Contains-filter, Contains-filter_intro}
+use Rattle.rules.specs.ElementLaws.{All-intro, Any-intro, Any-elim, Contains-cons, Contains-head, Contains-nil, Contains-map, Contains-map_intro, Contains-filter, Contains-filter_intro}
 use Rattle.rules.specs.Legal.{Allowed, ConfigureAsks}
 use Rattle.rules.specs.NamedLaws.{contains-is_among, is_among-contains}
 use Rattle.rules.specs.Package.{Pkg, Atom, MatchesSome, MeetsClause}
@@ -23,9 +23,9 @@ use Rattle.rules.proofs.GroupLemmas.{MeetsClauses-more}
 use Rattle.rules.proofs.PlanLemmas.{installed_contains}
 use Rattle.rules.proofs.QuietLemmas.{distinct_names_kept, one_record, the_record}
 use Rattle.plain.specs.Change.{IsPlainChange, IsReady, IsMetByStaying, IsToRemove, Stays}
-use Rattle.plain.specs.Laws.{UnconfiguredPass, ConfiguresKeep}
+use Rattle.plain.specs.Laws.{ConfigureLeaves, ConfiguresKeep, UnconfiguredPass}
 use Rattle.plain.specs.Underway.{IsFree, IsUnderway, unconfigured_of}
-use Rattle.plain.proofs.ChangedLemmas.{changed_each}
+use Rattle.plain.proofs.ChangedLemmas.{changed_each, changed_keeps}
 use Rattle.plain.proofs.PeaceLemmas.{nothing_clashes}
 use Rattle.plain.proofs.UnderwayLemmas.{dec_HasMember, named, member_record, record_of_member, record_of_staying, free_record, underway_changed, underway_has_old_and_new}
 use Rattle.plain.proofs.UnpackLemmas.{stands_sound}
@@ -218,3 +218,95 @@ configures_keep u start db members names underway none allowed = (
   configured_underway u start db members names underway allowed,
   λ name goes. none name (was_present u start db members names underway allowed name goes.0, goes.1),
 )
+
+-- What is left to be configured
+
+-- one where the record isn't configured, and else nothing
+abbrev unconfigured_count : Record → ℕ
+unconfigured_count found = cond (is_unconfigured_state found.state) 1 0
+
+-- the names of what isn't configured, counted
+count_first : (first : Record) (rest : List Record)
+    → length (unconfigured_of (first ∷ rest)) ≡ unconfigured_count first + length (unconfigured_of rest)
+count_first first rest = at (is_unconfigured_state first.state)
+  where
+    at : (b : Bool) → length (map (λ (r : Record). r.name) (cond b (first ∷ filter (λ r. is_unconfigured_state r.state) rest)
+        (filter (λ r. is_unconfigured_state r.state) rest))) ≡ cond b 1 0 + length (unconfigured_of rest)
+    at true = omega arith
+    at false = omega arith
+
+module _ (test : Record → Bool) (change : Record → Record) (done : (old : Record) → unconfigured_count (change old) ≡ 0) where
+  -- a change to what is configured leaves no more
+  no_more : (db : List Record) → length (unconfigured_of (changed test change db)) ≤ length (unconfigured_of db)
+  no_more [] = omega arith
+  no_more (first ∷ rest) = at (test first) (no_more rest)
+    where
+      at : (b : Bool) → length (unconfigured_of (changed test change rest)) ≤ length (unconfigured_of rest)
+          → length (unconfigured_of (cond b (change first) first ∷ changed test change rest)) ≤ length (unconfigured_of (first ∷ rest))
+      at true below = omega (arith, done first, count_first (change first) (changed test change rest), count_first first rest)
+      at false below = omega (arith, count_first first (changed test change rest), count_first first rest)
+
+  -- and fewer, where one that wasn't configured is changed
+  fewer : (db : List Record) (found : Record) → Contains db found → test found ≡ true → unconfigured_count found ≡ 1
+      → length (unconfigured_of (changed test change db)) < length (unconfigured_of db)
+  fewer [] found there passes is = absurd (Contains-nil found there)
+  fewer (first ∷ rest) found there passes is = at (Contains-cons first rest found there) (test first) refl
+      (λ behind. fewer rest found behind passes is)
+    where
+      at : (first ≡ found) ⊎ Contains rest found → (b : Bool) → test first ≡ b
+          → (Contains rest found → length (unconfigured_of (changed test change rest)) < length (unconfigured_of rest))
+          → length (unconfigured_of (cond b (change first) first ∷ changed test change rest)) < length (unconfigured_of (first ∷ rest))
+      at (inl same) true tested later =
+          let one_ : unconfigured_count first ≡ 1 = ap unconfigured_count same ∙ is in
+          omega (arith, no_more rest, done first, count_first (change first) (changed test change rest), count_first first rest)
+      at (inl same) false tested later = absurd (let e : true ≡ false = sym passes ∙ ap test (sym same) ∙ tested in cc)
+      at (inr behind) true tested later = let further = later behind in
+          omega (arith, done first, count_first (change first) (changed test change rest), count_first first rest)
+      at (inr behind) false tested later = let further = later behind in
+          omega (arith, count_first first (changed test change rest), count_first first rest)
+
+-- a list with a length has an element
+pub some_name : (names : List (List ℕ)) → 0 < length names → (name : List ℕ) × Contains names name
+some_name [] some = absurd (omega arith)
+some_name (first ∷ rest) some = (first, Contains-head first rest)
+
+pub configure_leaves : ConfigureLeaves
+configure_leaves u db names distinct allowed = (λ name. (before name, behind name), count)
+  where
+    before : (name : List ℕ) → Contains (unconfigured_of (changed (is_among names) configured db)) name
+        → Contains (unconfigured_of db) name × ¬ Contains names name
+    before name within =
+        let found = unconfigured_record (changed (is_among names) configured db) name within in
+        elim (changed_each (is_among names) configured db found.0 found.1) [
+          | inl made ↦ absurd (let e : false ≡ true = subst (λ (r : Record). IsUnconfigured r) (sym made.3) found.2 in cc)
+          | inr left ↦ (
+            subst (Contains (unconfigured_of db)) found.3 (record_unconfigured db found.0 left.0 found.2),
+            λ among. absurd (let e : true ≡ false =
+                sym (is_among-contains names found.0 (subst (Contains names) (sym found.3) among)) ∙ left.1 in cc),
+          )
+        ]
+
+    behind : (name : List ℕ) → Contains (unconfigured_of db) name × ¬ Contains names name
+        → Contains (unconfigured_of (changed (is_among names) configured db)) name
+    behind name left =
+        let found = unconfigured_record db name left.0 in
+        subst (Contains (unconfigured_of (changed (is_among names) configured db))) found.3
+        (record_unconfigured (changed (is_among names) configured db) found.0
+        (changed_keeps (is_among names) configured db found.0 found.1 (fails found.0 (is_among names found.0) refl
+        (λ among. left.1 (subst (Contains names) found.3 among)))) found.2)
+      where
+        fails : (found : Record) (b : Bool) → is_among names found ≡ b → ¬ Contains names found.name → is_among names found ≡ false
+        fails found false is without = is
+        fails found true is without = absurd (without (contains-is_among names found is))
+
+    -- some record is of one of the names and isn't configured
+    one_of : (name : List ℕ) → Contains names name
+        → length (unconfigured_of (changed (is_among names) configured db)) < length (unconfigured_of db)
+    one_of name within = Any-elim (λ (r : Record). (r.name ≡ name) × IsConfigurable r) db
+        (length (unconfigured_of (changed (is_among names) configured db)) < length (unconfigured_of db))
+        (λ found there is. fewer (is_among names) configured (λ old. refl) db found there
+        (is_among-contains names found (subst (Contains names) (sym is.0) within)) (ap (λ (b : Bool). cond b 1 0) is.1.0))
+        (group_record u db names allowed name within)
+
+    count : 0 < length names → length (unconfigured_of (changed (is_among names) configured db)) < length (unconfigured_of db)
+    count some = let first = some_name names some in one_of first.0 first.1

@@ -24,7 +24,7 @@ use Rattle.plain.specs.Laws.{LeastGroupIsThere, WalkBegins, WalkEnds, WalkKeeps,
 use Rattle.plain.specs.Order.{IsConfigurableGroup, IsLeastGroup, IsLesserGroup}
 use Rattle.plain.specs.Underway.{unconfigured_of}
 use Rattle.plain.specs.Walk.{IsInOrAbove, IsNextName, IsOnWalk, IsPassing}
-use Rattle.plain.proofs.ConfigureLemmas.{allowed_configure, record_unconfigured}
+use Rattle.plain.proofs.ConfigureLemmas.{allowed_configure, record_unconfigured, some_name}
 use Rattle.plain.proofs.MemberLemmas.{pairs_head, pairs_tail}
 use Rattle.plain.proofs.UnpackLemmas.{less_differ}
 use mathlib.Core.Logic.{inl, inr}
@@ -134,13 +134,9 @@ same_names_pass : (db : List Record) (group other : List Name) → ((name : Name
 same_names_pass db group other to from passes = GroupPasses-from_each db other
     (λ name within. MemberPasses-more db group other to name (GroupPasses-each db group passes name (from name within)))
 
--- a list with an element has a length, and one with a length has an element
+-- a list with an element has a length
 pub some_length : (names : List Name) (name : Name) → Contains names name → 0 < length names
 some_length names name within = let h = within.1 in omega arith
-
-some_name : (names : List Name) → 0 < length names → (name : Name) × Contains names name
-some_name [] some = absurd (omega arith)
-some_name (first ∷ rest) some = (first, Contains-head first rest)
 
 -- the names of a group that passes aren't configured
 names_unconfigured : (db : List Record) (group : List Name) → GroupPasses db group → All (Contains (unconfigured_of db)) group

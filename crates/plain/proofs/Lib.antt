@@ -7,5 +7,6 @@ pub mod OrderLemmas
 pub mod PeaceLemmas
 pub mod PurgeLemmas
 pub mod RemovalLemmas
+pub mod SelectedLemmas
 pub mod UnderwayLemmas
 pub mod UnpackLemmas

@@ -64,7 +64,7 @@ find_only {X} p (y ∷ ys) x within passes only = at (p y) refl (Contains-cons y
     at false is (inl same) later = absurd (let e : true ≡ false = sym passes ∙ ap p (sym same) ∙ is in cc)
     at false is (inr there) later = later there
 
-find_nothing : {X : Type 0} (p : X → Bool) (xs : List X) → ((y : X) → Contains xs y → ¬ (p y ≡ true)) → find p xs ≡ None
+pub find_nothing : {X : Type 0} (p : X → Bool) (xs : List X) → ((y : X) → Contains xs y → ¬ (p y ≡ true)) → find p xs ≡ None
 find_nothing p [] none = refl
 find_nothing {X} p (y ∷ ys) none = at (p y) refl (find_nothing p ys (λ z behind. none z (Contains-rest y ys z behind)))
   where
@@ -92,7 +92,7 @@ one_pair u ascending pair found within there names versions =
         let e : Less ≡ Equal = sym below ∙ tied in absurd (cc)
 
 -- a member is the package of a pair
-picked_from : (number : ℕ) (selection : ℕ → Bool) (pairs : List Pair) (pkg : Pkg)
+pub picked_from : (number : ℕ) (selection : ℕ → Bool) (pairs : List Pair) (pkg : Pkg)
     → Contains (selected_from number selection pairs) pkg → (pair : Pair) × Contains pairs pair × (pair.pkg ≡ pkg)
 picked_from number selection [] pkg within = absurd (Contains-nil pkg within)
 picked_from number selection (pair ∷ rest) pkg within =

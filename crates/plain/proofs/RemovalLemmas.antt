@@ -22,9 +22,10 @@ use Rattle.std.proofs.Common.{None}
 use Rattle.rules.proofs.Decided.{dec_Any, dec_IsTrue, dec_and, dec_not}
 use Rattle.rules.proofs.QuietLemmas.{distinct_names_kept, the_named, the_record}
 use Rattle.plain.specs.Change.{IsPlainChange, IsToRemove}
-use Rattle.plain.specs.Laws.{LastRemovalIsAllowed, RemovalsGoOn, RemovalsAreAllowed}
+use Rattle.plain.specs.Laws.{DeconfigureLeaves, RemovalLeaves, LastRemovalIsAllowed, RemovalsGoOn, RemovalsAreAllowed}
 use Rattle.plain.specs.Order.{MayGo, IsStillInstalled, IsNextRemoval}
 use Rattle.plain.specs.Underway.{IsFree, IsUnderway, is_member, is_to_remove, steps_for, removals_left}
+use Rattle.plain.proofs.ChangedLemmas.{Any-behind, changed_each, changed_keeps, named_not, not_named}
 use Rattle.plain.proofs.PeaceLemmas.{installed_present}
 use Rattle.plain.proofs.UnderwayLemmas.{dec_HasMember, member_named, named, member_record, record_of_member, free_record, underway_changed}
 use mathlib.Core.Logic.{inl, inr}
@@ -265,3 +266,65 @@ removals_are_allowed u start db members (step.Remove name) underway next =
       removed_underway u start members db underway name next.has.0,
       fewer_left members (is_named name) removed db (removed_less u start members db underway name next.has.0) found.0 found.1 found.2,
     )
+
+-- What is left to be removed
+
+-- a present record of a name behind a change was present, where the change keeps names and makes nothing present
+present_before : (test : Record → Bool) (change : Record → Record) (db : List Record) (name : List ℕ)
+    → ((old : Record) → (change old).name ≡ old.name)
+    → ((old : Record) → Contains db old → test old ≡ true → IsPresent (change old) → IsPresent old)
+    → HasRecord IsPresent name (changed test change db) → HasRecord IsPresent name db
+present_before test change db name names before has = Any-elim (λ (r : Record). (r.name ≡ name) × IsPresent r) (changed test change db)
+    (HasRecord IsPresent name db) (λ found there is. elim (changed_each test change db found there) [
+      | inl made ↦ Any-intro (λ (r : Record). (r.name ≡ name) × IsPresent r) db made.0 made.1
+          (sym (names made.0) ∙ ap (λ (r : Record). r.name) made.3 ∙ is.0,
+          before made.0 made.1 made.2 (subst (λ (r : Record). IsPresent r) (sym made.3) is.1))
+      | inr left ↦ Any-intro (λ (r : Record). (r.name ≡ name) × IsPresent r) db found left.0 is
+    ]) has
+
+pub removal_leaves : RemovalLeaves
+removal_leaves u members db name other = (
+  λ goes. ((before goes.0, goes.1), λ same. differs same goes.0),
+  λ goes. (Any-elim (λ (r : Record). (r.name ≡ other) × IsPresent r) db (HasRecord IsPresent other (changed (is_named name) removed db))
+      (λ found there is. Any-intro (λ (r : Record). (r.name ≡ other) × IsPresent r) (changed (is_named name) removed db) found
+      (changed_keeps (is_named name) removed db found there (not_named name found (λ same. goes.1 (sym is.0 ∙ same)))) is) goes.0.0, goes.0.1),
+)
+  where
+    before : HasRecord IsPresent other (changed (is_named name) removed db) → HasRecord IsPresent other db
+    before = present_before (is_named name) removed db other (λ old. refl) (λ old there is present. absurd (let e : false ≡ true = present in cc))
+
+    differs : other ≡ name → HasRecord IsPresent other (changed (is_named name) removed db) → ⊥
+    differs same has = Any-elim (λ (r : Record). (r.name ≡ other) × IsPresent r) (changed (is_named name) removed db) ⊥
+        (λ found there is. elim (changed_each (is_named name) removed db found there) [
+          | inl made ↦ absurd (let e : false ≡ true = subst (λ (r : Record). IsPresent r) (sym made.3) is.1 in cc)
+          | inr left ↦ named_not name found left.1 (is.0 ∙ same)
+        ]) has
+
+pub deconfigure_leaves : DeconfigureLeaves
+deconfigure_leaves u members db name other distinct has = (
+  (λ goes. (before goes.0, goes.1), λ goes. (behind goes.0, goes.1)),
+  (
+    λ still. ((((before still.0.0), still.0.1), (still_before still.1).0), (still_before still.1).1),
+    λ still. ((behind still.0.0.0, still.0.0.1), Any-elim (λ (r : Record). (r.name ≡ other) × IsInstalled r) db
+        (HasRecord IsInstalled other (changed (is_named name) deconfigured db))
+        (λ found there is. Any-intro (λ (r : Record). (r.name ≡ other) × IsInstalled r) (changed (is_named name) deconfigured db) found
+        (changed_keeps (is_named name) deconfigured db found there (not_named name found (λ same. still.1 (sym is.0 ∙ same)))) is) still.0.1),
+  ),
+)
+  where
+    before : HasRecord IsPresent other (changed (is_named name) deconfigured db) → HasRecord IsPresent other db
+    before = present_before (is_named name) deconfigured db other (λ old. refl) (λ old there is present.
+        installed_present old.state (the_named IsInstalled db distinct name has old there is))
+
+    behind : HasRecord IsPresent other db → HasRecord IsPresent other (changed (is_named name) deconfigured db)
+    behind goes = Any-elim (λ (r : Record). (r.name ≡ other) × IsPresent r) db (HasRecord IsPresent other (changed (is_named name) deconfigured db))
+        (λ found there is. Any-behind (λ (r : Record). (r.name ≡ other) × IsPresent r) (is_named name) deconfigured db found there is
+        (λ passes. (is.0, refl))) goes
+
+    still_before : HasRecord IsInstalled other (changed (is_named name) deconfigured db) → HasRecord IsInstalled other db × (other ≢ name)
+    still_before still = Any-elim (λ (r : Record). (r.name ≡ other) × IsInstalled r) (changed (is_named name) deconfigured db)
+        (HasRecord IsInstalled other db × (other ≢ name)) (λ found there is. elim (changed_each (is_named name) deconfigured db found there) [
+          | inl made ↦ absurd (let e : false ≡ true = subst (λ (r : Record). IsInstalled r) (sym made.3) is.1 in cc)
+          | inr left ↦ (Any-intro (λ (r : Record). (r.name ≡ other) × IsInstalled r) db found left.0 is,
+              λ same. named_not name found left.1 (is.0 ∙ same))
+        ]) still

@@ -1,9 +1,9 @@
 -- What follows for plain changes and their fixed order.
-use Rattle.std.specs.Prelude.{◌↔◌, ◌≡◌, ℕ, ◌<◌, Bool, List, [], ◌∷◌, map, length, ◌⊎◌}
+use Rattle.std.specs.Prelude.{◌↔◌, ◌≡◌, ◌≢◌, ℕ, ◌<◌, Bool, List, [], ◌∷◌, map, length, ◌⊎◌}
 use Rattle.std.specs.List.{All, Contains}
 use Rattle.rules.specs.Available.{Inputs}
 use Rattle.rules.specs.Configure.{GroupPasses, IsGreatestPart, others_of}
-use Rattle.rules.specs.Database.{Record, HasDistinctNames, IsQuiet, IsInstalled, installed_of, pkg_of}
+use Rattle.rules.specs.Database.{Record, HasRecord, HasDistinctNames, IsQuiet, IsInstalled, installed_of, pkg_of}
 use Rattle.rules.specs.Legal.{Allowed}
 use Rattle.rules.specs.Package.{Pkg}
 use Rattle.rules.specs.Run.{Run, IsGoodEnd, after}
@@ -13,7 +13,7 @@ use Rattle.rules.specs.declared.step.Step.{Step}
 use Rattle.rules.specs.declared.step.Step.TheVariants as step
 use Rattle.plain.specs.Change.{IsPlain, IsPlainChange, IsToRemove, Stays}
 use Rattle.plain.specs.Counted.{IsCounted}
-use Rattle.plain.specs.Order.{after_all, unpack_of, AreUnpacks, MayGo, IsStillInstalled, IsNextRemoval, IsConfigurableGroup, IsLeastGroup, ArePurges, IsInFixedOrder}
+use Rattle.plain.specs.Order.{after_all, unpack_of, AreUnpacks, to_unpack, MayGo, IsStillInstalled, IsNextRemoval, IsConfigurableGroup, IsLeastGroup, ArePurges, IsInFixedOrder}
 use Rattle.plain.specs.Underway.{HasOldAndNew, IsUndisturbed, IsUnderway, removals_left, unconfigured_of}
 use Rattle.plain.specs.Walk.{IsNextName, IsOnWalk}
 
@@ -41,6 +41,11 @@ pub record AreUnpacked (u : Universe) (start : List Record) (members pkgs : List
   pub underway : IsUnderway u start members db
   pub staying : All (λ found. IsInstalled found → HasMember found.name members
       → Contains members (pkg_of found) × Stays start (pkg_of found)) db
+
+-- the members to be unpacked, in the order of their pairs, are just those, by name
+abbrev pub MembersAreByName : Type 0
+MembersAreByName = (u : Universe) (start : List Record) (selection : ℕ → Bool) → IsPlainChange u start selection
+    → AreUnpacks start (selected u selection) (to_unpack start (selected u selection))
 
 -- in a plain change the unpacks by name are allowed, each behind those before it
 abbrev pub UnpacksAreAllowed : Type 0
@@ -72,6 +77,19 @@ RemovalsAreAllowed = (u : Universe) (start db : List Record) (members : List Pkg
     → IsUnderway u start members db → IsNextRemoval u members db step
     → Allowed u db step × IsUnderway u start members (after u db step)
     × (removals_left members (after u db step) < removals_left members db)
+
+-- behind a removal the other names are still to be removed
+abbrev pub RemovalLeaves : Type 0
+RemovalLeaves = (u : Universe) (members : List Pkg) (db : List Record) (name other : List ℕ)
+    → IsToRemove members (after u db (step.Remove name)) other ↔ (IsToRemove members db other × (other ≢ name))
+
+-- behind a deconfigure all names are still to be removed, and of those that were installed all but one are so still
+abbrev pub DeconfigureLeaves : Type 0
+DeconfigureLeaves = (u : Universe) (members : List Pkg) (db : List Record) (name other : List ℕ)
+    → HasDistinctNames db → HasRecord IsInstalled name db
+    → (IsToRemove members (after u db (step.Deconfigure name)) other ↔ IsToRemove members db other)
+    × (IsStillInstalled members (after u db (step.Deconfigure name)) other
+    ↔ (IsStillInstalled members db other × (other ≢ name)))
 
 -- Configures
 
@@ -113,6 +131,14 @@ ConfiguresKeep = (u : Universe) (start db : List Record) (members : List Pkg) (n
     → Allowed u db (step.Configure names)
     → IsUnderway u start members (after u db (step.Configure names))
     × ((name : List ℕ) → ¬ IsToRemove members (after u db (step.Configure names)) name)
+
+-- behind a configure that is allowed the other names aren't configured yet, and those are fewer
+abbrev pub ConfigureLeaves : Type 0
+ConfigureLeaves = (u : Universe) (db : List Record) (names : List (List ℕ)) → HasDistinctNames db
+    → Allowed u db (step.Configure names)
+    → ((name : List ℕ) → Contains (unconfigured_of (after u db (step.Configure names))) name
+    ↔ (Contains (unconfigured_of db) name × ¬ Contains names name))
+    × (0 < length names → length (unconfigured_of (after u db (step.Configure names))) < length (unconfigured_of db))
 
 -- Purges and the end
 

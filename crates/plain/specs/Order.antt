@@ -1,8 +1,9 @@
 -- The fixed order in which a plain change is made (this project's own): unpacks by name, then removals, each with
 -- the deconfigures that it needs, then configures of least groups, then purges by name.
-use Rattle.std.specs.Prelude.{◌≡◌, ◌↔◌, ℕ, ◌<◌, List, [], ◌∷◌, ◌++◌, map, length}
-use Rattle.std.specs.List.{AllPairs, Contains}
+use Rattle.std.specs.Prelude.{◌≡◌, ◌↔◌, ℕ, ◌<◌, not, List, [], ◌∷◌, ◌++◌, map, length, is_some}
+use Rattle.std.specs.List.{AllPairs, Contains, filter}
 use Rattle.std.specs.declared.cmp.Ordering.TheVariants.{Less}
+use Rattle.rules.specs.Available.{standing_record}
 use Rattle.rules.specs.Database.{Record, HasRecord, IsInstalled}
 use Rattle.rules.specs.Legal.{Allowed}
 use Rattle.rules.specs.Name.{IsAscending, name_cmp}
@@ -28,6 +29,10 @@ unpack_of pkg = step.Unpack pkg.name pkg.version
 pub record AreUnpacks (start : List Record) (members pkgs : List Pkg) : Type 0 where
   pub by_name : AllPairs (λ earlier later. name_cmp earlier.name later.name ≡ Less) pkgs
   pub each : (pkg : Pkg) → Contains pkgs pkg ↔ IsToUnpack start members pkg
+
+-- the members to be unpacked, in their order
+abbrev pub to_unpack : List Record → List Pkg → List Pkg
+to_unpack start members = filter (λ pkg. not (is_some (standing_record start pkg.name pkg.version))) members
 
 -- Removals
 

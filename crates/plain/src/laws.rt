@@ -1,6 +1,6 @@
 // Laws that follow from the definitions: each function has an empty body, and its contract is the law.
 
-ghost use Rattle.plain.specs.Laws.{UniverseIsCounted, StartIsQuiet, NothingClashes, UnpacksAreAllowed, LastRemovalIsAllowed, RemovalsGoOn, RemovalsAreAllowed, UnconfiguredPass, ConfiguresKeep, LeastGroupIsThere, WalkBegins, WalkLeavesOut, WalkKeeps, WalkEnds, PurgesEndWell, PlainChangeIsOrdered};
+ghost use Rattle.plain.specs.Laws.{UniverseIsCounted, StartIsQuiet, NothingClashes, UnpacksAreAllowed, LastRemovalIsAllowed, RemovalsGoOn, RemovalsAreAllowed, UnconfiguredPass, ConfiguresKeep, LeastGroupIsThere, MembersAreByName, RemovalLeaves, DeconfigureLeaves, ConfigureLeaves, WalkBegins, WalkLeavesOut, WalkKeeps, WalkEnds, PurgesEndWell, PlainChangeIsOrdered};
 
 /// The start of a plain change is quiet.
 pub fn start_is_quiet()
@@ -84,4 +84,24 @@ pub fn walk_keeps()
 /// Where all names are kept, they are the least group.
 pub fn walk_ends()
     ensures { WalkEnds }
+{}
+
+/// The members to be unpacked, in the order of their pairs, are just those, by name.
+pub fn members_are_by_name()
+    ensures { MembersAreByName }
+{}
+
+/// Behind a removal the other names are still to be removed.
+pub fn removal_leaves()
+    ensures { RemovalLeaves }
+{}
+
+/// Behind a deconfigure all names are still to be removed, and all but one are still installed that were.
+pub fn deconfigure_leaves()
+    ensures { DeconfigureLeaves }
+{}
+
+/// Behind a configure that is allowed the other names aren't configured yet, and those are fewer.
+pub fn configure_leaves()
+    ensures { ConfigureLeaves }
 {}
