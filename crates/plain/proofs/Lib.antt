@@ -5,6 +5,8 @@ pub mod LeastGroupLemmas
 pub mod MemberLemmas
 pub mod OrderLemmas
 pub mod PeaceLemmas
+pub mod PlainDecided
+pub mod PlainRows
 pub mod PurgeLemmas
 pub mod RemovalLemmas
 pub mod SelectedLemmas
