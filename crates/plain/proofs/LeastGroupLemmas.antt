@@ -129,7 +129,7 @@ sorted (first ∷ rest) =
     )
 
 -- a group of the same names passes too
-same_names_pass : (db : List Record) (group other : List Name) → ((name : Name) → Contains group name → Contains other name)
+pub same_names_pass : (db : List Record) (group other : List Name) → ((name : Name) → Contains group name → Contains other name)
     → ((name : Name) → Contains other name → Contains group name) → GroupPasses db group → GroupPasses db other
 same_names_pass db group other to from passes = GroupPasses-from_each db other
     (λ name within. MemberPasses-more db group other to name (GroupPasses-each db group passes name (from name within)))
@@ -139,7 +139,7 @@ pub some_length : (names : List Name) (name : Name) → Contains names name → 
 some_length names name within = let h = within.1 in omega arith
 
 -- the names of a group that passes aren't configured
-names_unconfigured : (db : List Record) (group : List Name) → GroupPasses db group → All (Contains (unconfigured_of db)) group
+pub names_unconfigured : (db : List Record) (group : List Name) → GroupPasses db group → All (Contains (unconfigured_of db)) group
 unfolding AreConfigurable HasConfigurable
 names_unconfigured db group passes = All-intro (Contains (unconfigured_of db)) group (λ name within.
     Any-elim (λ (r : Record). (r.name ≡ name) × IsConfigurable r) db (Contains (unconfigured_of db) name)
@@ -147,7 +147,7 @@ names_unconfigured db group passes = All-intro (Contains (unconfigured_of db)) g
     (All-contains (λ n. HasRecord IsConfigurable n db) group name passes.configurable within))
 
 -- nothing is kept of nothing
-all_of_none : (P : Name → Type 0) → All P []
+pub all_of_none : (P : Name → Type 0) → All P []
 all_of_none P = All-intro P [] (λ name none. absurd (Contains-nil name none))
 
 pub walk_begins : WalkBegins

@@ -1,6 +1,7 @@
 pub mod ChangedLemmas
 pub mod ConfigureLemmas
 pub mod FittingLemmas
+pub mod InstallRows
 pub mod LeastGroupLemmas
 pub mod MemberLemmas
 pub mod OrderLemmas

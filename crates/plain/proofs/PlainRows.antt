@@ -29,10 +29,10 @@ use Rattle.plain.proofs.UnderwayLemmas.{dec_HasMember}
 use mathlib.Core.Logic.{inl, inr}
 
 -- `a 1; Depends: b` and `b 1; Depends: a`
-abbrev a_1 : Pkg
+abbrev pub a_1 : Pkg
 a_1 = package_of (codes "a") (codes "1") (record no_relations { depends = (any_of (codes "b") ∷ []) ∷ [] })
 
-abbrev b_1 : Pkg
+abbrev pub b_1 : Pkg
 b_1 = package_of (codes "b") (codes "1") (record no_relations { depends = (any_of (codes "a") ∷ []) ∷ [] })
 
 -- both are installed, and `remove b` leaves neither
