@@ -26,107 +26,11 @@ use Rattle.plain.specs.Underway.{unconfigured_of}
 use Rattle.plain.specs.Walk.{IsInOrAbove, IsNextName, IsOnWalk, IsPassing}
 use Rattle.plain.proofs.ConfigureLemmas.{allowed_configure, record_unconfigured, some_name}
 use Rattle.plain.proofs.MemberLemmas.{pairs_head, pairs_tail}
-use Rattle.plain.proofs.UnpackLemmas.{less_differ}
+use Rattle.plain.proofs.SortedLemmas.{IsDescending, sorted}
 use mathlib.Core.Logic.{inl, inr}
 
 abbrev Name : Type 0
 Name = List ℕ
-
--- no name is below itself, and of two only one is below the other
-not_below_itself : (name : Name) → ¬ (name_cmp name name ≡ Less)
-not_below_itself name below = less_differ name name below refl
-
-not_both : (name other : Name) → name_cmp name other ≡ Less → ¬ (name_cmp other name ≡ Less)
-not_both name other below above = not_below_itself name (nat_list_cmp_total.trans name other name below above)
-
--- each name is above all that follow it
-abbrev IsDescending : List Name → Type 0
-IsDescending names = AllPairs (λ earlier later. name_cmp later earlier ≡ Less) names
-
--- a name put at its place among descending ones
-put : (name : Name) (names : List Name) → IsDescending names
-    → (more : List Name) × IsDescending more × ((other : Name) → Contains more other ↔ ((name ≡ other) ⊎ Contains names other))
-put name [] falls = (
-  name ∷ [],
-  AllPairs-cons (λ (a b : Name). name_cmp b a ≡ Less) name [] (All-intro (λ b. name_cmp b name ≡ Less) [] (λ b within. absurd (Contains-nil b within))) falls,
-  λ other. (
-    Contains-cons name [] other,
-    λ either. elim either [ inl same ↦ subst (Contains (name ∷ [])) same (Contains-head name []) | inr none ↦ absurd (Contains-nil other none) ],
-  ),
-)
-put name (first ∷ rest) falls = at (name_cmp name first) refl (put name rest (pairs_tail (λ (a b : Name). name_cmp b a ≡ Less) first rest falls))
-  where
-    heads : (b : Name) → Contains rest b → name_cmp b first ≡ Less
-    heads b within = All-contains (λ b. name_cmp b first ≡ Less) rest b (pairs_head (λ (a b : Name). name_cmp b a ≡ Less) first rest falls) within
-
-    lower : name_cmp name first ≡ Greater → name_cmp first name ≡ Less
-    lower above = nat_list_cmp_total.antisymm first name ∙ ap ordering_reverse above
-
-    below_name : name_cmp first name ≡ Less → (b : Name) → Contains (first ∷ rest) b → name_cmp b name ≡ Less
-    below_name below b within = elim (Contains-cons first rest b within) [
-      | inl same ↦ subst (λ n. name_cmp n name ≡ Less) same below
-      | inr behind ↦ nat_list_cmp_total.trans b first name (heads b behind) below
-    ]
-
-    at : (o : Ordering) → name_cmp name first ≡ o
-        → (more : List Name) × IsDescending more × ((other : Name) → Contains more other ↔ ((name ≡ other) ⊎ Contains rest other))
-        → (more : List Name) × IsDescending more × ((other : Name) → Contains more other ↔ ((name ≡ other) ⊎ Contains (first ∷ rest) other))
-    at Less is later = (
-      first ∷ later.0,
-      AllPairs-cons (λ (a b : Name). name_cmp b a ≡ Less) first later.0 (All-intro (λ b. name_cmp b first ≡ Less) later.0 (λ b within.
-          elim ((later.2 b).0 within) [ inl same ↦ subst (λ n. name_cmp n first ≡ Less) same is | inr behind ↦ heads b behind ])) later.1,
-      λ other. (
-        (λ within. elim (Contains-cons first later.0 other within) [
-          | inl same ↦ inr (subst (Contains (first ∷ rest)) same (Contains-head first rest))
-          | inr behind ↦ elim ((later.2 other).0 behind) [ inl same ↦ inl same | inr further ↦ inr (Contains-rest first rest other further) ]
-        ]),
-        (λ either. elim either [
-          | inl same ↦ Contains-rest first later.0 other ((later.2 other).1 (inl same))
-          | inr within ↦ elim (Contains-cons first rest other within) [
-            | inl same ↦ subst (Contains (first ∷ later.0)) same (Contains-head first later.0)
-            | inr behind ↦ Contains-rest first later.0 other ((later.2 other).1 (inr behind))
-          ]
-        ]),
-      ),
-    )
-    at Equal is later = (
-      first ∷ rest,
-      falls,
-      λ other. (
-        (λ within. inr within),
-        (λ either. elim either [
-          | inl same ↦ subst (Contains (first ∷ rest)) (sym (exact_bytes name first is) ∙ same) (Contains-head first rest)
-          | inr within ↦ within
-        ]),
-      ),
-    )
-    at Greater is later = (
-      name ∷ first ∷ rest,
-      AllPairs-cons (λ (a b : Name). name_cmp b a ≡ Less) name (first ∷ rest)
-          (All-intro (λ b. name_cmp b name ≡ Less) (first ∷ rest) (below_name (lower is))) falls,
-      λ other. (
-        Contains-cons name (first ∷ rest) other,
-        (λ either. elim either [
-          | inl same ↦ subst (Contains (name ∷ first ∷ rest)) same (Contains-head name (first ∷ rest))
-          | inr within ↦ Contains-rest name (first ∷ rest) other within
-        ]),
-      ),
-    )
-
--- all names of a list, descending
-sorted : (names : List Name) → (falling : List Name) × IsDescending falling × ((name : Name) → Contains names name → Contains falling name)
-sorted [] = ([], (λ i j d before within. absurd (omega arith)), λ name within. within)
-sorted (first ∷ rest) =
-    let later = sorted rest in
-    let more = put first later.0 later.1 in
-    (
-      more.0,
-      more.1,
-      λ name within. (more.2 name).1 (elim (Contains-cons first rest name within) [
-        | inl same ↦ inl same
-        | inr behind ↦ inr (later.2 name behind)
-      ]),
-    )
 
 -- a group of the same names passes too
 pub same_names_pass : (db : List Record) (group other : List Name) → ((name : Name) → Contains group name → Contains other name)

@@ -1,6 +1,7 @@
 pub mod ChangedLemmas
 pub mod ConfigureLemmas
 pub mod FittingLemmas
+pub mod HasOrderLemmas
 pub mod InstallRows
 pub mod LeastGroupLemmas
 pub mod MemberLemmas
@@ -11,5 +12,6 @@ pub mod PlainRows
 pub mod PurgeLemmas
 pub mod RemovalLemmas
 pub mod SelectedLemmas
+pub mod SortedLemmas
 pub mod UnderwayLemmas
 pub mod UnpackLemmas

@@ -19,12 +19,12 @@ use Rattle.plain.proofs.RemovalLemmas.{removals_are_allowed}
 use Rattle.plain.proofs.UnpackLemmas.{unpacks_are_allowed}
 
 -- behind the removals: they were a run, the change is underway and nothing is to be removed
-record AreRemoved (u : Universe) (start : List Record) (members : List Pkg) (db : List Record) (steps : List Step) (reached : List Record) : Type 0 where
+pub record AreRemoved (u : Universe) (start : List Record) (members : List Pkg) (db : List Record) (steps : List Step) (reached : List Record) : Type 0 where
   pub run : Run u db steps reached
   pub underway : IsUnderway u start members reached
   pub none : (name : List ℕ) → ¬ IsToRemove members reached name
 
-removals_run : (u : Universe) (start : List Record) (members : List Pkg) (steps : List Step) (db : List Record)
+pub removals_run : (u : Universe) (start : List Record) (members : List Pkg) (steps : List Step) (db : List Record)
     → IsUnderway u start members db → AreRemovals u members db steps
     → AreRemoved u start members db steps (after_all u db steps)
 removals_run u start members [] db underway none = record { run = refl; underway = underway; none = none }
@@ -34,13 +34,13 @@ removals_run u start members (taken ∷ rest) db underway removals =
     record { run = (next.0, later.run); underway = later.underway; none = later.none }
 
 -- behind the configures besides no group may be configured
-record AreConfigured (u : Universe) (start : List Record) (members : List Pkg) (db : List Record) (steps : List Step) (reached : List Record) : Type 0 where
+pub record AreConfigured (u : Universe) (start : List Record) (members : List Pkg) (db : List Record) (steps : List Step) (reached : List Record) : Type 0 where
   pub run : Run u db steps reached
   pub underway : IsUnderway u start members reached
   pub none : (name : List ℕ) → ¬ IsToRemove members reached name
   pub stuck : (group : List (List ℕ)) → ¬ IsConfigurableGroup u reached group
 
-configures_run : (u : Universe) (start : List Record) (members : List Pkg) (steps : List Step) (db : List Record)
+pub configures_run : (u : Universe) (start : List Record) (members : List Pkg) (steps : List Step) (db : List Record)
     → IsUnderway u start members db → ((name : List ℕ) → ¬ IsToRemove members db name) → AreConfigures u db steps
     → AreConfigured u start members db steps (after_all u db steps)
 configures_run u start members [] db underway none stuck = record { run = refl; underway = underway; none = none; stuck = stuck }

@@ -168,3 +168,8 @@ abbrev pub PlainChangeIsOrdered : Type 0
 PlainChangeIsOrdered = (u : Universe) (start : List Record) (selection : ℕ → Bool) (steps : List Step)
     → IsPlainChange u start selection → IsInFixedOrder u start (selected u selection) steps
     → IsQuiet start × ((finish : List Record) × EndsWell u start (selected u selection) steps finish)
+
+-- a plain change to an acceptable selection has steps in the fixed order
+abbrev pub PlainChangeHasOrder : Type 0
+PlainChangeHasOrder = (u : Universe) (start : List Record) (selection : ℕ → Bool) → IsPlainChange u start selection
+    → (steps : List Step) × IsInFixedOrder u start (selected u selection) steps

@@ -1,6 +1,6 @@
 // Laws that follow from the definitions: each function has an empty body, and its contract is the law.
 
-ghost use Rattle.plain.specs.Laws.{UniverseIsCounted, StartIsQuiet, NothingClashes, UnpacksAreAllowed, LastRemovalIsAllowed, RemovalsGoOn, RemovalsAreAllowed, UnconfiguredPass, ConfiguresKeep, LeastGroupIsThere, MembersAreByName, RemovalLeaves, DeconfigureLeaves, ConfigureLeaves, WalkBegins, WalkLeavesOut, WalkKeeps, WalkEnds, PurgesEndWell, PlainChangeIsOrdered};
+ghost use Rattle.plain.specs.Laws.{UniverseIsCounted, StartIsQuiet, NothingClashes, UnpacksAreAllowed, LastRemovalIsAllowed, RemovalsGoOn, RemovalsAreAllowed, UnconfiguredPass, ConfiguresKeep, LeastGroupIsThere, MembersAreByName, RemovalLeaves, DeconfigureLeaves, ConfigureLeaves, WalkBegins, WalkLeavesOut, WalkKeeps, WalkEnds, PurgesEndWell, PlainChangeIsOrdered, PlainChangeHasOrder};
 
 /// The start of a plain change is quiet.
 pub fn start_is_quiet()
@@ -104,4 +104,9 @@ pub fn deconfigure_leaves()
 /// Behind a configure that is allowed the other names aren't configured yet, and those are fewer.
 pub fn configure_leaves()
     ensures { ConfigureLeaves }
+{}
+
+/// A plain change to an acceptable selection has steps in the fixed order.
+pub fn plain_change_has_order()
+    ensures { PlainChangeHasOrder }
 {}
