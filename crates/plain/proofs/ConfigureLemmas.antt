@@ -23,7 +23,7 @@ use Rattle.rules.proofs.GroupLemmas.{MeetsClauses-more}
 use Rattle.rules.proofs.PlanLemmas.{installed_contains}
 use Rattle.rules.proofs.QuietLemmas.{distinct_names_kept, one_record, the_record}
 use Rattle.plain.specs.Change.{IsPlainChange, IsReady, IsMetByStaying, IsToRemove, Stays}
-use Rattle.plain.specs.Laws.{ConfigureLeaves, ConfiguresKeep, UnconfiguredPass}
+use Rattle.plain.specs.PhaseLaws.{ConfigureLeaves, ConfiguresKeep, UnconfiguredPass}
 use Rattle.plain.specs.Underway.{IsFree, IsUnderway, unconfigured_of}
 use Rattle.plain.proofs.ChangedLemmas.{changed_each, changed_keeps}
 use Rattle.plain.proofs.PeaceLemmas.{nothing_clashes}

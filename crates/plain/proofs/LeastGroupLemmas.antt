@@ -20,7 +20,7 @@ use Rattle.rules.specs.declared.step.Rule.TheVariants as rule
 use Rattle.rules.specs.declared.step.Step.TheVariants as step
 use Rattle.rules.proofs.Decided.{dec_Contains}
 use Rattle.rules.proofs.GroupLemmas.{GroupPasses-each, GroupPasses-from_each, MemberPasses-more, contains-others_of, others_of-contains, greatest_part, none_of}
-use Rattle.plain.specs.Laws.{LeastGroupIsThere, WalkBegins, WalkEnds, WalkKeeps, WalkLeavesOut}
+use Rattle.plain.specs.WalkLaws.{LeastGroupIsThere, WalkBegins, WalkEnds, WalkKeeps, WalkLeavesOut}
 use Rattle.plain.specs.Order.{IsConfigurableGroup, IsLeastGroup, IsLesserGroup}
 use Rattle.plain.specs.Underway.{unconfigured_of}
 use Rattle.plain.specs.Walk.{IsInOrAbove, IsNextName, IsOnWalk, IsPassing}

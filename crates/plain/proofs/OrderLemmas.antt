@@ -9,7 +9,8 @@ use Rattle.rules.specs.declared.step.Step.{Step}
 use Rattle.rules.specs.declared.step.Step.TheVariants as step
 use Rattle.rules.proofs.RunLemmas.{Run-append}
 use Rattle.plain.specs.Change.{IsPlainChange, IsToRemove}
-use Rattle.plain.specs.Laws.{AreUnpacked, EndsWell, PlainChangeIsOrdered}
+use Rattle.plain.specs.Laws.{PlainChangeIsOrdered}
+use Rattle.plain.specs.PhaseLaws.{AreUnpacked, EndsWell}
 use Rattle.plain.specs.Order.{AreConfigures, ArePurges, AreRemovals, IsConfigurableGroup, IsInFixedOrder, after_all, unpack_of}
 use Rattle.plain.specs.Underway.{IsUnderway}
 use Rattle.plain.proofs.ConfigureLemmas.{configures_keep}

@@ -24,7 +24,7 @@ use Rattle.rules.specs.declared.step.Step.TheVariants as step
 use Rattle.rules.proofs.PlanLemmas.{installed_contains}
 use Rattle.rules.proofs.QuietLemmas.{the_record}
 use Rattle.plain.specs.Change.{IsPlainChange, IsPurgeGoal, IsToPurge, IsToRemove}
-use Rattle.plain.specs.Laws.{EndsWell, HasJust, PurgesEndWell}
+use Rattle.plain.specs.PhaseLaws.{EndsWell, HasJust, PurgesEndWell}
 use Rattle.plain.specs.Order.{ArePurges, IsConfigurableGroup, after_all}
 use Rattle.plain.specs.Underway.{IsUnderway, unconfigured_of}
 use Rattle.plain.proofs.ChangedLemmas.{named_not, not_named}

@@ -22,7 +22,7 @@ use Rattle.std.proofs.Common.{None}
 use Rattle.rules.proofs.Decided.{dec_Any, dec_IsTrue, dec_and, dec_not}
 use Rattle.rules.proofs.QuietLemmas.{distinct_names_kept, the_named, the_record}
 use Rattle.plain.specs.Change.{IsPlainChange, IsToRemove}
-use Rattle.plain.specs.Laws.{DeconfigureLeaves, RemovalLeaves, LastRemovalIsAllowed, RemovalsGoOn, RemovalsAreAllowed}
+use Rattle.plain.specs.PhaseLaws.{DeconfigureLeaves, RemovalLeaves, LastRemovalIsAllowed, RemovalsGoOn, RemovalsAreAllowed}
 use Rattle.plain.specs.Order.{MayGo, IsStillInstalled, IsNextRemoval}
 use Rattle.plain.specs.Underway.{IsFree, IsUnderway, is_member, is_to_remove, steps_for, removals_left}
 use Rattle.plain.proofs.ChangedLemmas.{Any-behind, changed_each, changed_keeps, named_not, not_named}

@@ -21,7 +21,7 @@ use Rattle.rules.specs.Universe.{Universe, Pair, StandsAs, pair_cmp}
 use Rattle.rules.specs.Version.{SameVersion, version_cmp}
 use Rattle.rules.proofs.EndLemmas.{both_true}
 use Rattle.plain.specs.Change.{IsPlainChange}
-use Rattle.plain.specs.Laws.{MembersAreByName}
+use Rattle.plain.specs.PhaseLaws.{MembersAreByName}
 use Rattle.plain.specs.Order.{AreUnpacks, to_unpack}
 use Rattle.plain.proofs.MemberLemmas.{find_nothing, pairs_head, pairs_tail, picked_from}
 use mathlib.Core.Logic.{inl, inr}

@@ -30,7 +30,7 @@ use Rattle.rules.proofs.DecidedSteps.{dec_StandsAs}
 use Rattle.rules.proofs.EndLemmas.{both_true}
 use Rattle.rules.proofs.QuietLemmas.{distinct_names_kept, one_record, the_record}
 use Rattle.plain.specs.Change.{old_and_new, IsPlainChange, IsReady, IsMetByStaying, IsToUnpack, IsPurgeGoal, Stays}
-use Rattle.plain.specs.Laws.{AreUnpacked, UnpacksAreAllowed}
+use Rattle.plain.specs.PhaseLaws.{AreUnpacked, UnpacksAreAllowed}
 use Rattle.plain.specs.Order.{AreUnpacks, after_all, unpack_of}
 use Rattle.plain.specs.Underway.{HasOldAndNew, IsFree, IsUnderway}
 use Rattle.plain.proofs.ChangedLemmas.{IsUnpackedAs, unpacked_stands, after_unpack_each, after_unpack_keeps, after_unpack_has}

@@ -46,6 +46,10 @@ IsToUnpack start members pkg = Contains members pkg × ¬ StandsAs start pkg.nam
 abbrev pub IsToRemove : List Pkg → List Record → List ℕ → Type 0
 IsToRemove members db name = HasRecord IsPresent name db × ¬ HasMember name members
 
+-- no name is to be removed
+abbrev pub HasNothingToRemove : List Pkg → List Record → Type 0
+HasNothingToRemove members db = (name : List ℕ) → ¬ IsToRemove members db name
+
 -- a goal is to purge the name
 unfoldable pub IsPurgeGoal : Universe → List ℕ → Type 0
 IsPurgeGoal u name = Contains u.goals (goal.Purge name)

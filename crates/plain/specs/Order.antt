@@ -12,7 +12,7 @@ use Rattle.rules.specs.Run.{after}
 use Rattle.rules.specs.Universe.{Universe}
 use Rattle.rules.specs.declared.step.Step.{Step}
 use Rattle.rules.specs.declared.step.Step.TheVariants as step
-use Rattle.plain.specs.Change.{IsToUnpack, IsToRemove, IsToPurge}
+use Rattle.plain.specs.Change.{HasNothingToRemove, IsToUnpack, IsToRemove, IsToPurge}
 
 -- the database after all these steps
 abbrev pub after_all : Universe → List Record → List Step → List Record
@@ -61,7 +61,7 @@ IsNextRemoval u members db (step.Purge name) = ⊥
 
 -- the steps are the removals from this database on, until no name is to be removed
 abbrev pub AreRemovals : Universe → List Pkg → List Record → List Step → Type 0
-AreRemovals u members db [] = (name : List ℕ) → ¬ IsToRemove members db name
+AreRemovals u members db [] = HasNothingToRemove members db
 AreRemovals u members db (step ∷ rest) = IsNextRemoval u members db step × AreRemovals u members (after u db step) rest
 
 -- Configures

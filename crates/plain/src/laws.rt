@@ -1,6 +1,13 @@
 // Laws that follow from the definitions: each function has an empty body, and its contract is the law.
 
-ghost use Rattle.plain.specs.Laws.{UniverseIsCounted, StartIsQuiet, NothingClashes, UnpacksAreAllowed, LastRemovalIsAllowed, RemovalsGoOn, RemovalsAreAllowed, UnconfiguredPass, ConfiguresKeep, LeastGroupIsThere, MembersAreByName, RemovalLeaves, DeconfigureLeaves, ConfigureLeaves, WalkBegins, WalkLeavesOut, WalkKeeps, WalkEnds, PurgesEndWell, PlainChangeIsOrdered, PlainChangeHasOrder};
+ghost use Rattle.plain.specs.Laws.{UniverseIsCounted, StartIsQuiet, NothingClashes, PlainChangeIsOrdered, PlainChangeHasOrder};
+ghost use Rattle.plain.specs.PhaseLaws.{MembersAreByName, UnpacksAreAllowed, LastRemovalIsAllowed, RemovalsGoOn, RemovalsAreAllowed, RemovalLeaves, DeconfigureLeaves, UnconfiguredPass, ConfiguresKeep, ConfigureLeaves, PurgesEndWell};
+ghost use Rattle.plain.specs.WalkLaws.{LeastGroupIsThere, WalkBegins, WalkLeavesOut, WalkKeeps, WalkEnds};
+
+/// The universe of inputs is counted by their start.
+pub fn universe_is_counted()
+    ensures { UniverseIsCounted }
+{}
 
 /// The start of a plain change is quiet.
 pub fn start_is_quiet()
@@ -13,9 +20,9 @@ pub fn nothing_clashes()
     ensures { NothingClashes }
 {}
 
-/// The universe of inputs is counted by their start.
-pub fn universe_is_counted()
-    ensures { UniverseIsCounted }
+/// The members to be unpacked, in the order of their pairs, are just those, by name.
+pub fn members_are_by_name()
+    ensures { MembersAreByName }
 {}
 
 /// In a plain change the unpacks by name are allowed, each behind those before it; behind them each member stands,
@@ -39,31 +46,24 @@ pub fn removals_are_allowed()
     ensures { RemovalsAreAllowed }
 {}
 
+/// Behind a removal the other names are still to be removed.
+pub fn removal_leaves()
+    ensures { RemovalLeaves }
+{}
+
+/// Behind a deconfigure all names are still to be removed, and all but one are still installed that were.
+pub fn deconfigure_leaves()
+    ensures { DeconfigureLeaves }
+{}
+
 /// Where nothing is to be removed, all that isn't configured passes as a group, but for the rule of its parts.
 pub fn unconfigured_pass()
     ensures { UnconfiguredPass }
 {}
 
-/// A configure that is allowed keeps the change underway, with nothing to be removed.
-pub fn configures_keep()
-    ensures { ConfiguresKeep }
-{}
-
 /// Where some group passes but for the rule of its parts, there is a least group that may be configured.
 pub fn least_group_is_there()
     ensures { LeastGroupIsThere }
-{}
-
-/// Where nothing is to be removed and no group may be configured, the purges by name are allowed, and behind them the
-/// end is good and just the selected packages are installed.
-pub fn purges_end_well()
-    ensures { PurgesEndWell }
-{}
-
-/// A plain change to an acceptable selection is ordered: steps in the fixed order are a run from the start, which is
-/// quiet, to a good end at which just the selected packages are installed.
-pub fn plain_change_is_ordered()
-    ensures { PlainChangeIsOrdered }
 {}
 
 /// The walk to the least group begins with the greatest part of what isn't configured, if it is something.
@@ -86,24 +86,26 @@ pub fn walk_ends()
     ensures { WalkEnds }
 {}
 
-/// The members to be unpacked, in the order of their pairs, are just those, by name.
-pub fn members_are_by_name()
-    ensures { MembersAreByName }
-{}
-
-/// Behind a removal the other names are still to be removed.
-pub fn removal_leaves()
-    ensures { RemovalLeaves }
-{}
-
-/// Behind a deconfigure all names are still to be removed, and all but one are still installed that were.
-pub fn deconfigure_leaves()
-    ensures { DeconfigureLeaves }
+/// A configure that is allowed keeps the change underway, with nothing to be removed.
+pub fn configures_keep()
+    ensures { ConfiguresKeep }
 {}
 
 /// Behind a configure that is allowed the other names aren't configured yet, and those are fewer.
 pub fn configure_leaves()
     ensures { ConfigureLeaves }
+{}
+
+/// Where nothing is to be removed and no group may be configured, the purges by name are allowed, and behind them the
+/// end is good and just the selected packages are installed.
+pub fn purges_end_well()
+    ensures { PurgesEndWell }
+{}
+
+/// A plain change to an acceptable selection is ordered: steps in the fixed order are a run from the start, which is
+/// quiet, to a good end at which just the selected packages are installed.
+pub fn plain_change_is_ordered()
+    ensures { PlainChangeIsOrdered }
 {}
 
 /// A plain change to an acceptable selection has steps in the fixed order.
