@@ -5,6 +5,7 @@ pub mod HasOrderLemmas
 pub mod InstallRows
 pub mod LeastGroupLemmas
 pub mod MemberLemmas
+pub mod OneOrderLemmas
 pub mod OrderLemmas
 pub mod PeaceLemmas
 pub mod PlainDecided

@@ -114,12 +114,20 @@ pub put_up : (name : Name) (names : List Name) → IsAscending names
     → (more : List Name) × IsAscending more × ((other : Name) → Contains more other ↔ ((name ≡ other) ⊎ Contains names other))
 put_up = put (λ a b. name_cmp a b ≡ Less) either_below nat_list_cmp_total.trans
 
+-- of two names one is above the other, or they are one
+either_above : (name other : Name) → (name_cmp other name ≡ Less) ⊎ ((name ≡ other) ⊎ (name_cmp name other ≡ Less))
+either_above name other = elim (either_below other name) [
+  | inl below ↦ inl below
+  | inr (inl same) ↦ inr (inl (sym same))
+  | inr (inr above) ↦ inr (inr above)
+]
+
 -- all names of a list, from the greatest down
 pub sorted : (names : List Name) → (falling : List Name) × IsDescending falling × ((name : Name) → Contains names name → Contains falling name)
 sorted [] = ([], (λ i j d before within. absurd (omega arith)), λ name within. within)
 sorted (first ∷ rest) =
     let later = sorted rest in
-    let more = put (λ a b. name_cmp b a ≡ Less) either (λ a b c above below. nat_list_cmp_total.trans c b a below above) first later.0 later.1 in
+    let more = put (λ a b. name_cmp b a ≡ Less) either_above (λ a b c above below. nat_list_cmp_total.trans c b a below above) first later.0 later.1 in
     (
       more.0,
       more.1,
@@ -128,57 +136,63 @@ sorted (first ∷ rest) =
         | inr behind ↦ inr (later.2 name behind)
       ]),
     )
-  where
-    either : (name other : Name) → (name_cmp other name ≡ Less) ⊎ ((name ≡ other) ⊎ (name_cmp name other ≡ Less))
-    either name other = elim (either_below other name) [
-      | inl below ↦ inl below
-      | inr (inl same) ↦ inr (inl (sym same))
-      | inr (inr above) ↦ inr (inr above)
-    ]
 
--- of the names with a property there is a least
+-- strict orders of which two names are one or in order
+module _ (IsBefore : Name → Name → Type 0) (either : (name other : Name) → IsBefore name other ⊎ ((name ≡ other) ⊎ IsBefore other name))
+    (through : (name other another : Name) → IsBefore name other → IsBefore other another → IsBefore name another)
+    (never : (name : Name) → ¬ IsBefore name name) where
+  -- of the names with a property there is a first
+  pub first_of : (P : Name → Type 0) → ((name : Name) → Dec (P name)) → (names : List Name) → Any P names
+      → (name : Name) × P name × ((other : Name) → Contains names other → P other → ¬ IsBefore other name)
+  first_of P each [] some = absurd (Contains-nil some.1 (Any-contains P [] some))
+  first_of P each (first ∷ rest) some = at (dec_Any P each rest) (λ behind. first_of P each rest behind)
+    where
+      -- the first of the rest, beside a head that has the property
+      beside : (name : Name) → P name → ((other : Name) → Contains rest other → P other → ¬ IsBefore other name)
+          → P first → IsBefore first name ⊎ ((first ≡ name) ⊎ IsBefore name first)
+          → (name : Name) × P name × ((other : Name) → Contains (first ∷ rest) other → P other → ¬ IsBefore other name)
+      beside name has none here (inl before) = (first, here, λ other within holds earlier. elim (Contains-cons first rest other within) [
+        | inl same ↦ never first (subst (λ n. IsBefore n first) (sym same) earlier)
+        | inr behind ↦ none other behind holds (through other first name earlier before)
+      ])
+      beside name has none here (inr (inl is)) = (name, has, λ other within holds earlier. elim (Contains-cons first rest other within) [
+        | inl same ↦ never name (subst (λ n. IsBefore n name) (sym same ∙ is) earlier)
+        | inr behind ↦ none other behind holds earlier
+      ])
+      beside name has none here (inr (inr after)) = (name, has, λ other within holds earlier. elim (Contains-cons first rest other within) [
+        | inl same ↦ never name (through name first name after (subst (λ n. IsBefore n name) (sym same) earlier))
+        | inr behind ↦ none other behind holds earlier
+      ])
+
+      joined : (name : Name) → P name → ((other : Name) → Contains rest other → P other → ¬ IsBefore other name) → Dec (P first)
+          → (name : Name) × P name × ((other : Name) → Contains (first ∷ rest) other → P other → ¬ IsBefore other name)
+      joined name has none (yes here) = beside name has none here (either first name)
+      joined name has none (no fails) = (name, has, λ other within holds earlier. elim (Contains-cons first rest other within) [
+        | inl same ↦ fails (subst P (sym same) holds)
+        | inr behind ↦ none other behind holds earlier
+      ])
+
+      at : Dec (Any P rest)
+          → (Any P rest → (name : Name) × P name × ((other : Name) → Contains rest other → P other → ¬ IsBefore other name))
+          → (name : Name) × P name × ((other : Name) → Contains (first ∷ rest) other → P other → ¬ IsBefore other name)
+      at (yes behind) later = let found = later behind in joined found.0 found.1 found.2 (each first)
+      at (no none) later = (
+        first,
+        Any-elim P (first ∷ rest) (P first) (λ name within has. elim (Contains-cons first rest name within) [
+          | inl same ↦ subst P (sym same) has
+          | inr behind ↦ absurd (none (Any-intro P rest name behind has))
+        ]) some,
+        λ other within holds earlier. elim (Contains-cons first rest other within) [
+          | inl same ↦ never first (subst (λ n. IsBefore n first) (sym same) earlier)
+          | inr behind ↦ none (Any-intro P rest other behind holds)
+        ],
+      )
+
+-- of the names with a property there is a least, and there is a greatest
 pub least_of : (P : Name → Type 0) → ((name : Name) → Dec (P name)) → (names : List Name) → Any P names
     → (name : Name) × P name × ((other : Name) → Contains names other → P other → ¬ (name_cmp other name ≡ Less))
-least_of P each [] some = absurd (Contains-nil some.1 (Any-contains P [] some))
-least_of P each (first ∷ rest) some = at (dec_Any P each rest) (λ behind. least_of P each rest behind)
-  where
-    -- the least of the rest, beside a first that has the property
-    beside : (name : Name) → P name → ((other : Name) → Contains rest other → P other → ¬ (name_cmp other name ≡ Less))
-        → P first → (name_cmp first name ≡ Less) ⊎ ((first ≡ name) ⊎ (name_cmp name first ≡ Less))
-        → (name : Name) × P name × ((other : Name) → Contains (first ∷ rest) other → P other → ¬ (name_cmp other name ≡ Less))
-    beside name has least here (inl below) = (first, here, λ other within holds lower. elim (Contains-cons first rest other within) [
-      | inl same ↦ not_below_itself first (subst (λ n. name_cmp n first ≡ Less) (sym same) lower)
-      | inr behind ↦ least other behind holds (nat_list_cmp_total.trans other first name lower below)
-    ])
-    beside name has least here (inr (inl is)) = (name, has, λ other within holds lower. elim (Contains-cons first rest other within) [
-      | inl same ↦ not_below_itself name (subst (λ n. name_cmp n name ≡ Less) (sym same ∙ is) lower)
-      | inr behind ↦ least other behind holds lower
-    ])
-    beside name has least here (inr (inr above)) = (name, has, λ other within holds lower. elim (Contains-cons first rest other within) [
-      | inl same ↦ not_both name first above (subst (λ n. name_cmp n name ≡ Less) (sym same) lower)
-      | inr behind ↦ least other behind holds lower
-    ])
+least_of = first_of (λ a b. name_cmp a b ≡ Less) either_below nat_list_cmp_total.trans not_below_itself
 
-    joined : (name : Name) → P name → ((other : Name) → Contains rest other → P other → ¬ (name_cmp other name ≡ Less)) → Dec (P first)
-        → (name : Name) × P name × ((other : Name) → Contains (first ∷ rest) other → P other → ¬ (name_cmp other name ≡ Less))
-    joined name has least (yes here) = beside name has least here (either_below first name)
-    joined name has least (no fails) = (name, has, λ other within holds lower. elim (Contains-cons first rest other within) [
-      | inl same ↦ fails (subst P (sym same) holds)
-      | inr behind ↦ least other behind holds lower
-    ])
-
-    at : Dec (Any P rest)
-        → (Any P rest → (name : Name) × P name × ((other : Name) → Contains rest other → P other → ¬ (name_cmp other name ≡ Less)))
-        → (name : Name) × P name × ((other : Name) → Contains (first ∷ rest) other → P other → ¬ (name_cmp other name ≡ Less))
-    at (yes behind) later = let found = later behind in joined found.0 found.1 found.2 (each first)
-    at (no none) later = (
-      first,
-      Any-elim P (first ∷ rest) (P first) (λ name within has. elim (Contains-cons first rest name within) [
-        | inl same ↦ subst P (sym same) has
-        | inr behind ↦ absurd (none (Any-intro P rest name behind has))
-      ]) some,
-      λ other within holds lower. elim (Contains-cons first rest other within) [
-        | inl same ↦ not_below_itself first (subst (λ n. name_cmp n first ≡ Less) (sym same) lower)
-        | inr behind ↦ none (Any-intro P rest other behind holds)
-      ],
-    )
+pub greatest_of : (P : Name → Type 0) → ((name : Name) → Dec (P name)) → (names : List Name) → Any P names
+    → (name : Name) × P name × ((other : Name) → Contains names other → P other → ¬ (name_cmp name other ≡ Less))
+greatest_of = first_of (λ a b. name_cmp b a ≡ Less) either_above (λ a b c above below. nat_list_cmp_total.trans c b a below above) not_below_itself

@@ -1,5 +1,5 @@
 -- What follows for plain changes: that they are at peace, that they are ordered, and that they have an order.
-use Rattle.std.specs.Prelude.{ℕ, Bool, List}
+use Rattle.std.specs.Prelude.{◌≡◌, ℕ, Bool, List}
 use Rattle.rules.specs.Available.{Inputs}
 use Rattle.rules.specs.Database.{Record, HasDistinctNames, IsQuiet}
 use Rattle.rules.specs.Package.{Pkg}
@@ -37,3 +37,8 @@ PlainChangeIsOrdered = (u : Universe) (start : List Record) (selection : ℕ →
 abbrev pub PlainChangeHasOrder : Type 0
 PlainChangeHasOrder = (u : Universe) (start : List Record) (selection : ℕ → Bool) → IsPlainChange u start selection
     → (steps : List Step) × IsInFixedOrder u start (selected u selection) steps
+
+-- steps in the fixed order are the only ones
+abbrev pub OneFixedOrder : Type 0
+OneFixedOrder = (u : Universe) (start : List Record) (members : List Pkg) (steps other : List Step)
+    → IsInFixedOrder u start members steps → IsInFixedOrder u start members other → steps ≡ other

@@ -1,6 +1,6 @@
 // Laws that follow from the definitions: each function has an empty body, and its contract is the law.
 
-ghost use Rattle.plain.specs.Laws.{UniverseIsCounted, StartIsQuiet, NothingClashes, PlainChangeIsOrdered, PlainChangeHasOrder};
+ghost use Rattle.plain.specs.Laws.{UniverseIsCounted, StartIsQuiet, NothingClashes, PlainChangeIsOrdered, PlainChangeHasOrder, OneFixedOrder};
 ghost use Rattle.plain.specs.PhaseLaws.{MembersAreByName, UnpacksAreAllowed, LastRemovalIsAllowed, RemovalsGoOn, RemovalsAreAllowed, RemovalLeaves, DeconfigureLeaves, UnconfiguredPass, ConfiguresKeep, ConfigureLeaves, PurgesEndWell};
 ghost use Rattle.plain.specs.WalkLaws.{LeastGroupIsThere, WalkBegins, WalkLeavesOut, WalkKeeps, WalkEnds};
 
@@ -111,4 +111,9 @@ pub fn plain_change_is_ordered()
 /// A plain change to an acceptable selection has steps in the fixed order.
 pub fn plain_change_has_order()
     ensures { PlainChangeHasOrder }
+{}
+
+/// Steps in the fixed order are the only ones.
+pub fn one_fixed_order()
+    ensures { OneFixedOrder }
 {}
