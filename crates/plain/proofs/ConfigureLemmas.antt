@@ -1,15 +1,14 @@
 -- Where nothing is to be removed, all that isn't configured passes as a group, and configures keep a change underway.
-use Rattle.std.proofs.Common.{◌≡◌, ◌≢◌, ℕ, ◌+◌, ◌<◌, ◌≤◌, cond, length, arith, Bool, true, false, ◌&&◌, ◌||◌, List, [], ◌∷◌, ◌++◌, map, ◌⊎◌, None, refl, sym, ap, subst, ◌∙◌}
+use Rattle.std.proofs.Common.{◌≡◌, ◌≢◌, ℕ, ◌+◌, ◌<◌, ◌≤◌, cond, length, arith, Bool, true, false, ◌||◌, List, [], ◌∷◌, ◌++◌, map, ◌⊎◌, None, refl, sym, ap, subst, ◌∙◌}
 use Rattle.std.specs.Prelude.{IsTrue}
 use Rattle.std.specs.List.{All, Any, Contains, filter}
 use Rattle.std.proofs.lemmas.List.Elements.{All-contains, All-cons, All-nil, All-head, All-weaker, Contains-append_left, Contains-append_right}
-use Rattle.rules.specs.Configure.{is_present_among, members_of, HasConfigurable, IsConfigurable, AreConfigurable, ArePreDependsInstalled, AreDependsInstalled, AreUnbroken, GroupPasses, IsIndivisible}
-use Rattle.rules.specs.Database.{Record, HasRecord, IsPresent, IsInstalled, IsUnconfigured, IsRemoved, HasSoundFlag, IsHeld, Stands, installed_of, pkg_of}
+use Rattle.rules.specs.Configure.{is_present_among, members_of, HasConfigurable, IsConfigurable, AreConfigurable, ArePreDependsInstalled, AreDependsInstalled, GroupPasses, IsIndivisible}
+use Rattle.rules.specs.Database.{Record, HasRecord, IsPresent, IsInstalled, IsUnconfigured, Stands, installed_of, pkg_of}
 use Rattle.rules.specs.ElementLaws.{All-intro, Any-intro, Any-elim, Contains-cons, Contains-head, Contains-nil, Contains-map, Contains-map_intro, Contains-filter, Contains-filter_intro}
 use Rattle.rules.specs.Legal.{Allowed, ConfigureAsks}
 use Rattle.rules.specs.NamedLaws.{contains-is_among, is_among-contains}
 use Rattle.rules.specs.Package.{Pkg, Atom, MatchesSome, MeetsClause}
-use Rattle.rules.specs.Run.{after}
 use Rattle.rules.specs.Sound.{HasMember, HasItsRelations, IsAcceptable, IsSound, MeetsClauses, selected}
 use Rattle.rules.specs.State.{is_installed_state, is_present_state, is_unconfigured_state, is_sound_flag}
 use Rattle.rules.specs.Step.{changed, configured, is_among}
@@ -24,7 +23,7 @@ use Rattle.rules.proofs.PlanLemmas.{installed_contains}
 use Rattle.rules.proofs.QuietLemmas.{distinct_names_kept, one_record, the_record}
 use Rattle.plain.specs.Change.{IsPlainChange, IsReady, IsMetByStaying, IsToRemove, Stays}
 use Rattle.plain.specs.PhaseLaws.{ConfigureLeaves, ConfiguresKeep, UnconfiguredPass}
-use Rattle.plain.specs.Underway.{IsFree, IsUnderway, unconfigured_of}
+use Rattle.plain.specs.Underway.{IsUnderway, unconfigured_of}
 use Rattle.plain.proofs.ChangedLemmas.{changed_each, changed_keeps}
 use Rattle.plain.proofs.PeaceLemmas.{nothing_clashes}
 use Rattle.plain.proofs.UnderwayLemmas.{dec_HasMember, named, member_record, record_of_member, record_of_staying, free_record, underway_changed, underway_has_old_and_new}

@@ -1,10 +1,9 @@
 -- Packages that are just those of a fitting list are fitting.
-use Rattle.std.proofs.Common.{◌≡◌, ◌≢◌, ℕ, List, [], ◌∷◌, Option, Some, None, MatchOption}
-use Rattle.std.specs.Prelude.{IsTrue}
+use Rattle.std.proofs.Common.{◌≡◌, ◌≢◌, ℕ, List, Option, Some, None, MatchOption}
 use Rattle.std.specs.List.{All, Any, Contains}
 use Rattle.std.proofs.lemmas.List.Elements.{All-contains, All-weaker}
 use Rattle.rules.specs.ElementLaws.{All-intro, Any-intro, Any-elim}
-use Rattle.rules.specs.Package.{Pkg, Atom, Meets, MatchesSome}
+use Rattle.rules.specs.Package.{Pkg, Meets, MatchesSome}
 use Rattle.rules.specs.Sound.{AgreesWith, Fulfils, FulfilsAll, HasItsRelations, HasMember, HasOneVersionEach, HasVersion, IsAdmittedIn, IsFitting, IsKept, IsSound, IsUpgraded, KeepsEssential, KeepsHold, MatchedByNoOther}
 use Rattle.rules.specs.Universe.{Universe, Pair, IsOf, candidate_of}
 use Rattle.rules.specs.declared.goal.Goal.{Goal}

@@ -1,9 +1,8 @@
 -- A plain change to an acceptable selection has steps in the fixed order.
-use Rattle.std.proofs.Common.{◌≡◌, ℕ, zero, suc, ◌<◌, ◌≤◌, Bool, List, [], ◌∷◌, ◌++◌, map, length, ◌⊎◌, refl, sym, ap, subst, ◌∙◌, arith}
+use Rattle.std.proofs.Common.{◌≡◌, ℕ, zero, suc, ◌<◌, ◌≤◌, Bool, List, [], ◌∷◌, ◌++◌, map, length, ◌⊎◌, refl, sym, ap, subst, arith}
 use Rattle.std.specs.Prelude.{◌↔◌}
 use Rattle.std.specs.List.{All, Any, Contains}
-use Rattle.rules.specs.Configure.{GroupPasses}
-use Rattle.rules.specs.Database.{Record, HasRecord, IsPresent, IsRemoved}
+use Rattle.rules.specs.Database.{Record, IsPresent, IsRemoved}
 use Rattle.rules.specs.ElementLaws.{Any-intro, Any-elim, Any-contains, Contains-cons, Contains-head, Contains-nil, Contains-rest}
 use Rattle.rules.specs.Name.{IsAscending}
 use Rattle.rules.specs.Package.{Pkg}
@@ -17,11 +16,11 @@ use Rattle.rules.proofs.Decided.{dec_Any, dec_IsTrue, dec_and}
 use Rattle.rules.proofs.GroupLemmas.{none_of}
 use Rattle.plain.specs.Change.{IsPlainChange, IsPurgeGoal, IsToPurge, IsToRemove}
 use Rattle.plain.specs.Laws.{PlainChangeHasOrder}
-use Rattle.plain.specs.Order.{AreConfigures, ArePurges, AreRemovals, IsConfigurableGroup, IsInFixedOrder, IsLeastName, IsNextRemoval, IsStillInstalled, MayGo, after_all, to_unpack, unpack_of}
+use Rattle.plain.specs.Order.{AreConfigures, ArePurges, AreRemovals, AreUnpacks, IsConfigurableGroup, IsInFixedOrder, IsLeastName, IsNextRemoval, IsStillInstalled, MayGo, after_all, to_unpack, unpack_of}
 use Rattle.plain.specs.Underway.{IsUnderway, removals_left, unconfigured_of}
 use Rattle.plain.proofs.ConfigureLemmas.{configure_leaves, configures_keep, unconfigured_pass}
 use Rattle.plain.proofs.LeastGroupLemmas.{allowed_passes, least_group_is_there, names_unconfigured}
-use Rattle.plain.proofs.OrderLemmas.{AreConfigured, AreRemoved, configures_run, removals_run}
+use Rattle.plain.proofs.OrderLemmas.{removals_run}
 use Rattle.plain.proofs.PlainDecided.{dec_IsPurgeGoal, dec_IsStillInstalled, dec_IsToRemove, dec_MayGo, has_name}
 use Rattle.plain.proofs.RemovalLemmas.{removals_are_allowed, removals_go_on}
 use Rattle.plain.proofs.SelectedLemmas.{members_are_by_name}
@@ -39,10 +38,14 @@ least_name P each names known name has =
 -- the names to be purged, in their order
 purges_among : (u : Universe) (db : List Record) → (names : List Name) × IsAscending names
     × ((name : Name) → Contains names name ↔ Any (λ (r : Record). (r.name ≡ name) × (IsPurgeGoal u r.name × IsRemoved r)) db)
-purges_among u [] = ([], (λ i j d before within. absurd (omega arith)), λ name. (
-  (λ none. absurd (Contains-nil name none)),
-  (λ none. absurd (Contains-nil none.1 (Any-contains (λ (r : Record). (r.name ≡ name) × (IsPurgeGoal u r.name × IsRemoved r)) [] none))),
-))
+purges_among u [] = (
+  [],
+  (λ i j d before within. absurd (omega arith)),
+  λ name. (
+    (λ none. absurd (Contains-nil name none)),
+    (λ none. absurd (Contains-nil none.1 (Any-contains (λ (r : Record). (r.name ≡ name) × (IsPurgeGoal u r.name × IsRemoved r)) [] none))),
+  ),
+)
 purges_among u (first ∷ rest) = at (dec_and (dec_IsPurgeGoal u first.name) (dec_IsTrue (is_config_files_state first.state))) (purges_among u rest)
   where
     behind : (name : Name) → Any (λ (r : Record). (r.name ≡ name) × (IsPurgeGoal u r.name × IsRemoved r)) rest
@@ -68,35 +71,44 @@ purges_among u (first ∷ rest) = at (dec_and (dec_IsPurgeGoal u first.name) (de
         × ((name : Name) → Contains names name ↔ Any (λ (r : Record). (r.name ≡ name) × (IsPurgeGoal u r.name × IsRemoved r)) rest)
         → (names : List Name) × IsAscending names
         × ((name : Name) → Contains names name ↔ Any (λ (r : Record). (r.name ≡ name) × (IsPurgeGoal u r.name × IsRemoved r)) (first ∷ rest))
-    at (no fails) later = (later.0, later.1, λ name. (
-      (λ within. behind name ((later.2 name).0 within)),
-      (λ some. elim (split name some) [ inl here ↦ absurd (fails here.1) | inr further ↦ (later.2 name).1 further ]),
-    ))
+    at (no fails) later = (
+      later.0,
+      later.1,
+      λ name. (
+        (λ within. behind name ((later.2 name).0 within)),
+        (λ some. elim (split name some) [ inl here ↦ absurd (fails here.1) | inr further ↦ (later.2 name).1 further ]),
+      ),
+    )
     at (yes is) later =
-        let more = put_up first.name later.0 later.1 in
-        (more.0, more.1, λ name. (
-          (λ within. elim ((more.2 name).0 within) [
-            | inl same ↦ Any-intro (λ (r : Record). (r.name ≡ name) × (IsPurgeGoal u r.name × IsRemoved r)) (first ∷ rest) first (Contains-head first rest) (same, is)
-            | inr further ↦ behind name ((later.2 name).0 further)
-          ]),
-          (λ some. (more.2 name).1 (elim (split name some) [ inl here ↦ inl here.0 | inr further ↦ inr ((later.2 name).1 further) ])),
-        ))
+        let more = put_up first.name later.0 later.1 in (
+          more.0,
+          more.1,
+          λ name. (
+            (λ within. elim ((more.2 name).0 within) [
+              | inl same ↦ Any-intro (λ (r : Record). (r.name ≡ name) × (IsPurgeGoal u r.name × IsRemoved r)) (first ∷ rest) first (Contains-head first rest) (same, is)
+              | inr further ↦ behind name ((later.2 name).0 further)
+            ]),
+            (λ some. (more.2 name).1 (elim (split name some) [ inl here ↦ inl here.0 | inr further ↦ inr ((later.2 name).1 further) ])),
+          ),
+        )
 
 purges_there : (u : Universe) (db : List Record) → (names : List Name) × ArePurges u db names
 purges_there u db =
-    let found = purges_among u db in
-    (found.0, record {
-      by_name = found.1;
-      each = λ name. (
-        (λ within. Any-elim (λ (r : Record). (r.name ≡ name) × (IsPurgeGoal u r.name × IsRemoved r)) db (IsToPurge u db name)
-            (λ r there is. (subst (IsPurgeGoal u) is.0 is.1.0, Any-intro (λ (r : Record). (r.name ≡ name) × IsRemoved r) db r there (is.0, is.1.1)))
-            ((found.2 name).0 within)),
-        (λ purge. (found.2 name).1 (Any-elim (λ (r : Record). (r.name ≡ name) × IsRemoved r) db
-            (Any (λ (r : Record). (r.name ≡ name) × (IsPurgeGoal u r.name × IsRemoved r)) db)
-            (λ r there is. Any-intro (λ (r : Record). (r.name ≡ name) × (IsPurgeGoal u r.name × IsRemoved r)) db r there
-            (is.0, (subst (IsPurgeGoal u) (sym is.0) purge.0, is.1))) purge.1)),
-      );
-    })
+    let found = purges_among u db in (
+      found.0,
+      record {
+        by_name = found.1;
+        each = λ name. (
+          (λ within. Any-elim (λ (r : Record). (r.name ≡ name) × (IsPurgeGoal u r.name × IsRemoved r)) db (IsToPurge u db name)
+              (λ r there is. (subst (IsPurgeGoal u) is.0 is.1.0, Any-intro (λ (r : Record). (r.name ≡ name) × IsRemoved r) db r there (is.0, is.1.1)))
+              ((found.2 name).0 within)),
+          (λ purge. (found.2 name).1 (Any-elim (λ (r : Record). (r.name ≡ name) × IsRemoved r) db
+              (Any (λ (r : Record). (r.name ≡ name) × (IsPurgeGoal u r.name × IsRemoved r)) db)
+              (λ r there is. Any-intro (λ (r : Record). (r.name ≡ name) × (IsPurgeGoal u r.name × IsRemoved r)) db r there
+              (is.0, (subst (IsPurgeGoal u) (sym is.0) purge.0, is.1))) purge.1)),
+        );
+      },
+    )
 
 module _ (u : Universe) (start : List Record) (selection : ℕ → Bool) (change : IsPlainChange u start selection) where
   abbrev members : List Pkg
@@ -141,9 +153,12 @@ module _ (u : Universe) (start : List Record) (selection : ℕ → Bool) (change
   -- the removals that are left
   removals_there : (most : ℕ) (db : List Record) → removals_left members db ≤ most → IsUnderway u start members db
       → (steps : List Step) × AreRemovals u members db steps
-  removals_there zero db few underway = ([], λ name goes.
-      let next = next_removal db underway name goes in
-      let less = (removals_are_allowed u start db members next.0 underway next.1).2 in absurd (omega arith))
+  removals_there zero db few underway = (
+    [],
+    λ name goes.
+        let next = next_removal db underway name goes in
+        let less = (removals_are_allowed u start db members next.0 underway next.1).2 in absurd (omega arith),
+  )
   removals_there (suc fewer) db few underway = at (dec_Any (IsToRemove members db) (dec_IsToRemove members db) (names_in db))
       (λ next below under. removals_there fewer next below under)
     where
@@ -197,36 +212,51 @@ module _ (u : Universe) (start : List Record) (selection : ℕ → Bool) (change
       at [] is go_on = ([], none_to_configure db (omega (arith, ap length is)))
       at (first ∷ rest) is go_on = one_more (omega (arith, ap length is)) go_on
 
+-- the four phases, each begun where those before have led, are in the fixed order
+in_order : (u : Universe) (start : List Record) (chosen unpacks : List Pkg) (removals configures : List Step) (purges : List Name)
+    (all_unpacked all_removed all_configured : List Record) → AreUnpacks start chosen unpacks
+    → all_unpacked ≡ after_all u start (map unpack_of unpacks) → AreRemovals u chosen all_unpacked removals
+    → all_removed ≡ after_all u all_unpacked removals → AreConfigures u all_removed configures
+    → all_configured ≡ after_all u all_removed configures → ArePurges u all_configured purges
+    → IsInFixedOrder u start chosen (map unpack_of unpacks ++ (removals ++ (configures ++ map step.Purge purges)))
+in_order u start chosen unpacks removals configures purges all_unpacked all_removed all_configured one_ first two second three third four = record {
+  unpacks = unpacks;
+  removals = removals;
+  configures = configures;
+  purges = purges;
+  all_unpacked = all_unpacked;
+  all_removed = all_removed;
+  all_configured = all_configured;
+  parts = refl;
+  unpacks_are = one_;
+  all_unpacked_is = first;
+  removals_are = two;
+  all_removed_is = second;
+  configures_are = three;
+  all_configured_is = third;
+  purges_are = four;
+}
+
+-- the phases behind the unpacks, which end where those led
+behind_unpacks : (u : Universe) (start : List Record) (selection : ℕ → Bool) → IsPlainChange u start selection → (unpacks : List Pkg)
+    → AreUnpacks start (selected u selection) unpacks → (all_unpacked : List Record)
+    → all_unpacked ≡ after_all u start (map unpack_of unpacks) → IsUnderway u start (selected u selection) all_unpacked
+    → (steps : List Step) × IsInFixedOrder u start (selected u selection) steps
+behind_unpacks u start selection change unpacks are all_unpacked is underway =
+    let members = selected u selection in
+    let removals = removals_there u start selection change (removals_left members all_unpacked) all_unpacked (omega arith) underway in
+    let removed = removals_run u start members removals.0 all_unpacked underway removals.1 in
+    let configures = configures_there u start selection change (length (unconfigured_of (after_all u all_unpacked removals.0)))
+    (after_all u all_unpacked removals.0) (omega arith) removed.underway removed.none in
+    let purges = purges_there u (after_all u (after_all u all_unpacked removals.0) configures.0) in (
+      map unpack_of unpacks ++ (removals.0 ++ (configures.0 ++ map step.Purge purges.0)),
+      in_order u start members unpacks removals.0 configures.0 purges.0 all_unpacked (after_all u all_unpacked removals.0)
+          (after_all u (after_all u all_unpacked removals.0) configures.0) are is removals.1 refl configures.1 refl purges.1,
+    )
+
 pub plain_change_has_order : PlainChangeHasOrder
 plain_change_has_order u start selection change =
-    let members = selected u selection in
-    let unpacks = to_unpack start members in
+    let unpacks = to_unpack start (selected u selection) in
     let by_name = members_are_by_name u start selection change in
-    let all_unpacked = after_all u start (map unpack_of unpacks) in
-    let unpacked = unpacks_are_allowed u start selection unpacks change by_name in
-    let removals = removals_there u start selection change (removals_left members all_unpacked) all_unpacked (omega arith) unpacked.underway in
-    let removed = removals_run u start members removals.0 all_unpacked unpacked.underway removals.1 in
-    let all_removed = after_all u all_unpacked removals.0 in
-    let configures = configures_there u start selection change (length (unconfigured_of all_removed)) all_removed (omega arith) removed.underway removed.none in
-    let all_configured = after_all u all_removed configures.0 in
-    let purges = purges_there u all_configured in
-    (
-      map unpack_of unpacks ++ (removals.0 ++ (configures.0 ++ map step.Purge purges.0)),
-      record {
-        unpacks = unpacks;
-        removals = removals.0;
-        configures = configures.0;
-        purges = purges.0;
-        all_unpacked = all_unpacked;
-        all_removed = all_removed;
-        all_configured = all_configured;
-        parts = refl;
-        unpacks_are = by_name;
-        all_unpacked_is = refl;
-        removals_are = removals.1;
-        all_removed_is = refl;
-        configures_are = configures.1;
-        all_configured_is = refl;
-        purges_are = purges.1;
-      },
-    )
+    behind_unpacks u start selection change unpacks by_name (after_all u start (map unpack_of unpacks)) refl
+    (unpacks_are_allowed u start selection unpacks change by_name).underway

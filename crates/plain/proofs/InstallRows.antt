@@ -1,21 +1,19 @@
 -- Two packages that need each other are installed by a plain change: the fixed order unpacks both by name and
 -- configures them as one group, since neither passes by itself.
-use Rattle.std.proofs.Common.{◌≡◌, ◌≢◌, ℕ, zero, suc, ◌<◌, List, [], ◌∷◌, map, ◌⊎◌, Some, None, refl, sym, ap, subst, arith}
+use Rattle.std.proofs.Common.{◌≡◌, ◌≢◌, ℕ, zero, suc, List, [], ◌∷◌, Some, None, refl, sym, subst, arith}
 use Rattle.std.specs.Prelude.{codes}
-use Rattle.std.specs.List.{All, AllPairs, Contains}
+use Rattle.std.specs.List.{AllPairs, Contains}
 use Rattle.std.specs.declared.cmp.Ordering.TheVariants.{Less}
 use Rattle.std.proofs.lemmas.List.Elements.{All-contains, All-contains_itself}
-use Rattle.rules.specs.Configure.{AreDependsInstalled, GroupPasses, IsGreatestPart, others_of}
+use Rattle.rules.specs.Configure.{AreDependsInstalled, GroupPasses, IsGreatestPart}
 use Rattle.rules.specs.Database.{Record}
 use Rattle.rules.specs.ElementLaws.{All-intro, Any-contains, Contains-cons, Contains-head, Contains-nil, Contains-rest}
 use Rattle.rules.specs.Name.{name_cmp}
 use Rattle.rules.specs.Package.{Pkg}
 use Rattle.rules.specs.Universe.{Universe, StandsAs}
 use Rattle.rules.specs.Version.{version_cmp}
-use Rattle.rules.specs.declared.goal.Goal.{Goal}
 use Rattle.rules.specs.declared.goal.Goal.TheVariants as goal
 use Rattle.rules.specs.declared.status.State.TheVariants.{Unpacked, Installed}
-use Rattle.rules.specs.declared.step.Step.{Step}
 use Rattle.rules.specs.declared.step.Step.TheVariants as step
 use Rattle.rules.proofs.Decided.{dec_Decides, dec_IsTrue, dec_IsFalse, dec_and, dec_and3, dec_or, dec_not, dec_implies, dec_like, dec_All, dec_Any, dec_text, dec_Equal, dec_Contains, all_or_some}
 use Rattle.rules.proofs.DecidedPackages.{dec_MeetsRestriction, dec_Meets, dec_MeetsAsProvided, dec_FitsByName, dec_FitsProvided, dec_FitsByProvides, dec_Matches, dec_MatchesSome, dec_ConflictsWith, dec_BreaksOther, dec_MeetsClause, dec_MeetsClauses, dec_SameVersion}
@@ -26,8 +24,8 @@ use Rattle.plain.proofs.PlainDecided.{dec_Stays, dec_IsMetByStaying, dec_IsReady
 use Rattle.plain.proofs.UnderwayLemmas.{dec_HasMember}
 use Rattle.rules.proofs.GroupLemmas.{GroupPasses-from_each, none_of}
 use Rattle.rules.proofs.Rows.{so, not_so, record_of, indexed, universe_of}
-use Rattle.plain.specs.Change.{IsPlain, IsPurgeGoal, IsToPurge, IsToRemove, IsToUnpack}
-use Rattle.plain.specs.Order.{AreConfigures, ArePurges, AreUnpacks, IsConfigurableGroup, IsInFixedOrder, IsLeastGroup}
+use Rattle.plain.specs.Change.{IsPlain, IsPurgeGoal, IsToRemove}
+use Rattle.plain.specs.Order.{ArePurges, AreUnpacks, IsConfigurableGroup, IsInFixedOrder, IsLeastGroup}
 use Rattle.plain.specs.Walk.{IsNextName, IsOnWalk}
 use Rattle.plain.proofs.LeastGroupLemmas.{all_of_none, allowed_passes, names_unconfigured, same_names_pass, walk_begins, walk_ends, walk_keeps}
 use Rattle.plain.proofs.PlainRows.{a_1, b_1}

@@ -1,19 +1,14 @@
 -- The walk from a group that passes to the least group that may be configured, which there is where some group passes.
-use Rattle.std.proofs.Common.{◌≡◌, ◌≢◌, ℕ, ◌<◌, List, [], ◌∷◌, map, length, ◌⊎◌, refl, sym, ap, subst, ◌∙◌, arith}
-use Rattle.std.specs.Prelude.{◌↔◌}
-use Rattle.std.specs.Cmp.Lexicographic.{nat_list_cmp_total}
-use Rattle.std.specs.List.{All, AllPairs, Any, Contains}
-use Rattle.std.specs.Ordering.{ordering_reverse}
-use Rattle.std.specs.declared.cmp.Ordering.{Ordering}
-use Rattle.std.specs.declared.cmp.Ordering.TheVariants.{Less, Equal, Greater}
+use Rattle.std.proofs.Common.{◌≡◌, ◌≢◌, ℕ, ◌<◌, List, [], ◌∷◌, length, ◌⊎◌, refl, sym, subst, arith}
+use Rattle.std.specs.List.{All, Contains}
+use Rattle.std.specs.declared.cmp.Ordering.TheVariants.{Less}
 use Rattle.std.proofs.lemmas.List.Elements.{All-contains, All-contains_itself, All-cons, All-weaker}
 use Rattle.std.proofs.lemmas.List.Kept.{AllPairs-cons}
-use Rattle.std.proofs.lemmas.Map.Lookups.{exact_bytes}
-use Rattle.rules.specs.Configure.{GroupPasses, HasConfigurable, IsConfigurable, AreConfigurable, IsGreatestPart, IsIndivisible, IsProperPart, others_of}
+use Rattle.rules.specs.Configure.{GroupPasses, HasConfigurable, IsConfigurable, AreConfigurable, IsGreatestPart, IsIndivisible, others_of}
 use Rattle.rules.specs.Database.{Record, HasRecord}
 use Rattle.rules.specs.ElementLaws.{All-intro, Any-elim, Contains-cons, Contains-head, Contains-nil, Contains-rest}
 use Rattle.rules.specs.Legal.{Allowed, ConfigureAsks}
-use Rattle.rules.specs.Name.{IsAscending, name_cmp}
+use Rattle.rules.specs.Name.{name_cmp}
 use Rattle.rules.specs.Universe.{Universe}
 use Rattle.rules.specs.declared.step.Rule.{Rule}
 use Rattle.rules.specs.declared.step.Rule.TheVariants as rule
@@ -21,11 +16,11 @@ use Rattle.rules.specs.declared.step.Step.TheVariants as step
 use Rattle.rules.proofs.Decided.{dec_Contains}
 use Rattle.rules.proofs.GroupLemmas.{GroupPasses-each, GroupPasses-from_each, MemberPasses-more, contains-others_of, others_of-contains, greatest_part, none_of}
 use Rattle.plain.specs.WalkLaws.{LeastGroupIsThere, WalkBegins, WalkEnds, WalkKeeps, WalkLeavesOut}
-use Rattle.plain.specs.Order.{IsConfigurableGroup, IsLeastGroup, IsLesserGroup}
+use Rattle.plain.specs.Order.{IsLeastGroup, IsLesserGroup}
 use Rattle.plain.specs.Underway.{unconfigured_of}
 use Rattle.plain.specs.Walk.{IsInOrAbove, IsNextName, IsOnWalk, IsPassing}
 use Rattle.plain.proofs.ConfigureLemmas.{allowed_configure, record_unconfigured, some_name}
-use Rattle.plain.proofs.MemberLemmas.{pairs_head, pairs_tail}
+use Rattle.rules.proofs.Rising.{pairs_head, pairs_tail}
 use Rattle.plain.proofs.SortedLemmas.{IsDescending, sorted}
 use mathlib.Core.Logic.{inl, inr}
 
@@ -180,8 +175,11 @@ walk_ends u db kept group walk all = record {
 walks : (u : Universe) (db : List Record) (left kept group : List Name) → IsDescending left → IsOnWalk db kept group
     → ((name : Name) → Contains group name → Contains kept name ⊎ Contains left name)
     → (found : List Name) × IsLeastGroup u db found
-walks u db [] kept group falls walk known = (kept, walk_ends u db kept group walk (All-intro (Contains kept) group (λ name within.
-    elim (known name within) [ inl among ↦ among | inr none ↦ absurd (Contains-nil name none) ])))
+walks u db [] kept group falls walk known = (
+  kept,
+  walk_ends u db kept group walk (All-intro (Contains kept) group (λ name within.
+      elim (known name within) [ inl among ↦ among | inr none ↦ absurd (Contains-nil name none) ])),
+)
 walks u db (name ∷ left) kept group falls walk known = look (dec_Contains group name) (dec_Contains kept name)
     (walks u db left kept group lower walk) (λ part. walks u db left kept part lower) (walks u db left (name ∷ kept) group lower)
   where

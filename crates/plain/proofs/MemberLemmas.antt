@@ -1,6 +1,5 @@
 -- The members of a selection: each is the package of a pair, and there is one of a name.
 use Rattle.std.proofs.Common.{◌≡◌, ◌≢◌, ℕ, ◌+◌, Bool, true, false, cond, ◌&&◌, List, [], ◌∷◌, ◌⊎◌, Option, Some, None, MatchOption, refl, sym, ap, subst, ◌∙◌, bytes_eq, ◌||◌}
-use Rattle.std.specs.Prelude.{IsTrue}
 use Rattle.std.specs.Cmp.{tied_itself, Equal-is}
 use Rattle.std.specs.Cmp.Lexicographic.{nat_list_cmp_total}
 use Rattle.std.specs.List.{All, AllPairs, Contains, find}
@@ -10,7 +9,7 @@ use Rattle.std.specs.declared.cmp.Ordering.{Ordering}
 use Rattle.std.specs.declared.cmp.Ordering.TheVariants.{Less, Equal}
 use Rattle.std.proofs.lemmas.List.Elements.{All-contains}
 use Rattle.std.proofs.lemmas.Option.{same_Some}
-use Rattle.std.proofs.Common.{arith, zero, suc, lit<}
+use Rattle.std.proofs.Common.{arith, suc}
 use Rattle.rules.specs.Available.{Inputs, is_of, same_version, counting_package, index_package, standing_record}
 use Rattle.rules.specs.Database.{Record, HasDistinctNames, IsInstalled, HasSoundFlag, Stands, stands, pkg_of}
 use Rattle.rules.specs.ElementLaws.{All-intro, Any-intro, Any-elim, Contains-cons, Contains-head, Contains-nil, Contains-rest}
@@ -18,26 +17,20 @@ use Rattle.rules.specs.Name.{name_cmp}
 use Rattle.rules.specs.NamedLaws.{bytes_eq-true, bytes_eq-same}
 use Rattle.rules.specs.Package.{Pkg}
 use Rattle.rules.specs.Sound.{HasOneVersionEach, AgreesWith, IsAcceptable, selected, selected_from}
-use Rattle.rules.specs.State.{is_installed_state, is_unconfigured_state, is_sound_flag}
+use Rattle.rules.specs.State.{is_unconfigured_state}
 use Rattle.rules.specs.Step.{IndexPackage, is_named}
 use Rattle.rules.specs.Universe.{Universe, IsUniverse, Pair, StandsAs, listed_of, pair_cmp}
 use Rattle.rules.specs.Version.{SameVersion, version_cmp}
 use Rattle.rules.specs.VersionOrderLaws.{same_version_equivalence}
 use Rattle.rules.proofs.EndLemmas.{both_true}
+use Rattle.rules.proofs.Rising.{pairs_head, pairs_tail}
 use Rattle.rules.proofs.QuietLemmas.{one_record}
 use Rattle.plain.specs.Change.{IsPlainChange, IsToUnpack, Stays}
-use Rattle.plain.specs.Counted.{IsCounted, HasItsPackage, HasItsListed}
+use Rattle.plain.specs.Counted.{HasItsPackage, HasItsListed}
 use Rattle.plain.specs.Laws.{UniverseIsCounted}
 use mathlib.Core.Logic.{inl, inr}
 
--- what holds of each pair of a list holds of the first with the rest, and of the rest
-pub pairs_head : {X : Type 0} (R : X → X → Type 0) (x : X) (xs : List X) → AllPairs R (x ∷ xs) → All (R x) xs
-pairs_head R x xs pairs place d within = pairs 0 (suc place) d (omega arith) (omega arith)
-
-pub pairs_tail : {X : Type 0} (R : X → X → Type 0) (x : X) (xs : List X) → AllPairs R (x ∷ xs) → AllPairs R xs
-pairs_tail R x xs pairs i j d before within = pairs (suc i) (suc j) d (omega arith) (omega arith)
-
--- two elements of such a list are one, or the one is before the other
+-- two elements of a list in order are one, or the one is before the other
 either_before : {X : Type 0} (R : X → X → Type 0) (xs : List X) → AllPairs R xs → (x y : X) → Contains xs x → Contains xs y
     → (x ≡ y) ⊎ (R x y ⊎ R y x)
 either_before R [] pairs x y within there = absurd (Contains-nil x within)
@@ -166,17 +159,26 @@ module _ (u : Universe) (start : List Record) (selection : ℕ → Bool) (change
   staying_record_of pkg within stays = Any-elim
       (λ (r : Record). (r.name ≡ pkg.name) × (IsInstalled r × HasSoundFlag r × SameVersion r.version pkg.version)) start
       ((found : Record) × Contains start found × IsInstalled found × HasSoundFlag found × (pkg_of found ≡ pkg))
-      (λ found there is. (found, there, is.1.0, is.1.1,
-      standing_package pkg within found there is.0 (installed_stands found is.1.0 is.1.1) is.1.2)) stays
+      (λ found there is. (
+        found,
+        there,
+        is.1.0,
+        is.1.1,
+        standing_package pkg within found there is.0 (installed_stands found is.1.0 is.1.1) is.1.2,
+      )) stays
 
   -- what stays stands
   pub staying_stands : (pkg : Pkg) → Contains (selected u selection) pkg → Stays start pkg → StandsAs start pkg.name pkg.version
   unfolding StandsAs
   staying_stands pkg within stays =
       let found = staying_record_of pkg within stays in
-      Any-intro (λ (r : Record). (r.name ≡ pkg.name) × (Stands r × SameVersion r.version pkg.version)) start found.0 found.1
-      (ap (λ (p : Pkg). p.name) found.4, (installed_stands found.0 found.2 found.3,
-      subst (λ (p : Pkg). SameVersion found.0.version p.version) found.4 (same_version_equivalence.reflexive found.0.version)))
+      Any-intro (λ (r : Record). (r.name ≡ pkg.name) × (Stands r × SameVersion r.version pkg.version)) start found.0 found.1 (
+        ap (λ (p : Pkg). p.name) found.4,
+        (
+          installed_stands found.0 found.2 found.3,
+          subst (λ (p : Pkg). SameVersion found.0.version p.version) found.4 (same_version_equivalence.reflexive found.0.version),
+        ),
+      )
 
   -- a member whose version stands at the start isn't of a name to be unpacked
   pub not_to_unpack : (pkg : Pkg) → Contains (selected u selection) pkg → StandsAs start pkg.name pkg.version

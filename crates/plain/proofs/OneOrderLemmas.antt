@@ -1,6 +1,5 @@
 -- Steps in the fixed order are the only ones.
-use Rattle.std.proofs.Common.{◌≡◌, ◌≢◌, ℕ, List, [], ◌∷◌, ◌++◌, map, ◌⊎◌, refl, sym, ap, subst, ◌∙◌}
-use Rattle.std.specs.Prelude.{◌↔◌}
+use Rattle.std.proofs.Common.{◌≡◌, List, [], ◌∷◌, ◌++◌, map, ◌⊎◌, refl, sym, ap, subst, ◌∙◌}
 use Rattle.std.specs.Cmp.{on_total}
 use Rattle.std.specs.Cmp.Lexicographic.{nat_list_cmp_total}
 use Rattle.std.specs.List.{Any, Contains}
@@ -18,7 +17,7 @@ use Rattle.rules.specs.declared.step.Step.TheVariants as step
 use Rattle.rules.proofs.Decided.{dec_Any, dec_Contains, dec_and, dec_not, dec_or}
 use Rattle.rules.proofs.Rising.{same_rising}
 use Rattle.plain.specs.Laws.{OneFixedOrder}
-use Rattle.plain.specs.Order.{AreConfigures, ArePurges, AreRemovals, AreUnpacks, IsInFixedOrder, IsLeastGroup, IsLeastName, IsLesserGroup, IsNextConfigure, IsNextRemoval, IsStillInstalled, MayGo, after_all, unpack_of}
+use Rattle.plain.specs.Order.{AreConfigures, ArePurges, AreRemovals, AreUnpacks, IsLeastGroup, IsLeastName, IsNextConfigure, IsNextRemoval, IsStillInstalled, MayGo, after_all, unpack_of}
 use Rattle.plain.proofs.SortedLemmas.{Name, either_below, greatest_of}
 use mathlib.Core.Logic.{inl, inr}
 

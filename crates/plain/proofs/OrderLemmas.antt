@@ -1,5 +1,5 @@
 -- A plain change to an acceptable selection is ordered by the fixed order.
-use Rattle.std.proofs.Common.{◌≡◌, ℕ, Bool, List, [], ◌∷◌, ◌++◌, map, refl, sym, ap, subst, ◌∙◌}
+use Rattle.std.proofs.Common.{ℕ, List, [], ◌∷◌, ◌++◌, map, refl, sym, subst}
 use Rattle.rules.specs.Database.{Record}
 use Rattle.rules.specs.Package.{Pkg}
 use Rattle.rules.specs.Run.{Run, after}
@@ -8,10 +8,10 @@ use Rattle.rules.specs.Universe.{Universe}
 use Rattle.rules.specs.declared.step.Step.{Step}
 use Rattle.rules.specs.declared.step.Step.TheVariants as step
 use Rattle.rules.proofs.RunLemmas.{Run-append}
-use Rattle.plain.specs.Change.{IsPlainChange, IsToRemove}
+use Rattle.plain.specs.Change.{IsToRemove}
 use Rattle.plain.specs.Laws.{PlainChangeIsOrdered}
 use Rattle.plain.specs.PhaseLaws.{AreUnpacked, EndsWell}
-use Rattle.plain.specs.Order.{AreConfigures, ArePurges, AreRemovals, IsConfigurableGroup, IsInFixedOrder, after_all, unpack_of}
+use Rattle.plain.specs.Order.{AreConfigures, AreRemovals, IsConfigurableGroup, after_all, unpack_of}
 use Rattle.plain.specs.Underway.{IsUnderway}
 use Rattle.plain.proofs.ConfigureLemmas.{configures_keep}
 use Rattle.plain.proofs.PeaceLemmas.{start_is_quiet}
@@ -76,14 +76,16 @@ plain_change_is_ordered u start selection steps change order =
     (configures_run u start members order.configures order.all_removed removed.underway removed.none order.configures_are) in
     let finish = after_all u order.all_configured (map step.Purge order.purges) in
     let ended : EndsWell u order.all_configured members (map step.Purge order.purges) finish =
-    purges_end_well u start order.all_configured selection order.purges change configured.underway configured.none configured.stuck order.purges_are in
-    (
+    purges_end_well u start order.all_configured selection order.purges change configured.underway configured.none configured.stuck order.purges_are in (
       start_is_quiet u start members change.plain,
-      (finish, record {
-        run = subst (λ ss. Run u start ss finish) (sym order.parts)
-            (joined u start order.all_unpacked order.all_removed order.all_configured finish (map unpack_of order.unpacks) order.removals
-            order.configures (map step.Purge order.purges) unpacked.run removed.run configured.run ended.run);
-        good = ended.good;
-        installed = ended.installed;
-      }),
+      (
+        finish,
+        record {
+          run = subst (λ ss. Run u start ss finish) (sym order.parts)
+              (joined u start order.all_unpacked order.all_removed order.all_configured finish (map unpack_of order.unpacks) order.removals
+              order.configures (map step.Purge order.purges) unpacked.run removed.run configured.run ended.run);
+          good = ended.good;
+          installed = ended.installed;
+        },
+      ),
     )

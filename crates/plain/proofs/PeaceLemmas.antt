@@ -1,7 +1,7 @@
 -- In a plain change nothing that is present conflicts with or breaks another.
-use Rattle.std.proofs.Common.{◌≡◌, ◌≢◌, ℕ, Bool, true, false, List, ◌++◌, map, ◌⊎◌, refl, sym, ap, subst, ◌∙◌}
+use Rattle.std.proofs.Common.{◌≡◌, ◌≢◌, ℕ, true, false, List, map, refl, sym}
 use Rattle.std.specs.Prelude.{IsTrue}
-use Rattle.std.specs.List.{All, Any, Contains, filter}
+use Rattle.std.specs.List.{All, Contains, filter}
 use Rattle.std.proofs.lemmas.List.Elements.{All-contains, Contains-append_left, Contains-append_right}
 use Rattle.rules.specs.Configure.{IsUnbroken, AreUnbroken}
 use Rattle.rules.specs.Database.{Record, IsAtPeaceWith, IsQuiet, IsPresent, IsInstalled, pkg_of}
@@ -14,7 +14,7 @@ use Rattle.rules.specs.declared.status.State.{State}
 use Rattle.rules.specs.declared.status.State.TheVariants.{NotInstalled, ConfigFiles, HalfInstalled, Unpacked, HalfConfigured, TriggersAwaited, TriggersPending, Installed}
 use Rattle.plain.specs.Change.{old_and_new, AreAtPeace, IsPlain}
 use Rattle.plain.specs.Laws.{StartIsQuiet, NothingClashes}
-use Rattle.plain.specs.Underway.{HasOldAndNew, IsUndisturbed}
+use Rattle.plain.specs.Underway.{HasOldAndNew}
 
 -- what is installed is present
 pub installed_present : (state : State) → IsTrue (is_installed_state state) → IsTrue (is_present_state state)

@@ -1,10 +1,10 @@
 -- Whether a change is plain, and whether steps are the removals, is decided.
 use Rattle.std.proofs.Common.{◌≡◌, ◌≢◌, ℕ, List, [], ◌∷◌, map, ◌⊎◌, refl, sym, ap, subst}
-use Rattle.std.specs.List.{All, Any, Contains}
+use Rattle.std.specs.List.{All, Contains}
 use Rattle.std.specs.declared.cmp.Ordering.{Ordering}
 use Rattle.std.specs.declared.cmp.Ordering.TheVariants.{Less, Equal, Greater}
 use Rattle.std.proofs.lemmas.List.Elements.{All-contains}
-use Rattle.rules.specs.Database.{Record, HasRecord, IsPresent, IsInstalled, IsRemoved, HasSoundFlag, pkg_of}
+use Rattle.rules.specs.Database.{Record, HasRecord, IsPresent, IsInstalled, IsRemoved, HasSoundFlag}
 use Rattle.rules.specs.ElementLaws.{All-intro, Any-intro, Any-elim, Contains-map_intro}
 use Rattle.rules.specs.Legal.{Allowed, IsFirstFailing, IsNotHeld}
 use Rattle.rules.specs.Name.{name_cmp}
@@ -23,7 +23,7 @@ use Rattle.rules.proofs.Decided.{dec_All, dec_Any, dec_IsTrue, dec_and, dec_and3
 use Rattle.rules.proofs.DecidedPackages.{dec_BreaksOther, dec_ConflictsWith, dec_MatchesSome, dec_SameVersion}
 use Rattle.rules.proofs.DecidedSteps.{dec_HasRecord, dec_IsNotHeld, dec_StandsAs}
 use Rattle.rules.proofs.LegalLemmas.{allowed_fails_none, allowed_or_failing}
-use Rattle.plain.specs.Change.{AreAtPeace, IsMetByStaying, IsPlain, IsPurgeGoal, IsReady, IsToPurge, IsToRemove, IsToUnpack, Stays, old_and_new}
+use Rattle.plain.specs.Change.{AreAtPeace, IsMetByStaying, IsPlain, IsPurgeGoal, IsReady, IsToRemove, IsToUnpack, Stays, old_and_new}
 use Rattle.plain.specs.Order.{AreRemovals, IsLeastName, IsNextRemoval, IsStillInstalled, MayGo}
 use Rattle.plain.proofs.UnderwayLemmas.{dec_HasMember}
 use mathlib.Core.Logic.{inl, inr}
@@ -108,8 +108,13 @@ dec_IsPlain u start members = dec_like
       removed_sound = all.1.1.1.0;
       left_sound = all.1.1.1.1;
     })
-    (λ plain. ((plain.peace, plain.ready), ((plain.unpacked_unheld, λ name has alone. plain.removed_unheld name (has, alone)),
-    ((λ name has asked. plain.purged_unheld name (asked, has)), (plain.removed_sound, plain.left_sound)))))
+    (λ plain. (
+      (plain.peace, plain.ready),
+      (
+        (plain.unpacked_unheld, λ name has alone. plain.removed_unheld name (has, alone)),
+        ((λ name has asked. plain.purged_unheld name (asked, has)), (plain.removed_sound, plain.left_sound)),
+      ),
+    ))
     (dec_and
     (dec_and (dec_AreAtPeace start members) (dec_All (IsReady start members) (dec_IsReady start members) members))
     (dec_and

@@ -1,20 +1,16 @@
 -- Which small changes are plain, and in which order they are made: a ring of two that is removed, a ring of two that
 -- is installed, and changes that aren't plain.
-use Rattle.std.proofs.Common.{◌≡◌, ◌≢◌, ℕ, ◌<◌, List, [], ◌∷◌, ◌⊎◌, Option, Some, None, refl, sym, subst, arith}
+use Rattle.std.proofs.Common.{List, [], ◌∷◌, Some, refl}
 use Rattle.std.specs.Prelude.{codes}
-use Rattle.std.specs.List.{All, Contains}
-use Rattle.std.proofs.lemmas.List.Elements.{All-cons, All-nil, All-contains}
-use Rattle.rules.specs.Configure.{GroupPasses, IsGreatestPart, others_of}
 use Rattle.rules.specs.Database.{Record}
 use Rattle.rules.specs.Package.{Pkg}
 use Rattle.rules.specs.Step.{no_relations}
 use Rattle.rules.specs.Universe.{Universe}
 use Rattle.rules.specs.Version.{version_cmp}
 use Rattle.rules.specs.declared.goal.Goal.TheVariants as goal
-use Rattle.rules.specs.declared.op.Op.TheVariants.{LaterOrEqual, StrictlyEarlier}
-use Rattle.rules.specs.declared.status.State.TheVariants.{Unpacked, Installed}
+use Rattle.rules.specs.declared.op.Op.TheVariants.{StrictlyEarlier}
+use Rattle.rules.specs.declared.status.State.TheVariants.{Installed}
 use Rattle.rules.specs.declared.status.Want.TheVariants.{Hold}
-use Rattle.rules.specs.declared.step.Step.{Step}
 use Rattle.rules.specs.declared.step.Step.TheVariants as step
 use Rattle.rules.proofs.Decided.{dec_Decides, dec_IsTrue, dec_IsFalse, dec_and, dec_and3, dec_or, dec_not, dec_implies, dec_like, dec_All, dec_Any, dec_text, dec_Equal, dec_Contains, all_or_some}
 use Rattle.rules.proofs.DecidedPackages.{dec_MeetsRestriction, dec_Meets, dec_MeetsAsProvided, dec_FitsByName, dec_FitsProvided, dec_FitsByProvides, dec_Matches, dec_MatchesSome, dec_ConflictsWith, dec_BreaksOther, dec_MeetsClause, dec_MeetsClauses, dec_SameVersion}
@@ -26,7 +22,6 @@ use Rattle.plain.specs.Change.{IsPlain}
 use Rattle.plain.specs.Order.{AreRemovals, IsNextRemoval}
 use Rattle.plain.proofs.PlainDecided.{dec_Stays, dec_IsMetByStaying, dec_IsReady, dec_AreAtPeace, dec_purges, dec_IsPurgeGoal, dec_unpacked_unheld, dec_each_name, dec_present, dec_IsPlain, dec_Allowed, dec_Less, dec_IsToRemove, dec_MayGo, dec_IsStillInstalled, dec_IsLeastName, dec_none, dec_IsNextRemoval, dec_AreRemovals}
 use Rattle.plain.proofs.UnderwayLemmas.{dec_HasMember}
-use mathlib.Core.Logic.{inl, inr}
 
 -- `a 1; Depends: b` and `b 1; Depends: a`
 abbrev pub a_1 : Pkg

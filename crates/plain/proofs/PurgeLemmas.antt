@@ -1,7 +1,7 @@
 -- The purges of a plain change are allowed, and behind them the end is good.
-use Rattle.std.proofs.Common.{◌≡◌, ◌≢◌, ℕ, ◌<◌, Bool, true, false, not, ◌&&◌, ◌||◌, List, [], ◌∷◌, map, ◌⊎◌, refl, sym, ap, subst, ◌∙◌}
-use Rattle.std.specs.Prelude.{IsTrue, ⊤}
-use Rattle.std.specs.List.{All, Any, Contains, filter}
+use Rattle.std.proofs.Common.{◌≡◌, ℕ, Bool, true, false, not, ◌&&◌, ◌||◌, List, [], ◌∷◌, map, ◌⊎◌, refl, sym, ap, subst, ◌∙◌}
+use Rattle.std.specs.Prelude.{IsTrue}
+use Rattle.std.specs.List.{All, Contains, filter}
 use Rattle.std.specs.declared.cmp.Ordering.TheVariants.{Less}
 use Rattle.std.proofs.lemmas.List.Elements.{All-contains, All-cons, All-nil}
 use Rattle.rules.specs.Database.{Record, HasRecord, IsPresent, IsInstalled, IsUnconfigured, IsRemoved, IsHeld, IsUnfinished, HasSoundFlag, installed_of, pkg_of}
@@ -10,7 +10,7 @@ use Rattle.rules.specs.Legal.{Allowed, IsNotHeld, PurgeAsks}
 use Rattle.rules.specs.Name.{IsAscending, name_cmp}
 use Rattle.rules.specs.Package.{Pkg}
 use Rattle.rules.specs.Run.{Run, IsPurged, after}
-use Rattle.rules.specs.Sound.{Fulfils, FulfilsAll, HasMember, IsAcceptable, selected}
+use Rattle.rules.specs.Sound.{Fulfils, FulfilsAll, IsAcceptable, selected}
 use Rattle.rules.specs.State.{is_present_state, is_installed_state, is_config_files_state, is_not_installed_state, is_unfinished_state, is_sound_flag}
 use Rattle.rules.specs.Step.{is_named}
 use Rattle.rules.specs.Universe.{Universe}
@@ -23,7 +23,7 @@ use Rattle.rules.specs.declared.step.Rule.TheVariants as rule
 use Rattle.rules.specs.declared.step.Step.TheVariants as step
 use Rattle.rules.proofs.PlanLemmas.{installed_contains}
 use Rattle.rules.proofs.QuietLemmas.{the_record}
-use Rattle.plain.specs.Change.{IsPlainChange, IsPurgeGoal, IsToPurge, IsToRemove}
+use Rattle.plain.specs.Change.{IsPlainChange, IsPurgeGoal, IsToRemove}
 use Rattle.plain.specs.PhaseLaws.{EndsWell, HasJust, PurgesEndWell}
 use Rattle.plain.specs.Order.{ArePurges, IsConfigurableGroup, after_all}
 use Rattle.plain.specs.Underway.{IsUnderway, unconfigured_of}
@@ -31,7 +31,7 @@ use Rattle.plain.proofs.ChangedLemmas.{named_not, not_named}
 use Rattle.plain.proofs.ConfigureLemmas.{all_members, record_unconfigured, stands_either, unconfigured_pass}
 use Rattle.plain.proofs.FittingLemmas.{fitting_too}
 use Rattle.plain.proofs.LeastGroupLemmas.{least_group_is_there, some_length}
-use Rattle.plain.proofs.MemberLemmas.{pairs_head, pairs_tail}
+use Rattle.rules.proofs.Rising.{pairs_head, pairs_tail}
 use Rattle.plain.proofs.PeaceLemmas.{installed_present}
 use Rattle.plain.proofs.UnderwayLemmas.{member_named, record_of_member}
 use Rattle.plain.proofs.UnpackLemmas.{less_differ, stands_sound}
@@ -50,11 +50,13 @@ pub purged_each : (u : Universe) (names : List (List ℕ)) (db : List Record) (f
 purged_each u [] db found within = (within, Contains-nil found.name)
 purged_each u (name ∷ rest) db found within =
     let later = purged_each u rest (after u db (step.Purge name)) found within in
-    let kept = Contains-filter (λ (r : Record). not (is_named name r)) db found later.0 in
-    (kept.0, λ among. elim (Contains-cons name rest found.name among) [
-      | inl same ↦ named_not name found (fails (is_named name found) kept.1) (sym same)
-      | inr behind ↦ later.1 behind
-    ])
+    let kept = Contains-filter (λ (r : Record). not (is_named name r)) db found later.0 in (
+      kept.0,
+      λ among. elim (Contains-cons name rest found.name among) [
+        | inl same ↦ named_not name found (fails (is_named name found) kept.1) (sym same)
+        | inr behind ↦ later.1 behind
+      ],
+    )
   where
     fails : (b : Bool) → not b ≡ true → b ≡ false
     fails false is = refl
@@ -138,8 +140,7 @@ module _ (u : Universe) (start db : List Record) (selection : ℕ → Bool) (cha
   present_member : (found : Record) → Contains db found → IsPresent found
       → IsInstalled found × HasSoundFlag found × Contains members (pkg_of found)
   present_member found there present =
-      let is = all_members u start members db underway none found there present in
-      (
+      let is = all_members u start members db underway none found there present in (
         installed_there found there (stands_either found is.0),
         stands_sound found is.0,
         is.1,
@@ -150,9 +151,11 @@ module _ (u : Universe) (start db : List Record) (selection : ℕ → Bool) (cha
       → IsRemoved found × ¬ IsHeld found
   purged_record name within found there same =
       let is = (purges.each name).0 within in
-      let removed : IsRemoved found = the_record IsRemoved db underway.distinct found there (subst (λ n. HasRecord IsRemoved n db) (sym same) is.1) in
-      (removed, All-contains (λ (r : Record). IsRemoved r → IsPurgeGoal u r.name → ¬ IsHeld r) db found underway.unheld there removed
-      (subst (IsPurgeGoal u) (sym same) is.0))
+      let removed : IsRemoved found = the_record IsRemoved db underway.distinct found there (subst (λ n. HasRecord IsRemoved n db) (sym same) is.1) in (
+        removed,
+        All-contains (λ (r : Record). IsRemoved r → IsPurgeGoal u r.name → ¬ IsHeld r) db found underway.unheld there removed
+            (subst (IsPurgeGoal u) (sym same) is.0),
+      )
 
   -- the purges that are left are a run, while their records are there and none came
   purges_run : (rest : List (List ℕ)) (reached : List Record) → IsAscending rest → ((name : List ℕ) → Contains rest name → Contains names name)

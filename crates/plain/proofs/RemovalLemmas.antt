@@ -1,7 +1,6 @@
 -- The removals of a plain change are allowed, go on while something is to be removed, and come to an end.
-use Rattle.std.proofs.Common.{◌≡◌, ◌≢◌, ℕ, ◌+◌, ◌<◌, ◌≤◌, zero, suc, Bool, true, false, not, cond, ◌&&◌, List, [], ◌∷◌, ◌++◌, ◌⊎◌, refl, sym, ap, subst, ◌∙◌, arith, bytes_eq}
-use Rattle.std.specs.Prelude.{IsTrue}
-use Rattle.std.specs.List.{All, Any, Contains, list_any}
+use Rattle.std.proofs.Common.{◌≡◌, ◌≢◌, ℕ, ◌+◌, ◌<◌, ◌≤◌, Bool, true, false, not, cond, List, [], ◌∷◌, ◌++◌, ◌⊎◌, refl, sym, ap, subst, ◌∙◌, arith, bytes_eq}
+use Rattle.std.specs.List.{All, Any, Contains}
 use Rattle.std.proofs.lemmas.List.Elements.{All-contains, All-cons, All-nil, Contains-append_cases}
 use Rattle.rules.specs.Database.{Record, HasRecord, IsPresent, IsInstalled, IsHeld, IsEssential, HasSoundFlag, Stands, pkg_of}
 use Rattle.rules.specs.ElementLaws.{All-intro, Any-intro, Any-elim, Any-weaker, Any-from_list_any, Contains-cons, Contains-head, Contains-nil, Contains-rest}
@@ -9,21 +8,18 @@ use Rattle.rules.specs.Legal.{Allowed, IsNotHeld, RemoveAsks, DeconfigureAsks}
 use Rattle.rules.specs.NamedLaws.{bytes_eq-true, bytes_eq-same}
 use Rattle.rules.specs.Package.{Pkg, Atom, MatchesSome, MeetsClause}
 use Rattle.rules.specs.Remove.{IsMetWithout, NeedsNot, IsNeededByNone, IsNotNeeded}
-use Rattle.rules.specs.Run.{after}
 use Rattle.rules.specs.Sound.{HasMember, HasItsRelations, IsAcceptable, IsSound, MeetsClauses, selected}
 use Rattle.rules.specs.State.{is_installed_state, is_present_state}
 use Rattle.rules.specs.Step.{changed, deconfigured, is_named, removed}
 use Rattle.rules.specs.Universe.{Universe}
-use Rattle.rules.specs.declared.step.Rule.{Rule}
 use Rattle.rules.specs.declared.step.Rule.TheVariants as rule
-use Rattle.rules.specs.declared.step.Step.{Step}
 use Rattle.rules.specs.declared.step.Step.TheVariants as step
 use Rattle.std.proofs.Common.{None}
 use Rattle.rules.proofs.Decided.{dec_Any, dec_IsTrue, dec_and, dec_not}
 use Rattle.rules.proofs.QuietLemmas.{distinct_names_kept, the_named, the_record}
-use Rattle.plain.specs.Change.{IsPlainChange, IsToRemove}
+use Rattle.plain.specs.Change.{IsToRemove}
 use Rattle.plain.specs.PhaseLaws.{DeconfigureLeaves, RemovalLeaves, LastRemovalIsAllowed, RemovalsGoOn, RemovalsAreAllowed}
-use Rattle.plain.specs.Order.{MayGo, IsStillInstalled, IsNextRemoval}
+use Rattle.plain.specs.Order.{MayGo, IsStillInstalled}
 use Rattle.plain.specs.Underway.{IsFree, IsUnderway, is_member, is_to_remove, steps_for, removals_left}
 use Rattle.plain.proofs.ChangedLemmas.{Any-behind, changed_each, changed_keeps, named_not, not_named}
 use Rattle.plain.proofs.PeaceLemmas.{installed_present}
@@ -82,9 +78,10 @@ module _ (u : Universe) (start : List Record) (members : List Pkg) (db : List Re
       (Any (λ (r : Record). (r.name ≢ gone.name) × (Stands r × MatchesSome (pkg_of r) clause)) db)
       (λ pkg within fits.
       let found = record_of_member u start members db underway pkg within in
-      Any-intro (λ (r : Record). (r.name ≢ gone.name) × (Stands r × MatchesSome (pkg_of r) clause)) db found.0 found.1
-      ((λ alike. no_member pkg within (sym (named found.0 pkg found.3) ∙ alike ∙ same)),
-      (found.2, subst (λ (p : Pkg). MatchesSome p clause) (sym found.3) fits))) met
+      Any-intro (λ (r : Record). (r.name ≢ gone.name) × (Stands r × MatchesSome (pkg_of r) clause)) db found.0 found.1 (
+        (λ alike. no_member pkg within (sym (named found.0 pkg found.3) ∙ alike ∙ same)),
+        (found.2, subst (λ (p : Pkg). MatchesSome p clause) (sym found.3) fits),
+      )) met
 
   -- a record of a member needs no package of the name
   member_needs_not : IsSound members → (gone : Record) → gone.name ≡ name → (other : Record) → Contains members (pkg_of other)
@@ -137,12 +134,20 @@ removals_go_on u start db selection name change underway goes = at (dec_still_in
     at : Dec (Any (λ (r : Record). IsInstalled r × ¬ HasMember r.name (selected u selection)) db)
         → ((other : List ℕ) × MayGo u (selected u selection) db other) ⊎ ((other : List ℕ) × IsStillInstalled (selected u selection) db other)
     at (yes some) = inr (Any-elim (λ (r : Record). IsInstalled r × ¬ HasMember r.name (selected u selection)) db
-        ((other : List ℕ) × IsStillInstalled (selected u selection) db other) (λ found there is. (found.name, (
-          (Any-intro (λ (r : Record). (r.name ≡ found.name) × IsPresent r) db found there (refl, installed_present found.state is.0), is.1),
-          Any-intro (λ (r : Record). (r.name ≡ found.name) × IsInstalled r) db found there (refl, is.0),
-        ))) some)
-    at (no none) = inl (name, (goes,
-        last_removal_is_allowed u start db selection name change underway goes (λ other is. absurd (none (still other is)))))
+        ((other : List ℕ) × IsStillInstalled (selected u selection) db other) (λ found there is. (
+          found.name,
+          (
+            (Any-intro (λ (r : Record). (r.name ≡ found.name) × IsPresent r) db found there (refl, installed_present found.state is.0), is.1),
+            Any-intro (λ (r : Record). (r.name ≡ found.name) × IsInstalled r) db found there (refl, is.0),
+          ),
+        )) some)
+    at (no none) = inl (
+      name,
+      (
+        goes,
+        last_removal_is_allowed u start db selection name change underway goes (λ other is. absurd (none (still other is))),
+      ),
+    )
 
 -- Fewer steps are left
 
@@ -252,16 +257,14 @@ removals_are_allowed u start db members (step.Unpack name version) underway next
 removals_are_allowed u start db members (step.Configure names) underway next = absurd next
 removals_are_allowed u start db members (step.Purge name) underway next = absurd next
 removals_are_allowed u start db members (step.Deconfigure name) underway next =
-    let found = some_record u start members db underway name next.1.has.0 in
-    (
+    let found = some_record u start members db underway name next.1.has.0 in (
       allowed_deconfigure u db name next.1.has.1,
       deconfigured_underway u start members db underway name next.1.has.0,
       fewer_left members (is_named name) deconfigured db
           (deconfigured_less u start members db underway name next.1.has.0 next.1.has.1) found.0 found.1 found.2,
     )
 removals_are_allowed u start db members (step.Remove name) underway next =
-    let found = some_record u start members db underway name next.has.0 in
-    (
+    let found = some_record u start members db underway name next.has.0 in (
       next.has.1,
       removed_underway u start members db underway name next.has.0,
       fewer_left members (is_named name) removed db (removed_less u start members db underway name next.has.0) found.0 found.1 found.2,
@@ -276,18 +279,22 @@ present_before : (test : Record → Bool) (change : Record → Record) (db : Lis
     → HasRecord IsPresent name (changed test change db) → HasRecord IsPresent name db
 present_before test change db name names before has = Any-elim (λ (r : Record). (r.name ≡ name) × IsPresent r) (changed test change db)
     (HasRecord IsPresent name db) (λ found there is. elim (changed_each test change db found there) [
-      | inl made ↦ Any-intro (λ (r : Record). (r.name ≡ name) × IsPresent r) db made.0 made.1
-          (sym (names made.0) ∙ ap (λ (r : Record). r.name) made.3 ∙ is.0,
-          before made.0 made.1 made.2 (subst (λ (r : Record). IsPresent r) (sym made.3) is.1))
+      | inl made ↦ Any-intro (λ (r : Record). (r.name ≡ name) × IsPresent r) db made.0 made.1 (
+        sym (names made.0) ∙ ap (λ (r : Record). r.name) made.3 ∙ is.0,
+        before made.0 made.1 made.2 (subst (λ (r : Record). IsPresent r) (sym made.3) is.1),
+      )
       | inr left ↦ Any-intro (λ (r : Record). (r.name ≡ name) × IsPresent r) db found left.0 is
     ]) has
 
 pub removal_leaves : RemovalLeaves
 removal_leaves u members db name other = (
   λ goes. ((before goes.0, goes.1), λ same. differs same goes.0),
-  λ goes. (Any-elim (λ (r : Record). (r.name ≡ other) × IsPresent r) db (HasRecord IsPresent other (changed (is_named name) removed db))
-      (λ found there is. Any-intro (λ (r : Record). (r.name ≡ other) × IsPresent r) (changed (is_named name) removed db) found
-      (changed_keeps (is_named name) removed db found there (not_named name found (λ same. goes.1 (sym is.0 ∙ same)))) is) goes.0.0, goes.0.1),
+  λ goes. (
+    Any-elim (λ (r : Record). (r.name ≡ other) × IsPresent r) db (HasRecord IsPresent other (changed (is_named name) removed db))
+        (λ found there is. Any-intro (λ (r : Record). (r.name ≡ other) × IsPresent r) (changed (is_named name) removed db) found
+        (changed_keeps (is_named name) removed db found there (not_named name found (λ same. goes.1 (sym is.0 ∙ same)))) is) goes.0.0,
+    goes.0.1,
+  ),
 )
   where
     before : HasRecord IsPresent other (changed (is_named name) removed db) → HasRecord IsPresent other db
@@ -305,10 +312,13 @@ deconfigure_leaves u members db name other distinct has = (
   (λ goes. (before goes.0, goes.1), λ goes. (behind goes.0, goes.1)),
   (
     λ still. ((((before still.0.0), still.0.1), (still_before still.1).0), (still_before still.1).1),
-    λ still. ((behind still.0.0.0, still.0.0.1), Any-elim (λ (r : Record). (r.name ≡ other) × IsInstalled r) db
-        (HasRecord IsInstalled other (changed (is_named name) deconfigured db))
-        (λ found there is. Any-intro (λ (r : Record). (r.name ≡ other) × IsInstalled r) (changed (is_named name) deconfigured db) found
-        (changed_keeps (is_named name) deconfigured db found there (not_named name found (λ same. still.1 (sym is.0 ∙ same)))) is) still.0.1),
+    λ still. (
+      (behind still.0.0.0, still.0.0.1),
+      Any-elim (λ (r : Record). (r.name ≡ other) × IsInstalled r) db
+          (HasRecord IsInstalled other (changed (is_named name) deconfigured db))
+          (λ found there is. Any-intro (λ (r : Record). (r.name ≡ other) × IsInstalled r) (changed (is_named name) deconfigured db) found
+          (changed_keeps (is_named name) deconfigured db found there (not_named name found (λ same. still.1 (sym is.0 ∙ same)))) is) still.0.1,
+    ),
   ),
 )
   where
@@ -325,6 +335,8 @@ deconfigure_leaves u members db name other distinct has = (
     still_before still = Any-elim (λ (r : Record). (r.name ≡ other) × IsInstalled r) (changed (is_named name) deconfigured db)
         (HasRecord IsInstalled other db × (other ≢ name)) (λ found there is. elim (changed_each (is_named name) deconfigured db found there) [
           | inl made ↦ absurd (let e : false ≡ true = subst (λ (r : Record). IsInstalled r) (sym made.3) is.1 in cc)
-          | inr left ↦ (Any-intro (λ (r : Record). (r.name ≡ other) × IsInstalled r) db found left.0 is,
-              λ same. named_not name found left.1 (is.0 ∙ same))
+          | inr left ↦ (
+            Any-intro (λ (r : Record). (r.name ≡ other) × IsInstalled r) db found left.0 is,
+            λ same. named_not name found left.1 (is.0 ∙ same),
+          )
         ]) still

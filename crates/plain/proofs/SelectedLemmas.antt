@@ -1,6 +1,6 @@
 -- The members to be unpacked, in the order of their pairs, are by name.
-use Rattle.std.proofs.Common.{◌≡◌, ℕ, ◌+◌, Bool, true, false, not, cond, List, [], ◌∷◌, Option, Some, None, refl, sym, ap, subst, ◌∙◌, arith, get_or, ◌⊎◌, ◌&&◌}
-use Rattle.std.specs.Prelude.{IsTrue, is_some, ◌↔◌}
+use Rattle.std.proofs.Common.{◌≡◌, ℕ, ◌+◌, Bool, true, false, not, cond, List, [], ◌∷◌, Option, Some, refl, sym, ap, subst, ◌∙◌, arith, get_or, ◌⊎◌, ◌&&◌}
+use Rattle.std.specs.Prelude.{is_some}
 use Rattle.std.specs.Cmp.{Equal-is}
 use Rattle.std.specs.List.{All, AllPairs, Contains, find}
 use Rattle.std.specs.Ordering.{ordering_then}
@@ -17,13 +17,12 @@ use Rattle.rules.specs.NamedLaws.{bytes_eq-true, bytes_eq-same}
 use Rattle.rules.specs.Package.{Pkg}
 use Rattle.rules.specs.Sound.{AgreesWith, HasOneVersionEach, IsAcceptable, selected, selected_from}
 use Rattle.rules.specs.Step.{is_named}
-use Rattle.rules.specs.Universe.{Universe, Pair, StandsAs, pair_cmp}
+use Rattle.rules.specs.Universe.{Pair, StandsAs, pair_cmp}
 use Rattle.rules.specs.Version.{SameVersion, version_cmp}
 use Rattle.rules.proofs.EndLemmas.{both_true}
-use Rattle.plain.specs.Change.{IsPlainChange}
 use Rattle.plain.specs.PhaseLaws.{MembersAreByName}
-use Rattle.plain.specs.Order.{AreUnpacks, to_unpack}
-use Rattle.plain.proofs.MemberLemmas.{find_nothing, pairs_head, pairs_tail, picked_from}
+use Rattle.rules.proofs.Rising.{pairs_head, pairs_tail}
+use Rattle.plain.proofs.MemberLemmas.{find_nothing, picked_from}
 use mathlib.Core.Logic.{inl, inr}
 
 -- the first package is before the second, by name and then by version
@@ -100,9 +99,9 @@ members_are_by_name u start selection change = record {
       (selected u selection) by_name;
   each = λ pkg. (
     (λ within. let kept = Contains-filter (λ (p : Pkg). not (is_some (standing_record start p.name p.version))) (selected u selection) pkg within in
-    (kept.0, some_stands start pkg kept.1)),
+        (kept.0, some_stands start pkg kept.1)),
     (λ unpack. Contains-filter_intro (λ (p : Pkg). not (is_some (standing_record start p.name p.version))) (selected u selection) pkg unpack.0
-    (none_stands start pkg unpack.1)),
+        (none_stands start pkg unpack.1)),
   );
 }
   where

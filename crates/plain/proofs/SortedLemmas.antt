@@ -1,9 +1,9 @@
 -- Lists of names in order: a name put at its place, all names of a list from the greatest down, and the least name with a
 -- property.
-use Rattle.std.proofs.Common.{◌≡◌, ◌≢◌, ℕ, List, [], ◌∷◌, ◌⊎◌, refl, sym, ap, subst, ◌∙◌, arith}
+use Rattle.std.proofs.Common.{◌≡◌, ℕ, List, [], ◌∷◌, ◌⊎◌, refl, sym, ap, subst, ◌∙◌, arith}
 use Rattle.std.specs.Prelude.{◌↔◌}
 use Rattle.std.specs.Cmp.Lexicographic.{nat_list_cmp_total}
-use Rattle.std.specs.List.{All, AllPairs, Any, Contains}
+use Rattle.std.specs.List.{AllPairs, Any, Contains}
 use Rattle.std.specs.Ordering.{ordering_reverse}
 use Rattle.std.specs.declared.cmp.Ordering.{Ordering}
 use Rattle.std.specs.declared.cmp.Ordering.TheVariants.{Less, Equal, Greater}
@@ -13,7 +13,7 @@ use Rattle.std.proofs.lemmas.Map.Lookups.{exact_bytes}
 use Rattle.rules.specs.ElementLaws.{All-intro, Any-intro, Any-elim, Any-contains, Contains-cons, Contains-head, Contains-nil, Contains-rest}
 use Rattle.rules.specs.Name.{IsAscending, name_cmp}
 use Rattle.rules.proofs.Decided.{dec_Any}
-use Rattle.plain.proofs.MemberLemmas.{pairs_head, pairs_tail}
+use Rattle.rules.proofs.Rising.{pairs_head, pairs_tail}
 use Rattle.plain.proofs.UnpackLemmas.{less_differ}
 use mathlib.Core.Logic.{inl, inr}
 
@@ -127,8 +127,7 @@ pub sorted : (names : List Name) → (falling : List Name) × IsDescending falli
 sorted [] = ([], (λ i j d before within. absurd (omega arith)), λ name within. within)
 sorted (first ∷ rest) =
     let later = sorted rest in
-    let more = put (λ a b. name_cmp b a ≡ Less) either_above (λ a b c above below. nat_list_cmp_total.trans c b a below above) first later.0 later.1 in
-    (
+    let more = put (λ a b. name_cmp b a ≡ Less) either_above (λ a b c above below. nat_list_cmp_total.trans c b a below above) first later.0 later.1 in (
       more.0,
       more.1,
       λ name within. (more.2 name).1 (elim (Contains-cons first rest name within) [
@@ -151,26 +150,42 @@ module _ (IsBefore : Name → Name → Type 0) (either : (name other : Name) →
       beside : (name : Name) → P name → ((other : Name) → Contains rest other → P other → ¬ IsBefore other name)
           → P first → IsBefore first name ⊎ ((first ≡ name) ⊎ IsBefore name first)
           → (name : Name) × P name × ((other : Name) → Contains (first ∷ rest) other → P other → ¬ IsBefore other name)
-      beside name has none here (inl before) = (first, here, λ other within holds earlier. elim (Contains-cons first rest other within) [
-        | inl same ↦ never first (subst (λ n. IsBefore n first) (sym same) earlier)
-        | inr behind ↦ none other behind holds (through other first name earlier before)
-      ])
-      beside name has none here (inr (inl is)) = (name, has, λ other within holds earlier. elim (Contains-cons first rest other within) [
-        | inl same ↦ never name (subst (λ n. IsBefore n name) (sym same ∙ is) earlier)
-        | inr behind ↦ none other behind holds earlier
-      ])
-      beside name has none here (inr (inr after)) = (name, has, λ other within holds earlier. elim (Contains-cons first rest other within) [
-        | inl same ↦ never name (through name first name after (subst (λ n. IsBefore n name) (sym same) earlier))
-        | inr behind ↦ none other behind holds earlier
-      ])
+      beside name has none here (inl before) = (
+        first,
+        here,
+        λ other within holds earlier. elim (Contains-cons first rest other within) [
+          | inl same ↦ never first (subst (λ n. IsBefore n first) (sym same) earlier)
+          | inr behind ↦ none other behind holds (through other first name earlier before)
+        ],
+      )
+      beside name has none here (inr (inl is)) = (
+        name,
+        has,
+        λ other within holds earlier. elim (Contains-cons first rest other within) [
+          | inl same ↦ never name (subst (λ n. IsBefore n name) (sym same ∙ is) earlier)
+          | inr behind ↦ none other behind holds earlier
+        ],
+      )
+      beside name has none here (inr (inr after)) = (
+        name,
+        has,
+        λ other within holds earlier. elim (Contains-cons first rest other within) [
+          | inl same ↦ never name (through name first name after (subst (λ n. IsBefore n name) (sym same) earlier))
+          | inr behind ↦ none other behind holds earlier
+        ],
+      )
 
       joined : (name : Name) → P name → ((other : Name) → Contains rest other → P other → ¬ IsBefore other name) → Dec (P first)
           → (name : Name) × P name × ((other : Name) → Contains (first ∷ rest) other → P other → ¬ IsBefore other name)
       joined name has none (yes here) = beside name has none here (either first name)
-      joined name has none (no fails) = (name, has, λ other within holds earlier. elim (Contains-cons first rest other within) [
-        | inl same ↦ fails (subst P (sym same) holds)
-        | inr behind ↦ none other behind holds earlier
-      ])
+      joined name has none (no fails) = (
+        name,
+        has,
+        λ other within holds earlier. elim (Contains-cons first rest other within) [
+          | inl same ↦ fails (subst P (sym same) holds)
+          | inr behind ↦ none other behind holds earlier
+        ],
+      )
 
       at : Dec (Any P rest)
           → (Any P rest → (name : Name) × P name × ((other : Name) → Contains rest other → P other → ¬ IsBefore other name))

@@ -1,7 +1,6 @@
 -- What follows while a change is underway, and which changes of records keep it so.
-use Rattle.std.proofs.Common.{◌≡◌, ◌≢◌, ℕ, Bool, true, false, List, [], ◌∷◌, ◌⊎◌, refl, sym, ap, subst, ◌∙◌}
-use Rattle.std.specs.Prelude.{IsTrue}
-use Rattle.std.specs.List.{All, Any, Contains}
+use Rattle.std.proofs.Common.{◌≡◌, ℕ, Bool, true, List, sym, ap, subst, ◌∙◌}
+use Rattle.std.specs.List.{Any, Contains}
 use Rattle.std.proofs.lemmas.List.Elements.{All-contains}
 use Rattle.rules.specs.Database.{Record, HasRecord, HasDistinctNames, IsPresent, IsInstalled, IsRemoved, IsHeld, HasSoundFlag, Stands, pkg_of}
 use Rattle.rules.specs.ElementLaws.{All-intro, Any-intro, Any-elim}

@@ -1,22 +1,21 @@
 -- The unpacks of a plain change are allowed by name, and behind them the change is underway.
-use Rattle.std.proofs.Common.{◌≡◌, ◌≢◌, ℕ, Bool, true, false, List, [], ◌∷◌, map, ◌⊎◌, Option, Some, None, refl, sym, ap, subst, ◌∙◌, ◌||◌}
+use Rattle.std.proofs.Common.{◌≡◌, ◌≢◌, ℕ, Bool, true, false, List, [], ◌∷◌, map, ◌⊎◌, Option, Some, refl, sym, ap, subst, ◌∙◌, ◌||◌}
 use Rattle.std.specs.Prelude.{IsTrue}
 use Rattle.std.specs.Cmp.{tied_itself}
 use Rattle.std.specs.Cmp.Lexicographic.{nat_list_cmp_total}
 use Rattle.std.specs.List.{All, AllPairs, Any, Contains}
-use Rattle.std.specs.declared.cmp.Ordering.{Ordering}
 use Rattle.std.specs.declared.cmp.Ordering.TheVariants.{Less, Equal}
 use Rattle.std.proofs.lemmas.List.Elements.{All-contains, All-weaker, All-head, All-tail, All-cons, All-nil}
 use Rattle.rules.specs.Database.{Record, HasRecord, HasDistinctNames, IsPresent, IsInstalled, IsRemoved, IsHeld, HasSoundFlag, Stands, pkg_of}
 use Rattle.rules.specs.ElementLaws.{All-intro, Any-intro, Any-elim, Any-weaker, Contains-cons, Contains-map_intro, Contains-nil}
-use Rattle.rules.specs.Legal.{Allowed, Asks, UnpackAsks, IsNotHeld, unpack_rules}
+use Rattle.rules.specs.Legal.{Allowed, UnpackAsks, IsNotHeld, unpack_rules}
 use Rattle.rules.specs.Name.{name_cmp}
 use Rattle.rules.specs.Package.{Pkg, Atom, Matches, MatchesSome}
 use Rattle.rules.specs.Run.{Run, after}
 use Rattle.rules.specs.Sound.{HasMember, IsAcceptable, KeepsEssential, selected}
 use Rattle.rules.specs.State.{is_config_files_state, is_installed_state, is_unconfigured_state, is_sound_flag}
 use Rattle.rules.specs.Step.{IndexPackage, after_unpack, result_of}
-use Rattle.rules.specs.Universe.{Universe, Start, StandsAs, listed_of, listed_for, start_of, starts_of}
+use Rattle.rules.specs.Universe.{Universe, StandsAs, listed_of, start_of, starts_of}
 use Rattle.rules.specs.Unpack.{HasPreDepends, IsSatisfied, SatisfiesAtom, HasNoConflict, BreaksNone}
 use Rattle.rules.specs.VersionOrderLaws.{same_version_equivalence}
 use Rattle.rules.specs.Version.{SameVersion}
@@ -30,12 +29,14 @@ use Rattle.rules.proofs.DecidedSteps.{dec_StandsAs}
 use Rattle.rules.proofs.EndLemmas.{both_true}
 use Rattle.rules.proofs.QuietLemmas.{distinct_names_kept, one_record, the_record}
 use Rattle.plain.specs.Change.{old_and_new, IsPlainChange, IsReady, IsMetByStaying, IsToUnpack, IsPurgeGoal, Stays}
-use Rattle.plain.specs.PhaseLaws.{AreUnpacked, UnpacksAreAllowed}
-use Rattle.plain.specs.Order.{AreUnpacks, after_all, unpack_of}
+use Rattle.plain.specs.PhaseLaws.{UnpacksAreAllowed}
+use Rattle.plain.specs.Order.{after_all, unpack_of}
 use Rattle.plain.specs.Underway.{HasOldAndNew, IsFree, IsUnderway}
 use Rattle.plain.proofs.ChangedLemmas.{IsUnpackedAs, unpacked_stands, after_unpack_each, after_unpack_keeps, after_unpack_has}
-use Rattle.plain.proofs.MemberLemmas.{pairs_head, pairs_tail, one_member, standing_record_of, staying_record_of, staying_stands, not_to_unpack, listed_package}
+use Rattle.rules.proofs.Rising.{pairs_head, pairs_tail}
+use Rattle.plain.proofs.MemberLemmas.{one_member, standing_record_of, staying_record_of, staying_stands, not_to_unpack, listed_package}
 use Rattle.plain.proofs.PeaceLemmas.{nothing_clashes, old_one, new_one}
+use Rattle.plain.proofs.UnderwayLemmas.{named}
 use mathlib.Core.Logic.{inl, inr}
 
 -- an unpack that keeps its rules is allowed
@@ -79,10 +80,6 @@ unpacked_isnt test fails pkg found as_it is = absurd (let e : true ≡ false = s
 -- what stands has flag ok
 pub stands_sound : (found : Record) → Stands found → HasSoundFlag found
 stands_sound found is = (both_true (is_unconfigured_state found.state || is_installed_state found.state) (is_sound_flag found.flag) is).1
-
--- the name of a record's package
-named : (found : Record) (pkg : Pkg) → pkg_of found ≡ pkg → found.name ≡ pkg.name
-named found pkg same = ap (λ (p : Pkg). p.name) same
 
 module _ (u : Universe) (start : List Record) (selection : ℕ → Bool) (change : IsPlainChange u start selection) where
   abbrev members : List Pkg
@@ -167,9 +164,13 @@ module _ (u : Universe) (start : List Record) (selection : ℕ → Bool) (change
         each : (found : Record) → Contains (after_unpack listed.0 db) found → Contains start found
             ⊎ ((other : Pkg) × IsUnpackedAs other found × Contains members other × All (λ later. later.name ≢ other.name) rest)
         each found within = elim (after_unpack_each listed.0 db found within) [
-          | inl as_it ↦ inr (pkg, made_of found as_it, unpack.0,
-              All-weaker (λ (later : Pkg). name_cmp pkg.name later.name ≡ Less) (λ (later : Pkg). later.name ≢ pkg.name)
-              (λ later below. less_differ pkg.name later.name below) rest above)
+          | inl as_it ↦ inr (
+            pkg,
+            made_of found as_it,
+            unpack.0,
+            All-weaker (λ (later : Pkg). name_cmp pkg.name later.name ≡ Less) (λ (later : Pkg). later.name ≢ pkg.name)
+                (λ later below. less_differ pkg.name later.name below) rest above,
+          )
           | inr old ↦ elim (unpacking.each found old.0) [
             | inl from ↦ inl from
             | inr made ↦ inr (made.0, made.1, made.2, All-tail (λ (later : Pkg). later.name ≢ made.0.name) pkg rest made.3)
@@ -303,12 +304,17 @@ module _ (u : Universe) (start : List Record) (selection : ℕ → Bool) (change
     unfolding Stays
     stays_old found there from installed pkg within same (yes stands) =
         let old = standing_record_of u start selection change pkg within stands in
-        let one : old.0 ≡ found = one_record start change.built.distinct found old.0 from old.1 (named old.0 pkg old.3 ∙ same) in
-        (
+        let one : old.0 ≡ found = one_record start change.built.distinct found old.0 from old.1 (named old.0 pkg old.3 ∙ same) in (
           subst (λ (r : Record). Contains members (pkg_of r)) one (subst (Contains members) (sym old.3) within),
           Any-intro (λ (r : Record). (r.name ≡ found.name) × (IsInstalled r × HasSoundFlag r × SameVersion r.version found.version)) start
-              found from (refl, (installed, stands_sound found (subst (λ (r : Record). Stands r) one old.2),
-              same_version_equivalence.reflexive found.version)),
+              found from (
+                refl,
+                (
+                  installed,
+                  stands_sound found (subst (λ (r : Record). Stands r) one old.2),
+                  same_version_equivalence.reflexive found.version,
+                ),
+              ),
         )
     stays_old found there from installed pkg within same (no none) = elim (unpacking.done pkg (within, none)) [
       | inl left ↦ absurd (Contains-nil pkg left)

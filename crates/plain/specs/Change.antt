@@ -1,7 +1,7 @@
 -- When a change from a start to selected packages is plain: when no step of it can stand in another's way
 -- (Policy 7.2 to 7.4; dpkg(1)). That such changes are set apart is this project's own. The members are the
 -- counting packages of the selected pairs.
-use Rattle.std.specs.Prelude.{◌≡◌, ◌≢◌, ℕ, Bool, List, ◌++◌, map}
+use Rattle.std.specs.Prelude.{◌≢◌, ℕ, Bool, List, ◌++◌, map}
 use Rattle.std.specs.List.{Any, All, Contains, filter}
 use Rattle.rules.specs.Database.{Record, HasRecord, IsPresent, IsInstalled, IsRemoved, HasSoundFlag, pkg_of}
 use Rattle.rules.specs.Legal.{IsNotHeld}

@@ -5,4 +5,10 @@
 
 mod laws;
 
-pub use laws::{configure_leaves, configures_keep, deconfigure_leaves, last_removal_is_allowed, least_group_is_there, members_are_by_name, nothing_clashes, one_fixed_order, plain_change_has_order, plain_change_is_ordered, purges_end_well, removal_leaves, removals_are_allowed, removals_go_on, start_is_quiet, unconfigured_pass, universe_is_counted, unpacks_are_allowed, walk_begins, walk_ends, walk_keeps, walk_leaves_out};
+pub use laws::{
+    configure_leaves, configures_keep, deconfigure_leaves, last_removal_is_allowed,
+    least_group_is_there, members_are_by_name, nothing_clashes, one_fixed_order,
+    plain_change_has_order, plain_change_is_ordered, purges_end_well, removal_leaves,
+    removals_are_allowed, removals_go_on, start_is_quiet, unconfigured_pass, universe_is_counted,
+    unpacks_are_allowed, walk_begins, walk_ends, walk_keeps, walk_leaves_out,
+};
