@@ -9,7 +9,6 @@ use Rattle.std.specs.declared.cmp.Ordering.{Ordering}
 use Rattle.std.specs.declared.cmp.Ordering.TheVariants.{Less, Equal}
 use Rattle.std.proofs.lemmas.List.Elements.{All-contains}
 use Rattle.std.proofs.lemmas.Option.{same_Some}
-use Rattle.std.proofs.Common.{arith, suc}
 use Rattle.rules.specs.Available.{Inputs, is_of, same_version, counting_package, index_package, standing_record}
 use Rattle.rules.specs.Database.{Record, HasDistinctNames, IsInstalled, HasSoundFlag, Stands, stands, pkg_of}
 use Rattle.rules.specs.ElementLaws.{All-intro, Any-intro, Any-elim, Contains-cons, Contains-head, Contains-nil, Contains-rest}

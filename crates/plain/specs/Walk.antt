@@ -13,7 +13,7 @@ pub record IsPassing (db : List Record) (names : List (List ℕ)) : Type 0 where
   pub some : 0 < length names
   pub passes : GroupPasses db names
 
--- the other group has no names but those of this one, or it is a lesser one than none of the parts that have what is kept
+-- each name of the other group is of this one, or the other is lesser than no part of this one that has what is kept
 abbrev pub IsInOrAbove : List (List ℕ) → List (List ℕ) → List (List ℕ) → Type 0
 IsInOrAbove kept group other = All (Contains group) other
     ⊎ ((part : List (List ℕ)) → All (Contains group) part → All (Contains part) kept → ¬ IsLesserGroup other part)
