@@ -30,6 +30,26 @@ use Rattle.plain.specs.Walk.{IsNextName, IsOnWalk}
 use Rattle.plain.proofs.LeastGroupLemmas.{all_of_none, allowed_passes, names_unconfigured, same_names_pass, walk_begins, walk_ends, walk_keeps}
 use Rattle.plain.proofs.PlainRows.{a_1, b_1}
 use mathlib.Core.Logic.{inl, inr}
+use Rattle.std.proofs.Common.{Bool, true, MatchOption}
+use Rattle.std.specs.Prelude.{⊤}
+use Rattle.std.specs.List.{All, Any}
+use Rattle.std.proofs.lemmas.List.Elements.{All-cons, All-nil}
+use Rattle.rules.specs.Database.{HasDistinctNames, Stands}
+use Rattle.rules.specs.ElementLaws.{Any-intro}
+use Rattle.rules.specs.Package.{Atom, MatchesSome, Meets}
+use Rattle.rules.specs.Sound.{AgreesWith, Fulfils, FulfilsAll, HasItsRelations, HasOneVersionEach, IsAcceptable, IsAdmittedIn, IsFitting, IsSound, KeepsEssential, KeepsHold, MatchedByNoOther, selected}
+use Rattle.rules.specs.Universe.{IsOf, Pair, pair_cmp}
+use Rattle.rules.specs.Verdict.{HasPair}
+use Rattle.rules.specs.VersionOrderLaws.{SameVersion-refl}
+use Rattle.plain.specs.Change.{IsPlainChange}
+use Rattle.plain.specs.Counted.{HasItsListed, HasItsPackage}
+use Rattle.plain.specs.PhaseLaws.{EndsWell}
+use Rattle.plain.proofs.OrderLemmas.{plain_change_is_ordered}
+
+unfoldable dec_MatchedByNoOther : (chosen : List Pkg) (name : List ℕ) (atoms : List Atom) → Dec (MatchedByNoOther chosen name atoms)
+unfolding MatchedByNoOther
+dec_MatchedByNoOther chosen name atoms = dec_All (λ (other : Pkg). other.name ≢ name → ¬ MatchesSome other atoms)
+    (λ other. dec_implies (dec_not (dec_text other.name name)) (dec_not (dec_MatchesSome other atoms))) chosen
 
 abbrev members : List Pkg
 members = a_1 ∷ b_1 ∷ []
@@ -179,3 +199,87 @@ in_fixed_order = record {
   all_configured_is = refl;
   purges_are = purges_are;
 }
+
+-- all pairs are selected
+abbrev all : ℕ → Bool
+all number = true
+
+-- a pair in the index is listed as itself
+pairs_rise : AllPairs (λ earlier later. pair_cmp earlier later ≡ Less) u.pairs
+pairs_rise zero zero d before within = absurd (omega arith)
+pairs_rise zero (suc zero) d before within = refl
+pairs_rise zero (suc (suc j)) d before within = absurd (omega (arith, within))
+pairs_rise (suc i) zero d before within = absurd (omega (arith, before))
+pairs_rise (suc i) (suc zero) d before within = absurd (omega (arith, before))
+pairs_rise (suc i) (suc (suc j)) d before within = absurd (omega (arith, within))
+
+-- what holds of both holds of all
+both_members : (P : Pkg → Type 0) → P a_1 → P b_1 → All P members
+both_members P a b = All-cons P a_1 (b_1 ∷ []) a (All-cons P b_1 [] b (All-nil P))
+
+both_pairs : (P : Pair → Type 0) → P (indexed a_1) → P (indexed b_1) → All P u.pairs
+both_pairs P a b = All-cons P (indexed a_1) (indexed b_1 ∷ []) a (All-cons P (indexed b_1) [] b (All-nil P))
+
+content_a : HasItsRelations members a_1
+unfolding version_cmp dec_Decides dec_IsTrue dec_IsFalse dec_and dec_and3 dec_or dec_not dec_implies dec_like dec_All dec_Any dec_text dec_Equal dec_Contains all_or_some dec_MeetsRestriction dec_Meets dec_MeetsAsProvided dec_FitsByName dec_FitsProvided dec_FitsByProvides dec_Matches dec_MatchesSome dec_ConflictsWith dec_BreaksOther dec_MeetsClause dec_MeetsClauses dec_SameVersion dec_HasRecord dec_ForOthers dec_SomeOther dec_ForMembers dec_FitsThenAndNow dec_MatchOption dec_FitsFromBefore dec_SatisfiesAtom dec_IsSatisfied dec_HasPreDepends dec_IsCompatible dec_HasNoConflict dec_BreaksNone dec_OnListed dec_IsNotHeld dec_StandsAs dec_AreConfigurable dec_ArePreDependsInstalled dec_AreDependsInstalled dec_IsUnbroken dec_AreUnbroken dec_IsMetWithout dec_NeedsNot dec_IsNeededByNone dec_IsNotNeeded dec_named dec_MemberPasses greatest_upto greatest_part dec_IsIndivisible dec_UnpackAsks dec_ConfigureAsks dec_RemoveAsks dec_DeconfigureAsks dec_PurgeAsks dec_Asks kept_or_first allowed_or_failing dec_HasMember dec_Stays dec_IsMetByStaying dec_IsReady dec_AreAtPeace dec_purges dec_IsPurgeGoal dec_unpacked_unheld dec_each_name dec_present dec_IsPlain dec_Allowed dec_Less dec_IsToRemove dec_MayGo dec_IsStillInstalled dec_IsLeastName dec_none dec_IsNextRemoval dec_AreRemovals dec_MatchedByNoOther
+content_a = record {
+  pre_depends = so (dec_MeetsClauses members a_1.relations.pre_depends) refl;
+  depends = so (dec_MeetsClauses members a_1.relations.depends) refl;
+  conflicts = so (dec_MatchedByNoOther members a_1.name []) refl;
+  breaks = so (dec_MatchedByNoOther members a_1.name []) refl;
+}
+
+content_b : HasItsRelations members b_1
+unfolding version_cmp dec_Decides dec_IsTrue dec_IsFalse dec_and dec_and3 dec_or dec_not dec_implies dec_like dec_All dec_Any dec_text dec_Equal dec_Contains all_or_some dec_MeetsRestriction dec_Meets dec_MeetsAsProvided dec_FitsByName dec_FitsProvided dec_FitsByProvides dec_Matches dec_MatchesSome dec_ConflictsWith dec_BreaksOther dec_MeetsClause dec_MeetsClauses dec_SameVersion dec_HasRecord dec_ForOthers dec_SomeOther dec_ForMembers dec_FitsThenAndNow dec_MatchOption dec_FitsFromBefore dec_SatisfiesAtom dec_IsSatisfied dec_HasPreDepends dec_IsCompatible dec_HasNoConflict dec_BreaksNone dec_OnListed dec_IsNotHeld dec_StandsAs dec_AreConfigurable dec_ArePreDependsInstalled dec_AreDependsInstalled dec_IsUnbroken dec_AreUnbroken dec_IsMetWithout dec_NeedsNot dec_IsNeededByNone dec_IsNotNeeded dec_named dec_MemberPasses greatest_upto greatest_part dec_IsIndivisible dec_UnpackAsks dec_ConfigureAsks dec_RemoveAsks dec_DeconfigureAsks dec_PurgeAsks dec_Asks kept_or_first allowed_or_failing dec_HasMember dec_Stays dec_IsMetByStaying dec_IsReady dec_AreAtPeace dec_purges dec_IsPurgeGoal dec_unpacked_unheld dec_each_name dec_present dec_IsPlain dec_Allowed dec_Less dec_IsToRemove dec_MayGo dec_IsStillInstalled dec_IsLeastName dec_none dec_IsNextRemoval dec_AreRemovals dec_MatchedByNoOther
+content_b = record {
+  pre_depends = so (dec_MeetsClauses members b_1.relations.pre_depends) refl;
+  depends = so (dec_MeetsClauses members b_1.relations.depends) refl;
+  conflicts = so (dec_MatchedByNoOther members b_1.name []) refl;
+  breaks = so (dec_MatchedByNoOther members b_1.name []) refl;
+}
+
+fitting : IsFitting u members
+unfolding IsAdmittedIn HasOneVersionEach AgreesWith IsSound FulfilsAll
+fitting = record {
+  admitted = both_members (λ m. Any (λ pair. IsOf m.name m.version pair.pkg) u.pairs)
+      (Any-intro (λ (pair : Pair). IsOf (codes "a") (codes "1") pair.pkg) u.pairs (indexed a_1)
+      (Contains-head (indexed a_1) (indexed b_1 ∷ [])) (refl, SameVersion-refl (codes "1")))
+      (Any-intro (λ (pair : Pair). IsOf (codes "b") (codes "1") pair.pkg) u.pairs (indexed b_1)
+      (Contains-rest (indexed a_1) (indexed b_1 ∷ []) (indexed b_1) (Contains-head (indexed b_1) [])) (refl, SameVersion-refl (codes "1")));
+  one_version = both_members (λ m. All (AgreesWith m) members)
+      (both_members (AgreesWith a_1) (λ same. SameVersion-refl (codes "1")) (λ same. SameVersion-refl (codes "1")))
+      (both_members (AgreesWith b_1) (λ same. SameVersion-refl (codes "1")) (λ same. SameVersion-refl (codes "1")));
+  sound = both_members (HasItsRelations members) content_a content_b;
+  goals = All-cons (Fulfils u members) (goal.Install (codes "a") None) []
+      (Any-intro (λ (m : Pkg). (m.name ≡ codes "a") × Meets m.version None) members a_1 (Contains-head a_1 (b_1 ∷ [])) (refl, tt))
+      (All-nil (Fulfils u members));
+  held = All-nil (KeepsHold members);
+  essential = All-nil (KeepsEssential members);
+}
+
+-- the change is plain, and its universe is built and counted
+pub is_change : IsPlainChange u [] all
+unfolding HasDistinctNames IsAcceptable selected
+is_change = record {
+  built = record {
+    distinct = λ i j d before within. absurd (omega arith);
+    starts = refl;
+    standing = All-nil (λ (found : Record). Stands found → HasPair u found.name found.version);
+    listed = both_pairs (λ pair. MatchOption pair.listed ⊤ (λ listed. IsOf pair.pkg.name pair.pkg.version listed.pkg))
+        (refl, SameVersion-refl (codes "1")) (refl, SameVersion-refl (codes "1"));
+  };
+  counted = record {
+    ascending = pairs_rise;
+    standing = both_pairs (λ pair. All (HasItsPackage pair) []) (All-nil (HasItsPackage (indexed a_1))) (All-nil (HasItsPackage (indexed b_1)));
+    listed = both_pairs (HasItsListed []) (λ none. refl) (λ none. refl);
+  };
+  acceptable = fitting;
+  plain = is_plain;
+}
+
+-- so these steps are a run to a good end at which just a and b are installed
+pub ends_well : (finish : List Record) × EndsWell u [] members
+    (step.Unpack (codes "a") (codes "1") ∷ step.Unpack (codes "b") (codes "1") ∷ step.Configure a_b ∷ []) finish
+unfolding selected
+ends_well = (plain_change_is_ordered u [] all
+    (step.Unpack (codes "a") (codes "1") ∷ step.Unpack (codes "b") (codes "1") ∷ step.Configure a_b ∷ []) is_change in_fixed_order).1
