@@ -15,7 +15,7 @@ use Rattle.rules.specs.declared.step.Rule.TheVariants as rule
 use Rattle.rules.specs.declared.step.Step.TheVariants as step
 use Rattle.rules.proofs.Decided.{dec_Contains}
 use Rattle.rules.proofs.GroupLemmas.{GroupPasses-each, GroupPasses-from_each, MemberPasses-more, contains-others_of, others_of-contains, greatest_part, none_of}
-use Rattle.plain.specs.WalkLaws.{LeastGroupIsThere, WalkBegins, WalkEnds, WalkKeeps, WalkLeavesOut}
+use Rattle.plain.specs.WalkLaws.{NoGroupIsLeft, LeastGroupIsThere, WalkBegins, WalkEnds, WalkKeeps, WalkLeavesOut}
 use Rattle.plain.specs.Order.{IsLeastGroup, IsLesserGroup}
 use Rattle.plain.specs.Underway.{unconfigured_of}
 use Rattle.plain.specs.Walk.{IsInOrAbove, IsNextName, IsOnWalk, IsPassing}
@@ -143,6 +143,11 @@ allowed_passes u db names allowed = record {
   where
     asked : List Rule
     asked = rule.WrongState ∷ rule.PreDepends ∷ rule.Depends ∷ rule.Breaks ∷ rule.Group ∷ []
+
+pub no_group_is_left : NoGroupIsLeft
+no_group_is_left u db greatest names group =
+    let passes = allowed_passes u db names group.allowed in
+    none_of names group.some (greatest.greatest names (names_unconfigured db names passes) passes)
 
 pub walk_ends : WalkEnds
 unfolding IsIndivisible

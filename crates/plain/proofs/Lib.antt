@@ -1,6 +1,7 @@
 pub mod ChangedLemmas
 pub mod ConfigureLemmas
 pub mod FittingLemmas
+pub mod GrowLemmas
 pub mod HasOrderLemmas
 pub mod InstallRows
 pub mod LeastGroupLemmas

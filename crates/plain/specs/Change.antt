@@ -58,7 +58,7 @@ IsPurgeGoal u name = Contains u.goals (goal.Purge name)
 abbrev pub IsToPurge : Universe → List Record → List ℕ → Type 0
 IsToPurge u db name = IsPurgeGoal u name × HasRecord IsRemoved name db
 
--- a plain change: nothing that was present or is selected is against another, what is not yet configured finds its
+-- a plain change: nothing that was present or is selected is against another, what doesn't stay finds its
 -- Pre-Depends among what stays, nothing that is touched is held, and no flag is left that no step mends
 pub record IsPlain (u : Universe) (start : List Record) (members : List Pkg) : Type 0 where
   pub peace : AreAtPeace start members

@@ -19,6 +19,11 @@ abbrev pub after_all : Universe → List Record → List Step → List Record
 after_all u db [] = db
 after_all u db (step ∷ rest) = after_all u (after u db step) rest
 
+-- the steps lead from this database to the one reached, and each is a next one in the database before it
+abbrev pub AreNextSteps : (List Record → Step → Type 0) → Universe → List Record → List Step → List Record → Type 0
+AreNextSteps IsNext u db [] reached = reached ≡ db
+AreNextSteps IsNext u db (step ∷ rest) reached = IsNext db step × AreNextSteps IsNext u (after u db step) rest reached
+
 -- Unpacks
 
 -- the step that unpacks the package

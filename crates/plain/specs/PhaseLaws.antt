@@ -1,6 +1,6 @@
 -- What follows for the four phases of the fixed order: their steps are allowed, they keep the change underway, and
 -- they come to an end.
-use Rattle.std.specs.Prelude.{◌≢◌, ◌≡◌, ◌↔◌, ℕ, ◌<◌, Bool, List, map, length, ◌⊎◌}
+use Rattle.std.specs.Prelude.{◌≢◌, ◌≡◌, ◌↔◌, ℕ, ◌<◌, Bool, List, [], ◌∷◌, ◌++◌, map, length, ◌⊎◌}
 use Rattle.std.specs.List.{All, Contains}
 use Rattle.rules.specs.Configure.{GroupPasses}
 use Rattle.rules.specs.Database.{Record, HasRecord, HasDistinctNames, IsInstalled, installed_of, pkg_of}
@@ -12,7 +12,7 @@ use Rattle.rules.specs.Universe.{Universe}
 use Rattle.rules.specs.declared.step.Step.{Step}
 use Rattle.rules.specs.declared.step.Step.TheVariants as step
 use Rattle.plain.specs.Change.{HasNothingToRemove, IsPlainChange, IsToRemove, Stays}
-use Rattle.plain.specs.Order.{after_all, unpack_of, AreUnpacks, to_unpack, MayGo, IsStillInstalled, IsNextRemoval, IsConfigurableGroup, ArePurges}
+use Rattle.plain.specs.Order.{AreConfigures, AreNextSteps, AreRemovals, IsNextConfigure, after_all, unpack_of, AreUnpacks, to_unpack, MayGo, IsStillInstalled, IsNextRemoval, IsConfigurableGroup, ArePurges}
 use Rattle.plain.specs.Underway.{IsUnderway, removals_left, unconfigured_of}
 
 -- Unpacks
@@ -60,6 +60,18 @@ RemovalsAreAllowed = (u : Universe) (start db : List Record) (members : List Pkg
     → Allowed u db step × IsUnderway u start members (after u db step)
     × (removals_left members (after u db step) < removals_left members db)
 
+-- removals so far, with the next one, are removals so far
+abbrev pub RemovalsGrow : Type 0
+RemovalsGrow = (u : Universe) (members : List Pkg) (db reached : List Record) (steps : List Step) (step : Step)
+    → AreNextSteps (IsNextRemoval u members) u db steps reached → IsNextRemoval u members reached step
+    → AreNextSteps (IsNextRemoval u members) u db (steps ++ step ∷ []) (after u reached step)
+
+-- removals so far are the removals where nothing more is to be removed
+abbrev pub RemovalsEnd : Type 0
+RemovalsEnd = (u : Universe) (members : List Pkg) (db reached : List Record) (steps : List Step)
+    → AreNextSteps (IsNextRemoval u members) u db steps reached → HasNothingToRemove members reached
+    → AreRemovals u members db steps × (reached ≡ after_all u db steps)
+
 -- behind a removal the other names are still to be removed
 abbrev pub RemovalLeaves : Type 0
 RemovalLeaves = (u : Universe) (members : List Pkg) (db : List Record) (name other : List ℕ)
@@ -96,6 +108,18 @@ ConfigureLeaves = (u : Universe) (db : List Record) (names : List (List ℕ)) �
     → ((name : List ℕ) → Contains (unconfigured_of (after u db (step.Configure names))) name
     ↔ (Contains (unconfigured_of db) name × ¬ Contains names name))
     × (0 < length names → length (unconfigured_of (after u db (step.Configure names))) < length (unconfigured_of db))
+
+-- configures so far, with the next one, are configures so far
+abbrev pub ConfiguresGrow : Type 0
+ConfiguresGrow = (u : Universe) (db reached : List Record) (steps : List Step) (step : Step)
+    → AreNextSteps (IsNextConfigure u) u db steps reached → IsNextConfigure u reached step
+    → AreNextSteps (IsNextConfigure u) u db (steps ++ step ∷ []) (after u reached step)
+
+-- configures so far are the configures where no group may be configured
+abbrev pub ConfiguresEnd : Type 0
+ConfiguresEnd = (u : Universe) (db reached : List Record) (steps : List Step)
+    → AreNextSteps (IsNextConfigure u) u db steps reached → ((names : List (List ℕ)) → ¬ IsConfigurableGroup u reached names)
+    → AreConfigures u db steps × (reached ≡ after_all u db steps)
 
 -- Purges and the end
 

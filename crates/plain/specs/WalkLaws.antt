@@ -4,7 +4,7 @@ use Rattle.std.specs.List.{All, Contains}
 use Rattle.rules.specs.Configure.{GroupPasses, IsGreatestPart, others_of}
 use Rattle.rules.specs.Database.{Record}
 use Rattle.rules.specs.Universe.{Universe}
-use Rattle.plain.specs.Order.{IsLeastGroup}
+use Rattle.plain.specs.Order.{IsConfigurableGroup, IsLeastGroup}
 use Rattle.plain.specs.Underway.{unconfigured_of}
 use Rattle.plain.specs.Walk.{IsNextName, IsOnWalk}
 
@@ -17,6 +17,11 @@ LeastGroupIsThere = (u : Universe) (db : List Record) (names : List (List ℕ)) 
 abbrev pub WalkBegins : Type 0
 WalkBegins = (db : List Record) (group : List (List ℕ)) → IsGreatestPart db (unconfigured_of db) group → 0 < length group
     → IsOnWalk db [] group
+
+-- where that part is nothing, no group may be configured
+abbrev pub NoGroupIsLeft : Type 0
+NoGroupIsLeft = (u : Universe) (db : List Record) → IsGreatestPart db (unconfigured_of db) []
+    → (names : List (List ℕ)) → ¬ IsConfigurableGroup u db names
 
 -- where some of the others pass without the next name, it is left out: the walk goes on with the greatest part of those
 abbrev pub WalkLeavesOut : Type 0

@@ -1,8 +1,8 @@
 // Laws that follow from the definitions: each function has an empty body, and its contract is the law.
 
 ghost use Rattle.plain.specs.Laws.{UniverseIsCounted, StartIsQuiet, NothingClashes, PlainChangeIsOrdered, PlainChangeHasOrder, OneFixedOrder};
-ghost use Rattle.plain.specs.PhaseLaws.{MembersAreByName, UnpacksAreAllowed, LastRemovalIsAllowed, RemovalsGoOn, RemovalsAreAllowed, RemovalLeaves, DeconfigureLeaves, UnconfiguredPass, ConfiguresKeep, ConfigureLeaves, PurgesEndWell};
-ghost use Rattle.plain.specs.WalkLaws.{LeastGroupIsThere, WalkBegins, WalkLeavesOut, WalkKeeps, WalkEnds};
+ghost use Rattle.plain.specs.PhaseLaws.{MembersAreByName, UnpacksAreAllowed, LastRemovalIsAllowed, RemovalsGoOn, RemovalsAreAllowed, RemovalLeaves, DeconfigureLeaves, UnconfiguredPass, ConfiguresKeep, ConfigureLeaves, PurgesEndWell, RemovalsGrow, RemovalsEnd, ConfiguresGrow, ConfiguresEnd};
+ghost use Rattle.plain.specs.WalkLaws.{LeastGroupIsThere, WalkBegins, WalkLeavesOut, WalkKeeps, WalkEnds, NoGroupIsLeft};
 
 /// The universe of inputs is counted by their start.
 pub fn universe_is_counted()
@@ -46,6 +46,16 @@ pub fn removals_are_allowed()
     ensures { RemovalsAreAllowed }
 {}
 
+/// Removals so far, with the next one, are removals so far.
+pub fn removals_grow()
+    ensures { RemovalsGrow }
+{}
+
+/// Removals so far are the removals where nothing more is to be removed.
+pub fn removals_end()
+    ensures { RemovalsEnd }
+{}
+
 /// Behind a removal the other names are still to be removed.
 pub fn removal_leaves()
     ensures { RemovalLeaves }
@@ -71,6 +81,11 @@ pub fn walk_begins()
     ensures { WalkBegins }
 {}
 
+/// Where the greatest part of what isn't configured is nothing, no group may be configured.
+pub fn no_group_is_left()
+    ensures { NoGroupIsLeft }
+{}
+
 /// Where some of the others pass without the next name, the walk goes on with the greatest part of those.
 pub fn walk_leaves_out()
     ensures { WalkLeavesOut }
@@ -94,6 +109,16 @@ pub fn configures_keep()
 /// Behind a configure that is allowed the other names aren't configured yet, and those are fewer.
 pub fn configure_leaves()
     ensures { ConfigureLeaves }
+{}
+
+/// Configures so far, with the next one, are configures so far.
+pub fn configures_grow()
+    ensures { ConfiguresGrow }
+{}
+
+/// Configures so far are the configures where no group may be configured.
+pub fn configures_end()
+    ensures { ConfiguresEnd }
 {}
 
 /// Where nothing is to be removed and no group may be configured, the purges by name are allowed, and behind them the
