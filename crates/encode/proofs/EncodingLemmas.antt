@@ -1,0 +1,69 @@
+-- Selections that make all clauses of an encoding true.
+use Rattle.std.proofs.Common.{◌≡◌, ℕ, zero, suc, ◌≤◌, ◌==◌, Bool, true, false, List, [], ◌∷◌, map, refl, sym, subst, add-one, arith}
+use Rattle.std.proofs.lemmas.Bool.{eq-eqb, eqb-true}
+use mathlib.Core.Logic.{inl, inr}
+use Rattle.std.specs.Prelude.{ℤ, IsTrue}
+use Rattle.std.specs.List.{All, AllZip, Any, Contains}
+use Rattle.std.proofs.lemmas.List.Elements.{All-contains}
+use Rattle.rules.specs.ElementLaws.{Any-elim, Any-from_list_any, Contains-cons, Contains-head, Contains-map, Contains-nil, Contains-rest, list_any-from_contains}
+use Rattle.rules.specs.Universe.{Universe}
+use Rattle.clauses.specs.Clause.{IsTrueLiteral, IsTrueOf as IsTrueClause, MakesAllTrue}
+use Rattle.refutation.specs.Clause.{IsClauseTrue, IsTrueOf}
+use Rattle.refutation.specs.Laws.{AllPremisesTrue}
+use Rattle.refutation.specs.Premise.{IsInPremise}
+use Rattle.refutation.specs.declared.line.Premise.{Premise}
+use Rattle.refutation.specs.declared.literal.Literal.{Literal}
+use Rattle.refutation.specs.declared.literal.Literal.TheVariants as literal
+use Rattle.encode.specs.Encoding.{Encoding, IsClauseOf, IsEncoding, signed}
+use Rattle.encode.specs.Selection.{selects}
+
+-- the test of a selection
+pub selects_contained : (selection : List ℕ) (number : ℕ) → Contains selection number → IsTrue (selects selection number)
+selects_contained selection number within = list_any-from_contains (λ one. one == number) selection number within (eq-eqb number number refl)
+
+pub contained_selects : (selection : List ℕ) (number : ℕ) → IsTrue (selects selection number) → Contains selection number
+contained_selects selection number is = Any-elim (λ one. (one == number) ≡ true) selection (Contains selection number)
+    (λ one within same. let N : ℕ → Type 0 = λ n. Contains selection n in subst N (eqb-true one number same) within)
+    (Any-from_list_any (λ one. one == number) selection is)
+
+pub selects_not : (selection : List ℕ) (number : ℕ) → ¬ Contains selection number → selects selection number ≡ false
+selects_not selection number not = at (selects selection number) refl
+  where
+    at : (b : Bool) → selects selection number ≡ b → b ≡ false
+    at true is = absurd (not (contained_selects selection number is))
+    at false is = refl
+
+-- the clause of a premise
+pub clause_of_premise : (u : Universe) (premises : List Premise) (clauses : List (List ℤ)) → AllZip (IsClauseOf u) premises clauses
+    → (found : Premise) → Contains premises found → (clause : List ℤ) × Contains clauses clause × IsClauseOf u found clause
+clause_of_premise u [] [] all found within = absurd (Contains-nil found within)
+clause_of_premise u [] (clause ∷ clauses) all found within = absurd all
+clause_of_premise u (premise ∷ premises) [] all found within = absurd all
+clause_of_premise u (premise ∷ premises) (clause ∷ clauses) all found within = elim (Contains-cons premise premises found within) [
+  | inl same ↦ let P : Premise → Type 0 = λ p. IsClauseOf u p clause in (clause, Contains-head clause clauses, subst P same all.0)
+  | inr later ↦ let (rest, there, of) = clause_of_premise u premises clauses all.1 found later in (rest, Contains-rest clause clauses rest there, of)
+]
+
+-- a literal is true of the test of a selection where it is true of the selection, in which 0 isn't
+literal_true : (selection : List ℕ) → All (λ number. 1 ≤ number) selection → (found : Literal) → IsTrueLiteral selection (signed found)
+    → IsTrueOf (selects selection) found
+literal_true selection positive (literal.Selected number) is = selects_contained selection number is
+literal_true selection positive (literal.Unselected zero) is =
+    let zero_in : 1 ≤ 0 = All-contains (λ number. 1 ≤ number) selection 0 positive is in absurd (let e : 1 ≤ 0 = zero_in in omega arith)
+literal_true selection positive (literal.Unselected (suc below)) is =
+    let N : ℕ → Type 0 = λ n. ¬ Contains selection n in selects_not selection (suc below) (subst N (add-one below) is)
+
+-- where a selection makes all clauses true, so it does those of all premises
+pub all_premises_true : (u : Universe) (encoding : Encoding) (selection : List ℕ) → IsEncoding u encoding → All (λ number. 1 ≤ number) selection
+    → MakesAllTrue selection encoding.clauses.clauses → AllPremisesTrue u (selects selection)
+unfolding IsClauseOf
+all_premises_true u encoding selection is positive makes premise so =
+    let (clause, within, (literals, list, same)) =
+    clause_of_premise u encoding.premises encoding.clauses.clauses is.clauses premise (is.every premise so) in
+    let made : Any (IsTrueLiteral selection) (map signed literals) =
+    subst (IsTrueClause selection) same (All-contains (IsTrueClause selection) encoding.clauses.clauses clause makes within) in
+    Any-elim (IsTrueLiteral selection) (map signed literals) (IsClauseTrue (selects selection) (IsInPremise u premise))
+    (λ number there true_of.
+    let (found, in_list, sign) = Contains-map signed literals number there in
+    let True : ℤ → Type 0 = λ z. IsTrueLiteral selection z in
+    (found, (list found).0 in_list, literal_true selection positive found (subst True (sym sign) true_of))) made

@@ -1,0 +1,9 @@
+pub mod NumberLemmas
+pub mod LiteralLemmas
+pub mod GrowLemmas
+pub mod PairLemmas
+pub mod NeedLemmas
+pub mod AgainstLemmas
+pub mod GoalLemmas
+pub mod StartLemmas
+pub mod EncodingLemmas

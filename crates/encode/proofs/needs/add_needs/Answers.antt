@@ -1,0 +1,26 @@
+-- One pair more.
+use Rattle.std.proofs.Common.{◌≡◌, ◌∙◌, ◌+◌, ℕ, ap, length, subst, arith}
+use Rattle.rules.specs.Universe.{Universe}
+use Rattle.refutation.specs.Premise.{IsPremise}
+use Rattle.refutation.specs.declared.line.Premise.{Premise}
+use Rattle.encode.specs.Growing.{Grows, IsNeed, IsNeedOf, IsOfFirst}
+use Rattle.encode.proofs.GrowLemmas.{by_first_none, in_words, one_kind_more}
+use Rattle.encode.proofs.NeedLemmas.{all_pairs_need}
+use Rattle.encode.proofs.needs.add_needs.Goals as goal
+
+pub loop-place-init : goal.loop-place-init
+loop-place-init c = by_first_none c.args.facts.now c.args.encoding.now (λ place found. IsPremise c.args.facts.now found × IsNeedOf (place + 1) found)
+
+pub loop-place-preserved : goal.loop-place-preserved
+loop-place-preserved c = one_kind_more c.args.facts.now c.args.encoding.now c.loop-place.encoding c.add_needs_at.new.encoding
+    (λ place found. IsPremise c.args.facts.now found × IsNeedOf (place + 1) found) c.loop-place.place c.loop-place.invariant c.in_ok-add_needs_at.ensures
+
+pub returns : goal.returns
+returns c =
+    let Kind : ℕ → Premise → Type 0 = λ place found. IsPremise c.args.facts.now found × IsNeedOf (place + 1) found in
+    let Over : ℕ → Type 0 = λ count. Grows c.args.facts.now c.args.encoding.now c.loop-place.encoding (IsOfFirst Kind count) in
+    in_words c.args.facts.now c.args.encoding.now c.loop-place.encoding (IsOfFirst Kind (length c.args.facts.now.pairs))
+    (λ found. IsPremise c.args.facts.now found × IsNeed found) (all_pairs_need c.args.facts.now)
+    (let end : c.loop-place.place ≡ length c.pairs-pairs.result.now = omega arith in
+    let same : c.pairs-pairs.result.now ≡ c.args.facts.now.pairs = c.pairs-pairs.ensures.items ∙ ap (λ (u : Universe). u.pairs) c.universe.ensures in
+    let count : c.loop-place.place ≡ length c.args.facts.now.pairs = end ∙ ap length same in subst Over count c.loop-place.invariant)
