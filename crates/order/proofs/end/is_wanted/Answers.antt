@@ -1,0 +1,20 @@
+-- A good end is wanted where just the selection is installed, and one with something against it isn't.
+use Rattle.std.proofs.Common.{rules, ◌≡◌, true, false, sym, ◌∙◌}
+use Rattle.order.specs.Door.{selected_in}
+use Rattle.order.proofs.EndLemmas.{not_wanted, nothing_where_none, wanted_where_exact}
+use Rattle.order.proofs.end.is_wanted.Goals as goal
+
+pub returns-then-is_some : goal.returns-then-is_some
+returns-then-is_some c = (
+  λ answer. absurd (let e : false ≡ true = answer in cc),
+  λ wanted. absurd (not_wanted c.good_plan_has_yes.ensures c.args.ground.now.universe.now c.args.ground.now.start.now
+      (selected_in c.args.ground.now) c.args.door.now.steps.items c.args.door.now.db c.in_ok-against.against c.requires.ground.quiet
+      c.requires.reached.run (sym c.is_some.ensures ∙ c.if-is_some.true) c.in_ok-against.ensures wanted),
+)
+
+pub returns : goal.returns
+returns c = wanted_where_exact c.good_where_nothing_is_against.ensures c.args.ground.now.universe.now c.args.ground.now.start.now
+    (selected_in c.args.ground.now) c.args.door.now.steps.items c.args.door.now.db c.is_exact-exact.result c.requires.ground.built
+    c.requires.reached.run
+    (nothing_where_none c.args.ground.now.universe.now c.args.door.now.db c.in_ok-against.against (sym c.is_some.ensures ∙ c.if-is_some.false)
+    c.in_ok-against.ensures) c.is_exact-exact.ensures

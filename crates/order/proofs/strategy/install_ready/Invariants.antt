@@ -1,0 +1,6 @@
+-- The steps so far are a run.
+use Rattle.order.specs.Door.{IsReached}
+use Rattle.order.proofs.strategy.install_ready.Given as goal
+
+abbrev pub invariant-loop-member : goal.invariant-loop-member
+invariant-loop-member l = IsReached l.ground l.door

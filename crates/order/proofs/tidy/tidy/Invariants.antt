@@ -1,0 +1,6 @@
+-- The steps so far are a run.
+use Rattle.order.specs.Door.{IsReached}
+use Rattle.order.proofs.tidy.tidy.Given as goal
+
+abbrev pub invariant-loop : goal.invariant-loop
+invariant-loop l = IsReached l.ground l.door

@@ -1,0 +1,167 @@
+// How the way is made free: what needs a package that goes, and what a package breaks, is deconfigured before. The door alone
+// decides what is taken.
+
+ghost use Rattle.std.specs.Prelude.{IfOk};
+ghost use Rattle.order.specs.Door.{IsReached};
+
+use crate::door::{Door, Ground, take};
+use plancheck::remove_failing;
+use plancheck_end::{breaks_other, conflicts_with, matches_some};
+use relation::{Clause, Pkg};
+use rules::{Name, Rule, Step, is_name};
+use status::{Records, StateRecord};
+use std::alloc::{AllocError, Global};
+
+// Whether a package of another name that stands matches the clause.
+fn is_met_by_another(db: &Records<'_, '_>, name: &[u8], clause: &Clause<'_>) -> bool {
+    for atom in clause.as_slice() {
+        for found in db.holders(atom.name()) {
+            if found.stands() && found.name() != name {
+                if let Some(pkg) = found.present_pkg() {
+                    if atom.matched_by(pkg) {
+                        return true;
+                    }
+                }
+            }
+        }
+    }
+    false
+}
+
+// Whether one of the clauses needs the package: it matches, and no other that stands does.
+fn some_needs(db: &Records<'_, '_>, pkg: &Pkg<'_>, clauses: &[Clause<'_>]) -> bool {
+    for clause in clauses {
+        if matches_some(pkg, clause.as_slice()) && !is_met_by_another(db, pkg.name(), clause) {
+            return true;
+        }
+    }
+    false
+}
+
+// Whether the record is installed and needs the package.
+fn needs(db: &Records<'_, '_>, pkg: &Pkg<'_>, found: &StateRecord<'_, '_>) -> bool {
+    found.state().is_installed()
+        && found.name() != pkg.name()
+        && (some_needs(db, pkg, found.pre_depends()) || some_needs(db, pkg, found.depends()))
+}
+
+// The package of the name, if it is present.
+fn present<'p, 'a>(db: &Records<'p, 'a>, name: &[u8]) -> Option<&'p Pkg<'a>> {
+    for found in db.holders(name) {
+        if found.name() == name {
+            return found.present_pkg();
+        }
+    }
+    None
+}
+
+// The names of the installed packages that need the one of this name.
+fn needing(alloc: Global, db: &Records<'_, '_>, name: &[u8]) -> Result<Vec<Name>, AllocError> {
+    let mut names = Vec::new(alloc);
+    if let Some(pkg) = present(db, name) {
+        for found in db.as_slice() {
+            if is_name(found.name()) && needs(db, pkg, found) {
+                names.push(Name::copied_from(alloc, found.name())?)?;
+            }
+        }
+    }
+    Ok(names)
+}
+
+/// The names of the installed packages that the package breaks.
+pub(crate) fn broken_by(
+    alloc: Global,
+    db: &Records<'_, '_>,
+    pkg: &Pkg<'_>,
+) -> Result<Vec<Name>, AllocError> {
+    let mut names = Vec::new(alloc);
+    for found in db.as_slice() {
+        if let Some(other) = found.present_pkg() {
+            if found.state().is_installed()
+                && is_name(found.name())
+                && found.name() != pkg.name()
+                && breaks_other(pkg, other)
+            {
+                names.push(Name::copied_from(alloc, found.name())?)?;
+            }
+        }
+    }
+    Ok(names)
+}
+
+/// The names of the present packages of other names that conflict with the package, either way.
+pub(crate) fn conflicting(
+    alloc: Global,
+    db: &Records<'_, '_>,
+    pkg: &Pkg<'_>,
+) -> Result<Vec<Name>, AllocError> {
+    let mut names = Vec::new(alloc);
+    for found in db.as_slice() {
+        if let Some(other) = found.present_pkg() {
+            if is_name(found.name())
+                && found.name() != pkg.name()
+                && (conflicts_with(pkg, other) || conflicts_with(other, pkg))
+            {
+                names.push(Name::copied_from(alloc, found.name())?)?;
+            }
+        }
+    }
+    Ok(names)
+}
+
+/// Deconfigures each of the names that is installed.
+pub(crate) fn deconfigure_each<'p, 'a>(
+    ground: &Ground<'_, '_, 'p, 'a>,
+    door: &mut Door<'p, 'a>,
+    names: &[Name],
+) -> Result<(), AllocError>
+    requires reached { IsReached ground.now door.old }
+    ensures reached { IfOk result (λ _. IsReached ground.now door.new) }
+{
+    for name in names {
+        let step = Step::Deconfigure(name.try_copy(ground.alloc)?);
+        let _taken = take(ground, door, None, step)?;
+    }
+    Ok(())
+}
+
+/// Removes the package of the name, if what needs it alone stands in the way: that is deconfigured before. Answers whether it
+/// was removed.
+pub(crate) fn cut<'p, 'a>(
+    ground: &Ground<'_, '_, 'p, 'a>,
+    door: &mut Door<'p, 'a>,
+    name: &Name,
+) -> Result<bool, AllocError>
+    requires reached { IsReached ground.now door.old }
+    ensures reached { IfOk result (λ _. IsReached ground.now door.new) }
+{
+    match remove_failing(&door.db, name.as_bytes()) {
+        None => {}
+        Some(Rule::NeededBy) => {
+            let names = needing(ground.alloc, &door.db, name.as_bytes())?;
+            deconfigure_each(ground, door, names.as_slice())?;
+        }
+        Some(_) => return Ok(false),
+    }
+    let step = Step::Remove(name.try_copy(ground.alloc)?);
+    let taken = take(ground, door, None, step)?;
+    Ok(taken)
+}
+
+/// Removes the first of the names that can be, whatever needs it. Answers whether one was.
+pub(crate) fn cut_first<'p, 'a>(
+    ground: &Ground<'_, '_, 'p, 'a>,
+    door: &mut Door<'p, 'a>,
+    names: &[Name],
+) -> Result<bool, AllocError>
+    requires reached { IsReached ground.now door.old }
+    ensures reached { IfOk result (λ _. IsReached ground.now door.new) }
+{
+    for name in names {
+        let taken = cut(ground, door, name)?;
+        if taken {
+            return Ok(true);
+        }
+    }
+    Ok(false)
+}

@@ -1,0 +1,22 @@
+// The order of steps for a selection of packages: unpack, configure, deconfigure, remove and purge one after another until
+// the selection is installed, or until nothing leads on. It stands on the judge of plans: each step is asked of
+// `plancheck::legal` before it is taken, so that what is answered holds whatever is tried. The main call is `order`.
+#![tactic(auto)]
+
+mod clear;
+mod door;
+mod end;
+mod forward;
+mod group;
+mod in_order;
+mod member;
+mod one_each;
+mod ordered;
+mod ordering;
+mod strategy;
+mod tidy;
+mod waiting;
+
+pub use one_each::is_one_each;
+pub use ordered::Ordered;
+pub use ordering::order;

@@ -1,0 +1,111 @@
+// The order of steps for a selection of admitted pairs (Policy 7; dpkg(1)).
+
+ghost use Rattle.std.specs.Prelude.{◌≡◌, IfOk};
+ghost use Rattle.std.specs.List.{All};
+ghost use Rattle.rules.specs.Database.{IsQuiet};
+ghost use Rattle.rules.specs.Verdict.{IsBuiltOn};
+ghost use Rattle.universe.specs.Universe.{packages_of};
+ghost use Rattle.order.specs.Door.{HasStanza, IsGround, IsReached, selected_in};
+ghost use Rattle.order.specs.Order.{IsAtRest, IsOrder};
+ghost use Rattle.order.specs.Selection.{IsOneEach, chosen};
+
+use crate::door::{Door, Ground, opened};
+use crate::end::is_wanted;
+use crate::forward::finish;
+use crate::member::Members;
+use crate::ordered::Ordered;
+use crate::strategy::choose_all;
+use plancheck::is_quiet;
+use status::Records;
+use std::alloc::{AllocError, Global};
+use universe::Universe;
+
+// What is answered where no step leads on.
+fn answered<'p, 'a>(
+    ground: &Ground<'_, '_, 'p, 'a>,
+    door: Door<'p, 'a>,
+) -> Result<Ordered, AllocError>
+    requires ground { IsGround ground.now }
+    requires reached { IsReached ground.now door }
+    requires rest { IsAtRest ground.now.universe.now (selected_in ground.now) door.db }
+    ensures { IfOk result (λ ordered. IsOrder ground.now.universe.now ground.now.start.now (selected_in ground.now) ordered) }
+{
+    let is_plan = is_wanted(ground, &door)?;
+    if is_plan {
+        Ok(Ordered::Plan(door.steps))
+    } else {
+        Ok(Ordered::Stuck(door.steps))
+    }
+}
+
+// The order from a quiet start.
+fn order_on<'p, 'a>(ground: &Ground<'_, '_, 'p, 'a>) -> Result<Ordered, AllocError>
+    requires { IsGround ground.now }
+    ensures { IfOk result (λ ordered. IsOrder ground.now.universe.now ground.now.start.now (selected_in ground.now) ordered) }
+{
+    let mut door = opened(ground)?;
+    choose_all(ground, &mut door)?;
+    finish(ground, &mut door)?;
+    let ordered = answered(ground, door)?;
+    Ok(ordered)
+}
+
+// The order of the members from a quiet start.
+fn members_order<'p, 'a>(
+    alloc: Global,
+    start: &Records<'p, 'a>,
+    universe: &Universe<'_, 'a>,
+    members: &'p Members<'a>,
+) -> Result<Ordered, AllocError>
+    requires built { IsBuiltOn start.now universe.now }
+    requires quiet { IsQuiet start.now }
+    requires one_each { IsOneEach (packages_of members.now) }
+    requires stanzas { All (HasStanza universe.now) members.now }
+    ensures { IfOk result (λ ordered. IsOrder universe.now start.now (packages_of members.now) ordered) }
+{
+    let ground = Ground {
+        alloc,
+        start,
+        universe,
+        members,
+    };
+    let ordered = order_on(&ground)?;
+    Ok(ordered)
+}
+
+// The order of the pairs of these numbers from a quiet start.
+fn quiet_order<'p, 'a>(
+    alloc: Global,
+    start: &Records<'p, 'a>,
+    universe: &Universe<'_, 'a>,
+    selection: &[u32],
+) -> Result<Ordered, AllocError>
+    requires built { IsBuiltOn start.now universe.now }
+    requires quiet { IsQuiet start.now }
+    requires one_each { IsOneEach (chosen universe.now selection.now) }
+    ensures { IfOk result (λ ordered. IsOrder universe.now start.now (chosen universe.now selection.now) ordered) }
+{
+    let members = Members::read(alloc, universe, selection)?;
+    let ordered = members_order(alloc, start, universe, members.lend())?;
+    Ok(ordered)
+}
+
+/// Puts the pairs of these numbers, counted from 1 and at most one a name, into an order of steps from this start, on which
+/// the universe is built: a plan at whose end just these pairs are installed, or steps after which no step that leads there is
+/// allowed. Of the stanzas of the universe those of the selection are read. Memory alone can fail.
+pub fn order<'p, 'a>(
+    alloc: Global,
+    start: &Records<'p, 'a>,
+    universe: &Universe<'_, 'a>,
+    selection: &[u32],
+) -> Result<Ordered, AllocError>
+    requires built { IsBuiltOn start.now universe.now }
+    requires one_each { IsOneEach (chosen universe.now selection.now) }
+    ensures { IfOk result (λ ordered. IsOrder universe.now start.now (chosen universe.now selection.now) ordered) }
+{
+    if is_quiet(start) {
+        quiet_order(alloc, start, universe, selection)
+    } else {
+        Ok(Ordered::Start)
+    }
+}
