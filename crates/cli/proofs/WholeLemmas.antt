@@ -7,6 +7,7 @@ use Rattle.cli_engine.specs.Before.{AreRead}
 use Rattle.cli_engine.specs.Indices.{index_then, indices_from, read_indices}
 use Rattle.cli_engine.specs.Indices as Spec
 use Rattle.cli_engine.specs.Refuted.{IsRefutationAnswer}
+use Rattle.cli_engine.specs.Solution.{IsSolution}
 use Rattle.cli_engine.specs.Texts.{Texts}
 use Rattle.cli_engine.specs.declared.refusal.Refusal.{Refusal}
 use Rattle.index.specs.Index.{ReadIndex, read_index}
@@ -19,6 +20,7 @@ use Rattle.rules.specs.Database.{Record}
 use Rattle.rules.specs.Universe.{Universe}
 use Rattle.rules.specs.declared.step.Verdict.{Verdict}
 use Rattle.refutecheck.specs.declared.verdict.Verdict.{Verdict as Refuted}
+use Rattle.solver.specs.declared.solved.Solved.{Solved}
 
 -- an index that is read before others that are read alike
 before_others : (number : ℕ) (text : Result ReadIndex IndexFault) (later kept_later : ℕ → Result (List Index) Refusal)
@@ -111,6 +113,16 @@ refutation_kept texts indices refutation verdict are answer = record {
   lines = answer.lines;
   denoted = denoted_kept texts indices answer.universe answer.start are answer.denoted;
   read = answer.read;
+  holds = answer.holds;
+}
+
+-- a solution of the request
+pub solution_kept : (texts : Texts) (indices : List (List ℕ)) (limit : ℕ) (found : Solved)
+    → AreKept indices texts.indices → IsSolution texts limit found → IsSolution (with_indices indices texts) limit found
+solution_kept texts indices limit found are answer = record {
+  universe = answer.universe;
+  start = answer.start;
+  denoted = denoted_kept texts indices answer.universe answer.start are answer.denoted;
   holds = answer.holds;
 }
 

@@ -4,12 +4,29 @@ use Rattle.std.specs.Fmt.{signed_decimal}
 use Rattle.candidates.specs.Offer.{Offer}
 use Rattle.refutecheck.specs.declared.verdict.Verdict.{Verdict as Refuted}
 use Rattle.refutecheck.specs.declared.verdict.Verdict.TheVariants as refuted
+use Rattle.refutation_text.specs.Text.{refutation_text}
 use Rattle.rules.specs.declared.step.Reason.{Reason}
 use Rattle.rules.specs.declared.step.Reason.TheVariants as reason
 use Rattle.rules.specs.declared.step.Rule.{Rule}
 use Rattle.rules.specs.declared.step.Rule.TheVariants as rule
 use Rattle.rules.specs.declared.step.Verdict.{Verdict}
 use Rattle.rules.specs.declared.step.Verdict.TheVariants as verdict
+use Rattle.solver.specs.declared.solved.Solved.{Solved}
+use Rattle.solver.specs.declared.solved.Solved.TheVariants as solved
+use Rattle.solver.specs.declared.solved.Undecided.{Undecided}
+use Rattle.solver.specs.declared.solved.Undecided.TheVariants as undecided
+
+-- why a request is undecided: the limit of the search, the start, that no plan was found, or that nothing was accepted
+abbrev pub undecided_line : Undecided → List ℕ
+undecided_line (undecided.Limit limit) = codes "undecided limit " ++ (decimal limit ++ codes "\n")
+undecided_line undecided.Start = codes "undecided blocked start\n"
+undecided_line undecided.Stuck = codes "undecided blocked stuck\n"
+undecided_line undecided.Unchecked = codes "undecided unchecked\n"
+
+-- the answer to a request: a refutation, or why it is undecided
+abbrev pub solved_text : Solved → List ℕ
+solved_text (solved.Refuted lines) = refutation_text lines
+solved_text (solved.Undecided why) = undecided_line why
 
 -- a rule: its code and its name
 abbrev pub rule_words : Rule → List ℕ

@@ -1,4 +1,4 @@
--- With which status the program ends: 0 yes, 1 no, 3 refused, 4 wrong words, 5 device or memory (this project's own).
+-- With which status the program ends: 0 yes, 1 no, 2 undecided, 3 refused, 4 wrong words, 5 device or memory (this project's own).
 use Rattle.std.specs.Prelude.{ℕ, Bool, Option, Some, None, if◌then◌else◌}
 use Rattle.cli.specs.declared.exit.Exit.{Exit}
 use Rattle.cli.specs.declared.exit.Exit.TheVariants as exit
@@ -8,11 +8,14 @@ use Rattle.refutecheck.specs.declared.verdict.Verdict.{Verdict as Refuted}
 use Rattle.refutecheck.specs.declared.verdict.Verdict.TheVariants as refuted
 use Rattle.rules.specs.declared.step.Verdict.{Verdict}
 use Rattle.rules.specs.declared.step.Verdict.TheVariants as verdict
+use Rattle.solver.specs.declared.solved.Solved.{Solved}
+use Rattle.solver.specs.declared.solved.Solved.TheVariants as solved
 
 -- the exit status
 abbrev pub code_of : Exit → ℕ
 code_of exit.Success = 0
 code_of exit.No = 1
+code_of exit.Undecided = 2
 code_of exit.Refused = 3
 code_of exit.Usage = 4
 code_of exit.Device = 5
@@ -28,6 +31,11 @@ exit_of_verdict (verdict.End reason) = exit.No
 abbrev pub exit_of_refutation : Refuted → Exit
 exit_of_refutation refuted.Yes = exit.Success
 exit_of_refutation (refuted.No number) = exit.No
+
+-- no where a request is refuted
+abbrev pub exit_of_solved : Solved → Exit
+exit_of_solved (solved.Refuted lines) = exit.No
+exit_of_solved (solved.Undecided why) = exit.Undecided
 
 -- success for a yes, and no for a no
 abbrev pub exit_of_comparison : Bool → Exit

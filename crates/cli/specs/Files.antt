@@ -54,6 +54,11 @@ pub record AreTextsOf (files : Files) (arguments : Arguments) (texts : Texts) (j
   pub request : files arguments.request.now ≡ Some texts.request
   pub judged_is : files arguments.judged.now ≡ Some judged
 
+-- the texts are what the files have at the paths of the options and of the request
+pub record AreRequestTexts (files : Files) (options : Options) (request : List ℕ) (texts : Texts) : Type 0 where
+  pub before : AreTextsAt files options texts
+  pub request_is : files request ≡ Some texts.request
+
 -- the texts before the request are what the files have at the paths of the options, but of the indices they have what is
 -- kept
 pub record AreKeptTextsAt (files : Files) (options : Options) (texts : Texts) : Type 0 where

@@ -2,14 +2,15 @@
 use Rattle.std.specs.Prelude.{◌≡◌, ◌⊎◌, ℕ, Bool, List, ◌++◌, codes, Option, Result, Ok, Err}
 use Rattle.std.specs.Io.KnownBytes.{Appends}
 use Rattle.candidates.specs.Offer.{Offer}
-use Rattle.cli.specs.Answer.{candidate_line, comparison_line, refutation_line, verdict_line}
-use Rattle.cli.specs.Exit.{code_of, exit_of_candidate, exit_of_comparison, exit_of_fault, exit_of_refutation, exit_of_verdict}
+use Rattle.cli.specs.Answer.{candidate_line, comparison_line, refutation_line, solved_text, verdict_line}
+use Rattle.cli.specs.Exit.{code_of, exit_of_candidate, exit_of_comparison, exit_of_fault, exit_of_refutation, exit_of_solved, exit_of_verdict}
 use Rattle.cli.specs.declared.exit.Exit.TheVariants as exit
 use Rattle.cli.specs.declared.outcome.Outcome.{Outcome}
 use Rattle.cli.specs.declared.outcome.Outcome.TheVariants as outcome
 use Rattle.cli_engine.specs.declared.refusal.Refusal.{Refusal}
 use Rattle.refutecheck.specs.declared.verdict.Verdict.{Verdict as Refuted}
 use Rattle.rules.specs.declared.step.Verdict.{Verdict}
+use Rattle.solver.specs.declared.solved.Solved.{Solved}
 
 -- the line names the program first
 abbrev pub IsComplaint : List ℕ → Type 0
@@ -29,6 +30,11 @@ IsOutcomeOf (Err refusal) found = IsOutcomeOfRefusal refusal found
 abbrev pub IsOutcomeOfRefutation : Result Refuted Refusal → Outcome → Type 0
 IsOutcomeOfRefutation (Ok verdict) found = found ≡ outcome.Answer (refutation_line verdict) (exit_of_refutation verdict)
 IsOutcomeOfRefutation (Err refusal) found = IsOutcomeOfRefusal refusal found
+
+-- the outcome is that of the answer to a request: its text on standard output, a refusal's on standard error
+abbrev pub IsOutcomeOfSolved : Result Solved Refusal → Outcome → Type 0
+IsOutcomeOfSolved (Ok solved) found = found ≡ outcome.Answer (solved_text solved) (exit_of_solved solved)
+IsOutcomeOfSolved (Err refusal) found = IsOutcomeOfRefusal refusal found
 
 -- the outcome is that of the comparison: its line on standard output, a refusal's on standard error
 abbrev pub IsOutcomeOfComparison : Result Bool Refusal → Outcome → Type 0

@@ -6,7 +6,8 @@ ghost use Rattle.std.specs.Option.{option_copied};
 ghost use Rattle.cli.specs.Answer as Spec;
 
 use crate::candidate::Candidate;
-use cli_engine::RefutationVerdict;
+use cli_engine::{RefutationVerdict, Solved, Undecided};
+use refutation_text::write_refutation;
 use rules::{Reason, Rule, Text, Verdict};
 use std::alloc::{AllocError, Global};
 
@@ -30,6 +31,32 @@ pub fn refutation_line(alloc: Global, verdict: &RefutationVerdict) -> Result<Vec
     match verdict {
         RefutationVerdict::Yes => b"yes\n".to_vec(alloc),
         RefutationVerdict::No(number) => Ok(format!(in alloc; "no line {number}\n")?.into_bytes()),
+    }
+}
+
+/// The text that is printed of the answer to a request: a refutation, or `undecided` with what it is undecided for. Memory
+/// alone can fail.
+pub fn solved_text(alloc: Global, solved: &Solved) -> Result<Vec<u8>, AllocError>
+    ensures { IfOk result (λ text. text.items ≡ Spec.solved_text solved.now) }
+{
+    match solved {
+        Solved::Refuted(refutation) => {
+            let text = write_refutation(alloc, refutation)?;
+            Ok(text)
+        }
+        Solved::Undecided(why) => undecided_line(alloc, *why),
+    }
+}
+
+// The line that says why a request is undecided.
+fn undecided_line(alloc: Global, why: Undecided) -> Result<Vec<u8>, AllocError>
+    ensures { IfOk result (λ line. line.items ≡ Spec.undecided_line why) }
+{
+    match why {
+        Undecided::Limit(limit) => Ok(format!(in alloc; "undecided limit {limit}\n")?.into_bytes()),
+        Undecided::Start => b"undecided blocked start\n".to_vec(alloc),
+        Undecided::Stuck => b"undecided blocked stuck\n".to_vec(alloc),
+        Undecided::Unchecked => b"undecided unchecked\n".to_vec(alloc),
     }
 }
 

@@ -33,6 +33,17 @@ pub struct Arguments<'a> {
     pub judged: &'a str,
 }
 
+/// What a request is to be solved by.
+#[derive(Clone, Copy)]
+pub struct RequestArguments<'a> {
+    /// Where packages come from.
+    pub options: Options<'a>,
+    /// The path of the request.
+    pub request: &'a str,
+    /// After how many conflicts the search gives up.
+    pub limit: u32,
+}
+
 /// Of which name the candidate is asked for.
 #[derive(Clone, Copy)]
 pub struct Query<'a> {
@@ -60,6 +71,8 @@ pub(crate) enum Call<'a> {
     Compare(CompareArguments<'a>),
     /// To name the candidate of a name.
     Candidate(Query<'a>),
+    /// To solve a request.
+    Solve(RequestArguments<'a>),
     /// To judge a plan.
     CheckPlan(Arguments<'a>),
     /// To judge a refutation.
@@ -87,10 +100,14 @@ pub(crate) fn call_of<'a>(alloc: Global, words: &'a [&'a str]) -> Result<Call<'a
     let call = match command {
         "compare" => comparison_in(values),
         "candidate" => query_in(values),
+        "solve" => request_in(values),
         "check-refutation" => refutation_in(values),
         _ => plan_in(values),
     };
-    call.ok_or_else(|| mistake(alloc, "a word is missing"))
+    call.ok_or_else(|| mistake(
+        alloc,
+        "a word is missing, or no number is given as the limit",
+    ))
 }
 
 fn comparison_in<'a>(values: &ArgMatches<'a>) -> Option<Call<'a>> {
@@ -127,6 +144,24 @@ fn query_in<'a>(values: &ArgMatches<'a>) -> Option<Call<'a>> {
     Some(Call::Candidate(Query {
         options: options_in(values)?,
         name: values.get_str("name")?,
+    }))
+}
+
+/// After how many conflicts a search gives up where nothing else is said.
+const DEFAULT_LIMIT: u32 = 100_000;
+
+fn limit_of(word: Option<&str>) -> Option<u32> {
+    match word {
+        None => Some(DEFAULT_LIMIT),
+        Some(word) => word.parse::<u32>().ok(),
+    }
+}
+
+fn request_in<'a>(values: &ArgMatches<'a>) -> Option<Call<'a>> {
+    Some(Call::Solve(RequestArguments {
+        options: options_in(values)?,
+        request: values.get_str("request")?,
+        limit: limit_of(values.get_str("limit"))?,
     }))
 }
 

@@ -7,11 +7,12 @@ use std::alloc::{AllocError, Global};
 pub(crate) fn program<'a>(alloc: Global) -> Result<Command<'a>, AllocError> {
     let program = Command::new(alloc, "debplan")
         .about(
-            "Compares versions, names candidates, and judges plans of dpkg actions and refutations",
+            "Solves requests for Debian packages, judges plans of dpkg actions and refutations, and compares versions",
         )
         .subcommand_required(true);
     let program = with(program, compare(alloc))?;
     let program = with(program, candidate(alloc))?;
+    let program = with(program, solve(alloc))?;
     let program = with(program, check_plan(alloc))?;
     with(program, check_refutation(alloc))
 }
@@ -43,6 +44,19 @@ fn candidate<'a>(alloc: Global) -> Result<Command<'a>, AllocError> {
         "Says which version of a package is to be chosen, and with which priority",
     );
     with_options(alloc, command)?.arg(word(alloc, "name", "NAME").help("The name of a package"))
+}
+
+fn solve<'a>(alloc: Global) -> Result<Command<'a>, AllocError> {
+    let command = Command::new(alloc, "solve").about(
+        "Finds a refutation of a request, or says why it is undecided",
+    );
+    with_options(alloc, command)?
+        .arg(option(alloc, "request", "FILE").help("The request: a goal on each line"))?
+        .arg(
+            option(alloc, "limit", "N")
+                .help("After how many conflicts to give up, 100000 where nothing is said")
+                .required(false),
+        )
 }
 
 fn check_plan<'a>(alloc: Global) -> Result<Command<'a>, AllocError> {

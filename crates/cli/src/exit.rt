@@ -4,7 +4,7 @@ ghost use Rattle.std.specs.Option.{option_copied};
 ghost use Rattle.cli.specs.Exit as Spec;
 
 use crate::candidate::Candidate;
-use cli_engine::{Fault, Refusal, RefutationVerdict};
+use cli_engine::{Fault, Refusal, RefutationVerdict, Solved};
 use rules::Verdict;
 
 /// How the program ends.
@@ -14,6 +14,8 @@ pub enum Exit {
     Success,
     /// The answer is no, or that a name has no candidate.
     No,
+    /// A request is undecided.
+    Undecided,
     /// A text is refused.
     Refused,
     /// The words of the command line are wrong.
@@ -30,6 +32,7 @@ impl Exit {
         match self {
             Exit::Success => 0,
             Exit::No => 1,
+            Exit::Undecided => 2,
             Exit::Refused => 3,
             Exit::Usage => 4,
             Exit::Device => 5,
@@ -54,6 +57,16 @@ pub fn exit_of_refutation(verdict: &RefutationVerdict) -> Exit
     match verdict {
         RefutationVerdict::Yes => Exit::Success,
         RefutationVerdict::No(_) => Exit::No,
+    }
+}
+
+/// How the program ends with this answer to a request.
+pub fn exit_of_solved(solved: &Solved) -> Exit
+    ensures { result ≡ Spec.exit_of_solved solved.now }
+{
+    match solved {
+        Solved::Refuted(_) => Exit::No,
+        Solved::Undecided(_) => Exit::Undecided,
     }
 }
 

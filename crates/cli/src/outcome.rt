@@ -1,16 +1,16 @@
 // What the program prints, and on which stream.
 ghost use Rattle.std.specs.Prelude.{◌≡◌, IfOk};
-ghost use Rattle.cli.specs.Outcome.{IsComplaint, IsOutcomeOf, IsOutcomeOfCandidate, IsOutcomeOfComparison, IsOutcomeOfRefusal, IsOutcomeOfRefutation};
+ghost use Rattle.cli.specs.Outcome.{IsComplaint, IsOutcomeOf, IsOutcomeOfCandidate, IsOutcomeOfComparison, IsOutcomeOfRefusal, IsOutcomeOfRefutation, IsOutcomeOfSolved};
 
-use crate::answer::{candidate_line, comparison_line, refutation_line, verdict_line};
+use crate::answer::{candidate_line, comparison_line, refutation_line, solved_text, verdict_line};
 use crate::candidate::Candidate;
 use crate::exit::{
     Exit, exit_of_candidate, exit_of_comparison, exit_of_refusal, exit_of_refutation,
-    exit_of_verdict,
+    exit_of_solved, exit_of_verdict,
 };
 use clap::Error;
 use clap::error::ErrorKind;
-use cli_engine::{Refusal, RefutationVerdict};
+use cli_engine::{Refusal, RefutationVerdict, Solved};
 use rules::{Items, Verdict};
 use std::alloc::{AllocError, Global};
 
@@ -52,6 +52,23 @@ pub fn outcome_of_refutation(
         Ok(verdict) => {
             let line = Items::new(refutation_line(alloc, verdict)?);
             Ok(Outcome::Answer(line, exit_of_refutation(verdict)))
+        }
+        Err(refusal) => outcome_of_refusal(alloc, refusal),
+    }
+}
+
+/// What is printed of the answer to a request: its text on standard output, or a refusal's on standard error. Memory alone
+/// can fail.
+pub fn outcome_of_solved(
+    alloc: Global,
+    answer: &Result<Solved, Refusal>,
+) -> Result<Outcome, AllocError>
+    ensures { IfOk result (λ outcome. IsOutcomeOfSolved answer.now outcome) }
+{
+    match answer {
+        Ok(solved) => {
+            let text = Items::new(solved_text(alloc, solved)?);
+            Ok(Outcome::Answer(text, exit_of_solved(solved)))
         }
         Err(refusal) => outcome_of_refusal(alloc, refusal),
     }

@@ -10,9 +10,10 @@ use crate::host::Host;
 use crate::judge::{check_plan, check_refutation};
 use crate::outcome::{
     Outcome, outcome_of_answer, outcome_of_candidate, outcome_of_comparison, outcome_of_refutation,
-    outcome_of_usage,
+    outcome_of_solved, outcome_of_usage,
 };
 use crate::print::{complain, print};
+use crate::solve::solve_request;
 use cli_engine::{Refusal, compare};
 use std::alloc::{AllocError, Global};
 use std::io::Write;
@@ -70,6 +71,9 @@ fn outcome_of_call<H: Host>(
         Call::Candidate(query) => {
             let answer = find_candidate(alloc, host, query);
             outcome_of_candidate(alloc, query.name.as_bytes(), &answer)
+        }
+        Call::Solve(arguments) => {
+            outcome_of_solved(alloc, &solve_request(alloc, host, arguments))
         }
         Call::CheckPlan(arguments) => {
             outcome_of_answer(alloc, &check_plan(alloc, host, arguments))

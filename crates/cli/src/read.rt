@@ -140,6 +140,21 @@ pub(crate) fn read_judged_texts<H: Host>(
     })
 }
 
+/// The text of the request, or nothing where reading has stopped; it stops here where the file can't be read. Memory alone
+/// can fail.
+pub(crate) fn read_request<H: Host>(
+    alloc: Global,
+    host: &mut H,
+    stopped_at: &mut Option<Input>,
+    path: &[u8],
+) -> Result<Vec<u8>, AllocError>
+    ensures text { (at : Files) → H.files host.old ≡ Some at
+        → IfOk result (λ text. IsFoundUnless stopped_at.new (at path.now) text.items) }
+    ensures stays { stopped_at.new ≡ None → stopped_at.old ≡ None }
+{
+    read_text(alloc, host, stopped_at, Input::Request, path)
+}
+
 // The text at this place, or nothing where reading has stopped; it stops here where the file can't be read.
 fn read_text<H: Host>(
     alloc: Global,

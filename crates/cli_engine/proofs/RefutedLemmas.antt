@@ -2,7 +2,6 @@
 use Rattle.std.proofs.Common.{◌≡◌, List, refl, ap, subst}
 use Rattle.candidates.specs.Inputs.{inputs_of}
 use Rattle.refutation.specs.declared.line.Line.{Line}
-use Rattle.refutation.specs.Laws.{HasAscendingPairs}
 use Rattle.rules.specs.Database.{Record}
 use Rattle.rules.specs.Universe.{Universe}
 use Rattle.refutecheck.specs.Answer.{IsVerdict}
@@ -17,11 +16,12 @@ use Rattle.refutation.proofs.LineLemmas.{one_answer as one_bad_line}
 use Rattle.refutation.proofs.NeededLemmas.{universe_has_needed_pairs}
 use Rattle.refutation.proofs.PremiseLemmas.{none_is_acceptable}
 use Rattle.cli_engine.specs.Refuted.{RefutationHasOneAnswer, YesRefutes}
+use Rattle.cli_engine.specs.Solution.{MeaningHasNeededPairs}
 
--- the pairs of the universe that texts denote ascend
-ascending_pairs : (texts : Texts) (u : Universe) (start : List Record) → Denotes texts u start → HasAscendingPairs u
-ascending_pairs texts u start is = (universe_has_needed_pairs (inputs_of start is.indices is.prefs (goals_of is.lines)) u
-    (distinct_start texts start is.indices is.read.listed) is.requested.built.universe).0
+-- the pairs of the universe that texts denote ascend, and those that must be selected are there
+pub needed-pairs : MeaningHasNeededPairs
+needed-pairs texts u start is = universe_has_needed_pairs (inputs_of start is.indices is.prefs (goals_of is.lines)) u
+    (distinct_start texts start is.indices is.read.listed) is.requested.built.universe
 
 pub yes-refutes : YesRefutes
 yes-refutes texts refutation answer = record {
@@ -30,7 +30,7 @@ yes-refutes texts refutation answer = record {
   denoted = answer.denoted;
   only = λ u begin also. (one_meaning texts answer.universe u answer.start begin answer.denoted also).0;
   none = none_is_acceptable answer.universe answer.lines
-      (ascending_pairs texts answer.universe answer.start answer.denoted) answer.holds;
+      (needed-pairs texts answer.universe answer.start answer.denoted).0 answer.holds;
 }
 
 -- lines have one verdict

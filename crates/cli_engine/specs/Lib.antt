@@ -6,4 +6,5 @@ pub mod Inputs
 pub mod Meaning
 pub mod Reading
 pub mod Refuted
+pub mod Solution
 pub mod Texts

@@ -2,6 +2,7 @@
 
 ghost use Rattle.cli_engine.specs.Meaning.{GoodPlanIsAnswered, HasOneAnswer, HasOneMeaning, MeaningIsNotRefused, YesKeepsPromise};
 ghost use Rattle.cli_engine.specs.Refuted.{RefutationHasOneAnswer, YesRefutes};
+ghost use Rattle.cli_engine.specs.Solution.{MeaningHasNeededPairs};
 
 /// Texts have one meaning: the universe and the start that they denote.
 pub fn texts_have_one_meaning()
@@ -11,6 +12,11 @@ pub fn texts_have_one_meaning()
 /// Texts that have a meaning aren't refused: a refusal beside it is the plan's, or memory was wanting.
 pub fn a_meaning_is_not_refused()
     ensures { MeaningIsNotRefused }
+{}
+
+/// The pairs of the universe that texts denote ascend, and those that must be selected are there.
+pub fn a_meaning_has_needed_pairs()
+    ensures { MeaningHasNeededPairs }
 {}
 
 /// A plan has one answer over texts.

@@ -1,0 +1,77 @@
+-- A clause of an encoding that has two pairs is the clause of a premise that leaves a choice.
+use Rattle.std.proofs.Common.{◌≡◌, ◌≢◌, ℕ, zero, suc, Bool, true, false, List, [], ◌∷◌, map, refl, sym, ap, subst, ◌∙◌}
+use Rattle.std.specs.Prelude.{ℤ, pos, negsuc, IsTrue}
+use Rattle.std.specs.List.{AllZip, Any, Contains}
+use Rattle.rules.specs.ElementLaws.{Any-elim, Contains-cons, Contains-head, Contains-map, Contains-nil, Contains-rest}
+use Rattle.rules.specs.Database.{IsQuiet, Record}
+use Rattle.rules.specs.Universe.{Universe}
+use Rattle.encode.specs.Encoding.{Encoding, IsClauseOf, IsEncoding, signed}
+use Rattle.refutation.specs.Premise.{IsInPremise, IsPremise}
+use Rattle.refutation.specs.declared.line.Premise.{Premise}
+use Rattle.refutation.specs.declared.literal.Literal.{Literal}
+use Rattle.refutation.specs.declared.literal.Literal.TheVariants as literal
+use Rattle.solver.specs.Choice.{HasAnother, HasTwo, IsOtherThan, is_pair}
+use Rattle.solver.specs.Solved.{IsAtLimit, IsUndecided, LeavesChoice}
+use Rattle.solver.specs.declared.solved.Undecided.{Undecided}
+use Rattle.solver.specs.declared.solved.Undecided.TheVariants as undecided
+use mathlib.Core.Logic.{inl, inr}
+
+-- the premise of a clause
+premise_of_clause : (u : Universe) (premises : List Premise) (clauses : List (List ℤ)) → AllZip (IsClauseOf u) premises clauses
+    → (clause : List ℤ) → Contains clauses clause → (found : Premise) × Contains premises found × IsClauseOf u found clause
+premise_of_clause u [] [] all clause within = absurd (Contains-nil clause within)
+premise_of_clause u [] (one ∷ clauses) all clause within = absurd all
+premise_of_clause u (premise ∷ premises) [] all clause within = absurd all
+premise_of_clause u (premise ∷ premises) (one ∷ clauses) all clause within = elim (Contains-cons one clauses clause within) [
+  | inl same ↦ let C : List ℤ → Type 0 = λ c. IsClauseOf u premise c in (premise, Contains-head premise premises, subst C same all.0)
+  | inr later ↦ let (rest, there, of) = premise_of_clause u premises clauses all.1 clause later in (rest, Contains-rest premise premises rest there, of)
+]
+
+-- a literal that says that a pair is selected
+selected_pair : (found : Literal) (number : ℤ) → signed found ≡ number → IsTrue (is_pair number) → (pair : ℕ) × (found ≡ literal.Selected pair)
+selected_pair (literal.Selected pair) number is so = (pair, refl)
+selected_pair (literal.Unselected zero) number is so =
+    let P : ℤ → Type 0 = λ z. IsTrue (is_pair z) in absurd (let e : false ≡ true = subst P (sym is) so in cc)
+selected_pair (literal.Unselected (suc below)) number is so =
+    let P : ℤ → Type 0 = λ z. IsTrue (is_pair z) in absurd (let e : false ≡ true = subst P (sym is) so in cc)
+
+-- two pairs of the clause of a premise
+two_pairs : (u : Universe) (premise : Premise) (clause : List ℤ) → IsPremise u premise → IsClauseOf u premise clause → (one two : ℤ)
+    → Contains clause one → Contains clause two → IsTrue (is_pair one) → IsTrue (is_pair two) → two ≢ one → LeavesChoice u
+unfolding IsClauseOf
+two_pairs u premise clause so (literals, list, same) one two one_in two_in first second differ =
+    let One : List ℤ → Type 0 = λ zs. Contains zs one in
+    let Two : List ℤ → Type 0 = λ zs. Contains zs two in
+    let (left, left_in, left_is) = Contains-map signed literals one (subst One same one_in) in
+    let (right, right_in, right_is) = Contains-map signed literals two (subst Two same two_in) in
+    let (pair, pair_is) = selected_pair left one left_is first in
+    let (other, other_is) = selected_pair right two right_is second in
+    let In : Literal → Type 0 = λ l. IsInPremise u premise l in (
+      premise,
+      pair,
+      other,
+      so,
+      (λ equal. differ (sym right_is ∙ ap signed (other_is ∙ ap literal.Selected (sym equal) ∙ sym pair_is) ∙ left_is)),
+      subst In pair_is ((list left).0 left_in),
+      subst In other_is ((list right).0 right_in),
+    )
+
+pub choice_left : (u : Universe) (encoding : Encoding) → IsEncoding u encoding → Any HasTwo encoding.clauses.clauses → LeavesChoice u
+unfolding HasTwo
+choice_left u encoding is some = Any-elim HasTwo encoding.clauses.clauses (LeavesChoice u)
+    (λ clause within two.
+    let (premise, there, of) = premise_of_clause u encoding.premises encoding.clauses.clauses is.clauses clause within in
+    Any-elim (HasAnother clause) clause (LeavesChoice u)
+    (λ one one_in (first, others).
+    Any-elim (IsOtherThan one) clause (LeavesChoice u)
+    (λ other other_in (second, differ). two_pairs u premise clause (is.sound premise there) of one other one_in other_in first second differ)
+    others) two) some
+
+-- what is answered at the limit is true of the universe
+pub undecided_at_limit : (u : Universe) (start : List Record) (encoding : Encoding) (limit reached : ℕ) (why : Undecided) → IsQuiet start
+    → IsEncoding u encoding → reached ≡ limit → IsAtLimit encoding reached why → IsUndecided u start limit why
+undecided_at_limit u start encoding limit reached (undecided.Limit at) quiet is same (equal, some) =
+    (quiet, equal ∙ same, choice_left u encoding is some)
+undecided_at_limit u start encoding limit reached undecided.Start quiet is same none = absurd none
+undecided_at_limit u start encoding limit reached undecided.Stuck quiet is same none = absurd none
+undecided_at_limit u start encoding limit reached undecided.Unchecked quiet is same none = quiet
