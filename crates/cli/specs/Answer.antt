@@ -4,6 +4,7 @@ use Rattle.std.specs.Fmt.{signed_decimal}
 use Rattle.candidates.specs.Offer.{Offer}
 use Rattle.refutecheck.specs.declared.verdict.Verdict.{Verdict as Refuted}
 use Rattle.refutecheck.specs.declared.verdict.Verdict.TheVariants as refuted
+use Rattle.plantext.specs.Plan.{plan_text}
 use Rattle.refutation_text.specs.Text.{refutation_text}
 use Rattle.rules.specs.declared.step.Reason.{Reason}
 use Rattle.rules.specs.declared.step.Reason.TheVariants as reason
@@ -23,8 +24,9 @@ undecided_line undecided.Start = codes "undecided blocked start\n"
 undecided_line undecided.Stuck = codes "undecided blocked stuck\n"
 undecided_line undecided.Unchecked = codes "undecided unchecked\n"
 
--- the answer to a request: a refutation, or why it is undecided
+-- the answer to a request: a plan, a refutation, or why it is undecided
 abbrev pub solved_text : Solved → List ℕ
+solved_text (solved.Plan steps) = plan_text steps.items
 solved_text (solved.Refuted lines) = refutation_text lines
 solved_text (solved.Undecided why) = undecided_line why
 

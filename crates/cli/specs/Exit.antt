@@ -32,8 +32,9 @@ abbrev pub exit_of_refutation : Refuted → Exit
 exit_of_refutation refuted.Yes = exit.Success
 exit_of_refutation (refuted.No number) = exit.No
 
--- no where a request is refuted
+-- success for a plan, and no where a request is refuted
 abbrev pub exit_of_solved : Solved → Exit
+exit_of_solved (solved.Plan steps) = exit.Success
 exit_of_solved (solved.Refuted lines) = exit.No
 exit_of_solved (solved.Undecided why) = exit.Undecided
 

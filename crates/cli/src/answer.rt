@@ -7,6 +7,7 @@ ghost use Rattle.cli.specs.Answer as Spec;
 
 use crate::candidate::Candidate;
 use cli_engine::{RefutationVerdict, Solved, Undecided};
+use plantext::write_plan;
 use refutation_text::write_refutation;
 use rules::{Reason, Rule, Text, Verdict};
 use std::alloc::{AllocError, Global};
@@ -34,12 +35,16 @@ pub fn refutation_line(alloc: Global, verdict: &RefutationVerdict) -> Result<Vec
     }
 }
 
-/// The text that is printed of the answer to a request: a refutation, or `undecided` with what it is undecided for. Memory
+/// The text that is printed of the answer to a request: a plan, a refutation, or `undecided` with what it is undecided for. Memory
 /// alone can fail.
 pub fn solved_text(alloc: Global, solved: &Solved) -> Result<Vec<u8>, AllocError>
     ensures { IfOk result (λ text. text.items ≡ Spec.solved_text solved.now) }
 {
     match solved {
+        Solved::Plan(steps) => {
+            let text = write_plan(alloc, steps.as_slice())?;
+            Ok(text)
+        }
         Solved::Refuted(refutation) => {
             let text = write_refutation(alloc, refutation)?;
             Ok(text)

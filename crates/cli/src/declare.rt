@@ -48,7 +48,7 @@ fn candidate<'a>(alloc: Global) -> Result<Command<'a>, AllocError> {
 
 fn solve<'a>(alloc: Global) -> Result<Command<'a>, AllocError> {
     let command = Command::new(alloc, "solve").about(
-        "Finds a refutation of a request, or says why it is undecided",
+        "Finds a plan of dpkg actions for a request, or a refutation of it",
     );
     with_options(alloc, command)?
         .arg(option(alloc, "request", "FILE").help("The request: a goal on each line"))?

@@ -65,6 +65,7 @@ pub fn exit_of_solved(solved: &Solved) -> Exit
     ensures { result ≡ Spec.exit_of_solved solved.now }
 {
     match solved {
+        Solved::Plan(_) => Exit::Success,
         Solved::Refuted(_) => Exit::No,
         Solved::Undecided(_) => Exit::Undecided,
     }

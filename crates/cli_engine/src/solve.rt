@@ -3,6 +3,7 @@
 ghost use Rattle.std.specs.Prelude.{◌<◌, ◌^◌, IfErr, IfOk, length};
 ghost use Rattle.candidates.specs.Inputs.{indices_of};
 ghost use Rattle.refutation.specs.Laws.{HasAscendingPairs, HasNeededPairs};
+ghost use Rattle.rules.specs.Verdict.{IsBuiltOn};
 ghost use Rattle.status_store.specs.Slots.{slot_records};
 ghost use Rattle.universe.specs.Universe.{HaveDistinctNames};
 ghost use Rattle.solver.specs.Solved.{IsSolved};
@@ -30,6 +31,7 @@ fn solve_from<'a>(
     universe: &Universe<'_, 'a>,
     limit: u32,
 ) -> Result<Solved, AllocError>
+    requires built { IsBuiltOn (slot_records database.now.slots) universe.now }
     requires few { length universe.now.pairs < 2 ^ 32 }
     requires distinct { HaveDistinctNames universe.now.starts }
     requires ascending { HasAscendingPairs universe.now }
@@ -65,9 +67,9 @@ fn solve_by<'a>(
     Ok(solved)
 }
 
-/// Solves the request by the texts, with at most so many conflicts of the search: a refutation that is accepted over the
-/// universe that they denote, so that no set of admitted pairs is acceptable; or why it is undecided; or the first refusal
-/// in the order status, sources, indices, preferences, request; where memory was wanting, that is answered instead. Reading
+/// Solves the request by the texts, with at most so many conflicts of the search: a plan that is good over what they denote;
+/// a refutation that is accepted over it, so that no set of admitted pairs is acceptable; or why it is undecided; or the
+/// first refusal in the order status, sources, indices, preferences, request; where memory was wanting, that is answered instead. Reading
 /// costs what `check_plan_bytes` says; solving costs what `solver::solve` says.
 pub fn solve_bytes(alloc: Global, inputs: &Inputs<'_, '_>, limit: u32) -> Result<Solved, Refusal>
     requires { HasItsIndices (sources_of (texts_of inputs.now).sources) (texts_of inputs.now).indices }

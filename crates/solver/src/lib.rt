@@ -1,9 +1,10 @@
-// Solves a request over its universe: encodes it into clauses, searches, and has what was found judged. It stands on
-// `encode` and `search`, which find, and on the judges, which share nothing with these. The main call is `solve`.
+// Solves a request over its universe: encodes it into clauses, searches, puts a selection in order, and has what was found
+// judged. It stands on `encode`, `search` and `order`, which find, and on the judges, which share nothing with these. The main call is `solve`.
 #![tactic(auto)]
 
 mod choice;
 mod convert;
+mod plan;
 mod solve_request;
 mod solved;
 

@@ -3,6 +3,7 @@
 ghost use Rattle.std.specs.Prelude.{◌≡◌, ◌^◌, ◌<◌, IfOk, length};
 ghost use Rattle.refutation.specs.Laws.{HasAscendingPairs, HasNeededPairs};
 ghost use Rattle.rules.specs.Database.{IsQuiet};
+ghost use Rattle.rules.specs.Verdict.{IsBuiltOn};
 ghost use Rattle.universe.specs.Universe.{HaveDistinctNames};
 ghost use Rattle.encode.specs.Encoding.{IsEncoding};
 ghost use Rattle.search.specs.Found.{IsAnswer};
@@ -10,6 +11,7 @@ ghost use Rattle.solver.specs.Solved.{IsAtLimit, IsSolved};
 
 use crate::choice::some_has_two;
 use crate::convert::refutation_of;
+use crate::plan::planned;
 use crate::solved::{Solved, Undecided};
 use encode::{Encoding, encode, true_selection_is_acceptable};
 use plancheck::is_quiet;
@@ -52,14 +54,15 @@ fn at_limit(encoding: &Encoding<'_>, limit: u32) -> Undecided
 }
 
 // What is answered where this was found.
-fn answer_of(
+fn answer_of<'p, 'a>(
     alloc: Global,
-    start: &Records<'_, '_>,
-    universe: &Universe<'_, '_>,
+    start: &Records<'p, 'a>,
+    universe: &Universe<'_, 'a>,
     encoding: &Encoding<'_>,
     found: &Found,
     limit: u32,
 ) -> Result<Solved, AllocError>
+    requires built { IsBuiltOn start.now universe.now }
     requires quiet { IsQuiet start.now }
     requires encoding { IsEncoding universe.now encoding.now }
     requires found { IsAnswer encoding.now.clauses limit found.now }
@@ -71,7 +74,10 @@ fn answer_of(
 {
     true_selection_is_acceptable();
     match found {
-        Found::Selection(_) => Ok(Solved::Undecided(Undecided::Stuck)),
+        Found::Selection(numbers) => {
+            let solved = planned(alloc, start, universe, numbers.as_slice(), limit)?;
+            Ok(solved)
+        }
         Found::Refutation(refutation) => {
             let solved = judged(alloc, start, universe, encoding, refutation, limit)?;
             Ok(solved)
@@ -84,13 +90,14 @@ fn answer_of(
 }
 
 // Searches, where the start is quiet.
-fn search_by(
+fn search_by<'p, 'a>(
     alloc: Global,
-    start: &Records<'_, '_>,
-    universe: &Universe<'_, '_>,
+    start: &Records<'p, 'a>,
+    universe: &Universe<'_, 'a>,
     encoding: &Encoding<'_>,
     limit: u32,
 ) -> Result<Solved, AllocError>
+    requires built { IsBuiltOn start.now universe.now }
     requires quiet { IsQuiet start.now }
     requires encoding { IsEncoding universe.now encoding.now }
     requires few { length universe.now.pairs < 2 ^ 32 }
@@ -105,15 +112,18 @@ fn search_by(
     Ok(solved)
 }
 
-/// Solves the request of the universe from this start, with at most so many conflicts of the search above level 0: a
-/// refutation that is accepted, so that no selection is acceptable; or why it is undecided. A start in which packages
-/// conflict isn't searched. Costs what `encode`, `search` and `check_refutation` cost. Memory alone can fail.
-pub fn solve(
+/// Solves the request of the universe from this start, with at most so many conflicts of the search above level 0: a plan
+/// that is judged good; a refutation that is accepted, so that no selection is acceptable; or why it is undecided. A start
+/// in which packages conflict isn't searched. Costs what `encode` and `search` cost, and then `order` and `check_plan`, or
+/// `check_refutation`. Memory alone can fail.
+pub fn solve<'p, 'a>(
     alloc: Global,
-    start: &Records<'_, '_>,
-    universe: &Universe<'_, '_>,
+    start: &Records<'p, 'a>,
+    universe: &Universe<'_, 'a>,
     limit: u32,
 ) -> Result<Solved, AllocError>
+    // the universe is built on the start
+    requires built { IsBuiltOn start.now universe.now }
     // pairs have numbers of 32 bits, as those of a request have (`rules::PAIRS`)
     requires few { length universe.now.pairs < 2 ^ 32 }
     // no two facts of the start are about one name, as of a status file

@@ -1,10 +1,13 @@
 // The answer to a request.
 
 use refutation::Refutation;
+use rules::Step;
 
-/// The answer: a refutation that was accepted, or that the request is undecided.
+/// The answer: a plan that was judged, a refutation that was accepted, or that the request is undecided.
 #[derive(Drop)]
 pub enum Solved {
+    /// These steps are a plan.
+    Plan(Vec<Step>),
     /// No selection is acceptable, and this shows it.
     Refuted(Refutation),
     /// Nothing was found that was accepted.
@@ -18,8 +21,8 @@ pub enum Undecided {
     Limit(u32),
     /// Two packages that are present at the start conflict.
     Start,
-    /// A selection was found, and no plan for it.
+    /// A selection was found, and no order of steps for it.
     Stuck,
-    /// What was found as a refutation isn't accepted.
+    /// What was found isn't accepted.
     Unchecked,
 }

@@ -1,28 +1,26 @@
 -- A selection is acceptable, and at the limit some clause leaves a choice.
-use Rattle.std.proofs.Common.{ℕ, ◌≤◌, subst}
+use Rattle.std.proofs.Common.{ℕ, ◌≤◌, List, subst, sym}
 use Rattle.std.specs.List.{All}
 use Rattle.std.proofs.lemmas.List.Elements.{All-weaker}
 use Rattle.encode.specs.Selection.{selects}
+use Rattle.rules.specs.Sound.{IsAcceptable}
 use Rattle.search.specs.Found.{IsAnswer}
 use Rattle.search.specs.declared.found.Found.{Found}
 use Rattle.search.specs.declared.found.Found.TheVariants as found
 use Rattle.solver.proofs.ChoiceLemmas.{undecided_at_limit}
 use Rattle.solver.proofs.solve_request.answer_of.Goals as goal
 
-pub returns-in-Selection : goal.returns-in-Selection
-returns-in-Selection c =
+pub planned-requires-clause-acceptable : goal.planned-requires-clause-acceptable
+planned-requires-clause-acceptable c =
     let Is : Found → Type 0 = λ f. IsAnswer c.args.encoding.now.clauses c.args.limit f in
-    let answer : Is (found.Selection c.in-Selection.field-0) = subst Is c.in-Selection.is c.requires.found in
-    let bounds : All (λ number. (1 ≤ number) × (number ≤ c.args.encoding.now.clauses.numbers)) c.in-Selection.field-0.items = answer.0.1 in (
-      c.requires.quiet,
-      (
-        selects c.in-Selection.field-0.items,
-        c.true_selection_is_acceptable.ensures c.args.universe.now c.args.encoding.now c.in-Selection.field-0.items c.requires.ascending
-            c.requires.needed c.requires.encoding
-            (All-weaker (λ number. (1 ≤ number) × (number ≤ c.args.encoding.now.clauses.numbers)) (λ number. 1 ≤ number)
-            (λ number both. both.0) c.in-Selection.field-0.items bounds) answer.1,
-      ),
-    )
+    let answer : Is (found.Selection c.in-Selection.numbers) = subst Is c.in-Selection.is c.requires.found in
+    let bounds : All (λ number. (1 ≤ number) × (number ≤ c.args.encoding.now.clauses.numbers)) c.in-Selection.numbers.items = answer.0.1 in
+    let Over : List ℕ → Type 0 = λ xs. IsAcceptable c.args.universe.now (selects xs) in
+    subst Over (sym c.as_slice.ensures.value)
+    (c.true_selection_is_acceptable.ensures c.args.universe.now c.args.encoding.now c.in-Selection.numbers.items c.requires.ascending
+    c.requires.needed c.requires.encoding
+    (All-weaker (λ number. (1 ≤ number) × (number ≤ c.args.encoding.now.clauses.numbers)) (λ number. 1 ≤ number)
+    (λ number both. both.0) c.in-Selection.numbers.items bounds) answer.1)
 
 pub returns-in-Limit : goal.returns-in-Limit
 returns-in-Limit c =

@@ -1,0 +1,15 @@
+-- The judge says yes to a good plan.
+use Rattle.std.proofs.Common.{List, subst}
+use Rattle.rules.specs.Run.{IsGoodPlan}
+use Rattle.rules.specs.Verdict.{IsVerdict}
+use Rattle.rules.specs.declared.step.Step.{Step}
+use Rattle.rules.specs.declared.step.Verdict.{Verdict}
+use Rattle.rules.specs.declared.step.Verdict.TheVariants as verdict
+use Rattle.solver.proofs.plan.judged_plan.Goals as goal
+
+pub returns-in-Yes : goal.returns-in-Yes
+returns-in-Yes c =
+    let Is : Verdict → Type 0 = λ found. IsVerdict c.args.universe.now c.args.start.now c.as_slice.result.now found in
+    let Good : List Step → Type 0 = λ steps. IsGoodPlan c.args.universe.now c.args.start.now steps in
+    let yes : Is verdict.Yes = subst Is c.in-Yes.is c.in_ok-verdict.ensures in
+    (subst Good c.as_slice.ensures.value yes, c.requires.planned)

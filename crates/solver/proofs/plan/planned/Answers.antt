@@ -1,0 +1,19 @@
+-- What the order promises of the selection.
+use Rattle.std.proofs.Common.{subst}
+use Rattle.order.specs.Order.{IsOrder}
+use Rattle.order.specs.Selection.{chosen}
+use Rattle.order.specs.declared.ordered.Ordered.{Ordered}
+use Rattle.order.specs.declared.ordered.Ordered.TheVariants as ordered
+use Rattle.solver.proofs.plan.planned.Goals as goal
+
+pub judged_plan-requires-clause-planned : goal.judged_plan-requires-clause-planned
+judged_plan-requires-clause-planned c =
+    let Is : Ordered → Type 0 = λ found. IsOrder c.args.universe.now c.args.start.now (chosen c.args.universe.now c.args.selection.now) found in
+    let planned : Is (ordered.Plan c.in-Plan.steps) = subst Is c.in-Plan.is c.in_ok-found.ensures in
+    (c.args.selection.now, c.requires.acceptable, planned)
+
+pub returns-in-Stuck : goal.returns-in-Stuck
+returns-in-Stuck c =
+    let Is : Ordered → Type 0 = λ found. IsOrder c.args.universe.now c.args.start.now (chosen c.args.universe.now c.args.selection.now) found in
+    let stuck : Is (ordered.Stuck c.in-Stuck.field-0) = subst Is c.in-Stuck.is c.in_ok-found.ensures in
+    (c.requires.quiet, (c.args.selection.now, c.requires.acceptable, (c.in-Stuck.field-0.items, stuck)))

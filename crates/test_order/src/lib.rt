@@ -1,6 +1,0 @@
-//! What `order` answers of small selections, row by row. This crate has tests alone, so that `order` isn't proved once more with
-//! each of them.
-#![tactic(auto)]
-
-#[cfg(test)]
-mod orders;
