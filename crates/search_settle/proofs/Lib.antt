@@ -1,0 +1,13 @@
+pub mod AskedLemmas
+pub mod DistanceLemmas
+pub mod EncodedLemmas
+pub mod KnowingLemmas
+pub mod MinimalLemmas
+pub mod OccurrenceLemmas
+pub mod PartLemmas
+pub mod ReachLemmas
+pub mod RestLemmas
+pub mod SelectionLemmas
+pub mod StartLemmas
+pub mod StateLemmas
+pub mod TruthLemmas

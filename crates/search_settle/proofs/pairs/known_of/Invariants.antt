@@ -1,0 +1,6 @@
+-- What is known of the pairs so far is so.
+use Rattle.search_settle.specs.Knowing.{IsKnownTo}
+use Rattle.search_settle.proofs.pairs.known_of.Given as goal
+
+abbrev pub invariant-loop-pair : goal.invariant-loop-pair
+invariant-loop-pair l = IsKnownTo l.universe l.known l.pair-index

@@ -1,0 +1,12 @@
+pub mod Truth
+pub mod Change
+pub mod Occurrences
+pub mod Given
+pub mod Moves
+pub mod Reach
+pub mod Settled
+pub mod Encoded
+pub mod Laws
+pub mod Knowing
+pub mod Selected
+pub mod Asked
