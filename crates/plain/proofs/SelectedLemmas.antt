@@ -64,7 +64,7 @@ abbrev is_it : Pkg → Record → Bool
 is_it pkg found = is_named pkg.name found && stands found && same_version found.version pkg.version
 
 -- the version stands where the test finds a record, and only there
-none_stands : (start : List Record) (pkg : Pkg) → ¬ StandsAs start pkg.name pkg.version
+pub none_stands : (start : List Record) (pkg : Pkg) → ¬ StandsAs start pkg.name pkg.version
     → not (is_some (standing_record start pkg.name pkg.version)) ≡ true
 unfolding StandsAs
 none_stands start pkg none = ap (λ (o : Option Record). not (is_some o)) (find_nothing (is_it pkg) start (λ found there passes.
@@ -84,7 +84,7 @@ finds {X} p (y ∷ ys) x within passes = at (p y) refl (Contains-cons y ys x wit
     at false is (inl same) later = absurd (let e : true ≡ false = sym passes ∙ ap p (sym same) ∙ is in cc)
     at false is (inr there) later = later there
 
-some_stands : (start : List Record) (pkg : Pkg) → not (is_some (standing_record start pkg.name pkg.version)) ≡ true
+pub some_stands : (start : List Record) (pkg : Pkg) → not (is_some (standing_record start pkg.name pkg.version)) ≡ true
     → ¬ StandsAs start pkg.name pkg.version
 unfolding StandsAs
 some_stands start pkg fails stands = Any-elim (λ (r : Record). (r.name ≡ pkg.name) × (Stands r × SameVersion r.version pkg.version)) start ⊥

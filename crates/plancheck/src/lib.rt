@@ -13,6 +13,7 @@ mod table;
 mod unpack;
 
 pub use check::check_plan;
+pub use held::{is_not_held, stands_as};
 pub use quiet::is_quiet;
 pub use step::{apply, legal};
 pub use table::{
