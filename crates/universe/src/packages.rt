@@ -29,8 +29,8 @@ impl<'u, 'a> Model for CountingPkg<'u, 'a> {
 }
 
 impl<'u, 'a> CountingPkg<'u, 'a> {
-    // The package of the pair.
-    pub(crate) fn of_pair(
+    /// The package of the pair. Memory alone can fail.
+    pub fn of_pair(
         alloc: Global,
         pair: &'u Pair<'_, 'a>,
     ) -> Result<CountingPkg<'u, 'a>, AllocError>
