@@ -1,20 +1,47 @@
 // The arguments that the program takes, as they are declared.
 
-use clap::{Arg, Command};
+use clap::{Arg, Command, value_parser};
 use std::alloc::{AllocError, Global};
+
+/// The version of the program.
+const VERSION: &str = "0.1.0";
+
+/// The version of the program, and the toolchain that proves it (`rt version`).
+const VERSION_AND_TOOLCHAIN: &str = "0.1.0\ntoolchain: rattle-kit-13f logic dac8208d650f15bf";
+
+/// What each exit status means, as it stands below each help.
+const EXIT_STATUSES: &str = "Exit status:
+  0  yes, a plan, a candidate, or help
+  1  no, a refutation, or no candidate
+  2  undecided: the search gave up, or no order of steps was found
+  3  an input is malformed: standard error names the file, the fault and its place
+  4  the command line is wrong
+  5  a file can't be read, memory is exhausted, or the answer can't be written";
+
+/// What is said of a command that there is none of, behind what is wrong with it.
+pub(crate) const COMMANDS: &str =
+    "Commands: compare, candidate, solve, check-plan, check-refutation, help\n";
 
 /// The command line of the program. Memory alone can fail.
 pub(crate) fn program<'a>(alloc: Global) -> Result<Command<'a>, AllocError> {
-    let program = Command::new(alloc, "debplan")
-        .about(
-            "Solves requests for Debian packages, judges plans of dpkg actions and refutations, and compares versions",
-        )
+    let program = named(
+        alloc,
+        "debplan",
+        "Find and check plans of dpkg actions for Debian packages",
+    )
+        .version(VERSION)
+        .long_version(VERSION_AND_TOOLCHAIN)
         .subcommand_required(true);
     let program = with(program, compare(alloc))?;
     let program = with(program, candidate(alloc))?;
     let program = with(program, solve(alloc))?;
     let program = with(program, check_plan(alloc))?;
     with(program, check_refutation(alloc))
+}
+
+// The command of this name, which does this.
+fn named<'a>(alloc: Global, name: &'a str, about: &'a str) -> Command<'a> {
+    Command::new(alloc, name).about(about).after_help(EXIT_STATUSES)
 }
 
 fn with<'a>(
@@ -28,71 +55,83 @@ fn with<'a>(
 pub(crate) const RELATION_WORDS: [&str; 6] = ["lt", "le", "eq", "ne", "ge", "gt"];
 
 fn compare<'a>(alloc: Global) -> Result<Command<'a>, AllocError> {
-    Command::new(alloc, "compare")
-        .about("Says whether a version stands so to another in the order of versions")
+    named(alloc, "compare", "Compare two versions")
         .arg(word(alloc, "version", "V").help("A version"))?
         .arg(
             word(alloc, "relation", "REL")
-                .help("How V is to stand to W")
+                .help("How V is to compare to W, as for dpkg --compare-versions")
                 .value_parser(RELATION_WORDS.as_slice()),
         )?
-        .arg(word(alloc, "other", "W").help("The version that it is compared with"))
+        .arg(word(alloc, "other", "W").help("The version to compare it to"))
 }
 
 fn candidate<'a>(alloc: Global) -> Result<Command<'a>, AllocError> {
-    let command = Command::new(alloc, "candidate").about(
-        "Says which version of a package is to be chosen, and with which priority",
+    let command = named(
+        alloc,
+        "candidate",
+        "Show the candidate version of a package and its priority",
     );
     with_options(alloc, command)?.arg(word(alloc, "name", "NAME").help("The name of a package"))
 }
 
 fn solve<'a>(alloc: Global) -> Result<Command<'a>, AllocError> {
-    let command = Command::new(alloc, "solve").about(
-        "Finds a plan of dpkg actions for a request, or a refutation of it",
-    );
+    let command = named(alloc, "solve", "Find a plan for a request, or a refutation");
     with_options(alloc, command)?
-        .arg(option(alloc, "request", "FILE").help("The request: a goal on each line"))?
+        .arg(request(alloc))?
         .arg(
             option(alloc, "limit", "N")
-                .help("After how many conflicts to give up, 100000 where nothing is said")
+                .help("Give up after N conflicts of the search, 100000 if not given")
+                .value_parser(value_parser!(u32))
                 .required(false),
         )
 }
 
 fn check_plan<'a>(alloc: Global) -> Result<Command<'a>, AllocError> {
-    let command = Command::new(alloc, "check-plan").about(
-        "Says whether every step of a plan is allowed when its turn comes, and its end is good",
+    let command = named(
+        alloc,
+        "check-plan",
+        "Check a plan of dpkg actions: each step by Policy, and the end",
     );
     with_options(alloc, command)?
-        .arg(option(alloc, "request", "FILE").help("The request: a goal on each line"))?
-        .arg(word(alloc, "plan", "PLAN").help("The plan: a step on each line"))
+        .arg(request(alloc))?
+        .arg(word(alloc, "plan", "PLAN").help("The plan, with an action on each line"))
 }
 
 fn check_refutation<'a>(alloc: Global) -> Result<Command<'a>, AllocError> {
-    let command = Command::new(alloc, "check-refutation").about(
-        "Says whether a refutation proves that no choice of versions satisfies the request",
+    let command = named(
+        alloc,
+        "check-refutation",
+        "Check a refutation: that no choice of versions fulfils the request",
     );
     with_options(alloc, command)?
-        .arg(option(alloc, "request", "FILE").help("The request: a goal on each line"))?
-        .arg(word(alloc, "refutation", "REFUTATION").help(
-            "The refutation: a premise or a derived clause on each line",
-        ))
+        .arg(request(alloc))?
+        .arg(
+            word(alloc, "refutation", "REFUTATION")
+                .help("The refutation, with a premise or a derived clause on each line"),
+        )
+}
+
+fn request<'a>(alloc: Global) -> Arg<'a> {
+    option(alloc, "request", "FILE").help("The request, with a goal on each line: install hello")
 }
 
 // The command with the options that say which packages there are, and what is preferred among them.
 fn with_options<'a>(alloc: Global, command: Command<'a>) -> Result<Command<'a>, AllocError> {
     command
-        .arg(option(alloc, "arch", "ARCH").help("The architecture that packages are for"))?
+        .arg(option(alloc, "arch", "ARCH").help("The architecture, such as amd64"))?
         .arg(option(alloc, "status", "FILE").help("The status file of dpkg"))?
-        .arg(option(alloc, "sources", "FILE").help("The sources: a stanza for each index"))?
+        .arg(
+            option(alloc, "sources", "FILE")
+                .help("The list of Packages files with their release keys"),
+        )?
         .arg(
             option(alloc, "preferences", "FILE")
-                .help("The preferences: a stanza for each record")
+                .help("Pins, as in apt_preferences(5)")
                 .required(false),
         )?
         .arg(
             option(alloc, "target", "REL")
-                .help("The target release")
+                .help("The release to prefer, as for apt-get --target-release")
                 .required(false),
         )
 }

@@ -4,6 +4,7 @@ ghost use Rattle.cli.specs.Outcome.{IsComplaint, IsOutcomeOf, IsOutcomeOfCandida
 
 use crate::answer::{candidate_line, comparison_line, refutation_line, solved_text, verdict_line};
 use crate::candidate::Candidate;
+use crate::declare::COMMANDS;
 use crate::exit::{
     Exit, exit_of_candidate, exit_of_comparison, exit_of_refusal, exit_of_refutation,
     exit_of_solved, exit_of_verdict,
@@ -130,10 +131,19 @@ pub(crate) fn outcome_of_usage(alloc: Global, error: &Error) -> Result<Outcome, 
     if error.kind() == ErrorKind::OutOfMemory {
         return Err(AllocError);
     }
-    let text = Items::new(error.to_string(alloc)?.into_bytes());
+    let text = Items::new(usage_text(alloc, error)?.into_bytes());
     if error.use_stderr() {
         Ok(Outcome::Complaint(text, Exit::Usage))
     } else {
         Ok(Outcome::Answer(text, Exit::Success))
     }
+}
+
+// The text of this error, and the commands where one is named that there is none of.
+fn usage_text(alloc: Global, error: &Error) -> Result<String, AllocError> {
+    let mut text = error.to_string(alloc)?;
+    if error.kind() == ErrorKind::InvalidSubcommand {
+        text.push_str(COMMANDS)?;
+    }
+    Ok(text)
 }
