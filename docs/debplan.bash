@@ -1,0 +1,42 @@
+# completion for debplan, written by tools/manual from the help of the program
+_debplan()
+{
+    local word=${COMP_WORDS[COMP_CWORD]} before=${COMP_WORDS[COMP_CWORD-1]} command=${COMP_WORDS[1]}
+    COMPREPLY=()
+    if [ "$COMP_CWORD" -eq 1 ]; then
+        COMPREPLY=($(compgen -W "compare candidate solve check-plan check-refutation help --help --version" -- "$word"))
+        return
+    fi
+    case $before in
+        --preferences | --request | --sources | --status)
+            COMPREPLY=($(compgen -f -- "$word"))
+            return
+            ;;
+        --arch | --limit | --target)
+            return
+            ;;
+    esac
+    case $command in
+        compare)
+            COMPREPLY=($(compgen -W "--help lt le eq ne ge gt" -- "$word"))
+            ;;
+        candidate)
+            COMPREPLY=($(compgen -W "--arch --status --sources --preferences --target --help" -- "$word"))
+            ;;
+        solve)
+            COMPREPLY=($(compgen -W "--arch --status --sources --preferences --target --request --limit --help" -- "$word"))
+            ;;
+        check-plan)
+            COMPREPLY=($(compgen -W "--arch --status --sources --preferences --target --request --help" -- "$word"))
+            COMPREPLY+=($(compgen -f -- "$word"))
+            ;;
+        check-refutation)
+            COMPREPLY=($(compgen -W "--arch --status --sources --preferences --target --request --help" -- "$word"))
+            COMPREPLY+=($(compgen -f -- "$word"))
+            ;;
+        help)
+            COMPREPLY=($(compgen -W "compare candidate solve check-plan check-refutation" -- "$word"))
+            ;;
+    esac
+}
+complete -o filenames -F _debplan debplan
