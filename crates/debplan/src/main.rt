@@ -2,9 +2,9 @@
 #![tactic(auto)]
 
 use cli::{Host, ReadError, ReadFailed, Source, refuse_for_memory, run};
+use rules::TEXT_BYTES;
 use std::alloc::{AllocError, Global};
 use std::env::{Env, FillError};
-use std::fs;
 use std::fs::File;
 use std::io::{ErrorKind, Read};
 use std::process::ExitCode;
@@ -37,14 +37,13 @@ struct Disk<'a> {
 impl Host for Disk<'_> {
     type Text = Opened;
 
-    fn read(&mut self, _alloc: Global, path: &[u8]) -> Result<Vec<u8>, ReadError> {
-        let Ok(path) = str::from_utf8(path) else {
-            return Err(ReadError::Unreadable);
-        };
-        match fs::read(self.rt, path) {
-            Ok(text) => Ok(text),
-            Err(error) if error.kind() == ErrorKind::OutOfMemory => Err(ReadError::OutOfMemory),
-            Err(_) => Err(ReadError::Unreadable),
+    fn read(&mut self, alloc: Global, path: &[u8]) -> Result<Vec<u8>, ReadError> {
+        let mut text = Vec::new(alloc);
+        let mut file = self.open(alloc, path)?;
+        match read_into(alloc, &mut text, &mut file) {
+            Ok(Ok(())) => Ok(text),
+            Ok(Err(ReadFailed)) => Err(ReadError::Unreadable),
+            Err(AllocError) => Err(ReadError::OutOfMemory),
         }
     }
 
@@ -58,6 +57,44 @@ impl Host for Disk<'_> {
             Err(_) => Err(ReadError::Unreadable),
         }
     }
+}
+
+// How many bytes are asked for at a time.
+const BLOCK: usize = 262_144;
+
+// Reads the file to its end, or until it is longer than a text may be: what is longer is refused for that alone, so no
+// more of it is asked for, be there an end or not.
+fn read_into(
+    alloc: Global,
+    text: &mut Vec<u8>,
+    file: &mut Opened,
+) -> Result<Result<(), ReadFailed>, AllocError> {
+    let mut block = Vec::new(alloc);
+    block.resize(BLOCK, 0u8)?;
+    for _ in 0..usize::MAX {
+        let Ok(count) = file.read(block.as_mut_slice()) else {
+            return Ok(Err(ReadFailed));
+        };
+        let front = block.as_slice().get(..count).unwrap_or_default();
+        make_room(text, front.len())?;
+        text.extend_from_slice(front)?;
+        if front.is_empty() || text.len() > TEXT_BYTES {
+            break;
+        }
+    }
+    Ok(Ok(()))
+}
+
+// Makes room for so many more bytes: it is doubled, and where that comes near to what a text may have, so much is taken
+// at once that it never grows again.
+fn make_room(text: &mut Vec<u8>, count: usize) -> Result<(), AllocError> {
+    let len = text.len();
+    if text.capacity().saturating_sub(len) >= count {
+        return Ok(());
+    }
+    let most = TEXT_BYTES.saturating_add(BLOCK).saturating_sub(len);
+    let room = if len > TEXT_BYTES / 8 { most } else { len };
+    text.reserve_exact(room.max(count))
 }
 
 fn main(rt: HostRuntime) -> ExitCode {
