@@ -29,9 +29,9 @@ pub(crate) fn program<'a>(alloc: Global) -> Result<Command<'a>, AllocError> {
         "debplan",
         "Find and check plans of dpkg actions for Debian packages",
     )
-        .version(VERSION)
-        .long_version(VERSION_AND_TOOLCHAIN)
-        .subcommand_required(true);
+    .version(VERSION)
+    .long_version(VERSION_AND_TOOLCHAIN)
+    .subcommand_required(true);
     let program = with(program, compare(alloc))?;
     let program = with(program, candidate(alloc))?;
     let program = with(program, solve(alloc))?;
@@ -41,7 +41,9 @@ pub(crate) fn program<'a>(alloc: Global) -> Result<Command<'a>, AllocError> {
 
 // The command of this name, which does this.
 fn named<'a>(alloc: Global, name: &'a str, about: &'a str) -> Command<'a> {
-    Command::new(alloc, name).about(about).after_help(EXIT_STATUSES)
+    Command::new(alloc, name)
+        .about(about)
+        .after_help(EXIT_STATUSES)
 }
 
 fn with<'a>(
@@ -76,14 +78,12 @@ fn candidate<'a>(alloc: Global) -> Result<Command<'a>, AllocError> {
 
 fn solve<'a>(alloc: Global) -> Result<Command<'a>, AllocError> {
     let command = named(alloc, "solve", "Find a plan for a request, or a refutation");
-    with_options(alloc, command)?
-        .arg(request(alloc))?
-        .arg(
-            option(alloc, "limit", "N")
-                .help("Give up after N conflicts of the search, 100000 if not given")
-                .value_parser(value_parser!(u32))
-                .required(false),
-        )
+    with_options(alloc, command)?.arg(request(alloc))?.arg(
+        option(alloc, "limit", "N")
+            .help("Give up after N conflicts of the search, 100000 if not given")
+            .value_parser(value_parser!(u32))
+            .required(false),
+    )
 }
 
 fn check_plan<'a>(alloc: Global) -> Result<Command<'a>, AllocError> {
@@ -92,9 +92,9 @@ fn check_plan<'a>(alloc: Global) -> Result<Command<'a>, AllocError> {
         "check-plan",
         "Check a plan of dpkg actions: each step by Policy, and the end",
     );
-    with_options(alloc, command)?
-        .arg(request(alloc))?
-        .arg(word(alloc, "plan", "PLAN").help("The plan, with an action on each line"))
+    with_options(alloc, command)?.arg(request(alloc))?.arg(word(alloc, "plan", "PLAN").help(
+        "The plan, with an action on each line",
+    ))
 }
 
 fn check_refutation<'a>(alloc: Global) -> Result<Command<'a>, AllocError> {
@@ -103,12 +103,11 @@ fn check_refutation<'a>(alloc: Global) -> Result<Command<'a>, AllocError> {
         "check-refutation",
         "Check a refutation: that no choice of versions fulfils the request",
     );
-    with_options(alloc, command)?
-        .arg(request(alloc))?
-        .arg(
-            word(alloc, "refutation", "REFUTATION")
-                .help("The refutation, with a premise or a derived clause on each line"),
-        )
+    with_options(alloc, command)?.arg(request(alloc))?.arg(word(
+        alloc,
+        "refutation",
+        "REFUTATION",
+    ).help("The refutation, with a premise or a derived clause on each line"))
 }
 
 fn request<'a>(alloc: Global) -> Arg<'a> {
@@ -120,10 +119,9 @@ fn with_options<'a>(alloc: Global, command: Command<'a>) -> Result<Command<'a>, 
     command
         .arg(option(alloc, "arch", "ARCH").help("The architecture, such as amd64"))?
         .arg(option(alloc, "status", "FILE").help("The status file of dpkg"))?
-        .arg(
-            option(alloc, "sources", "FILE")
-                .help("The list of Packages files with their release keys"),
-        )?
+        .arg(option(alloc, "sources", "FILE").help(
+            "The list of Packages files with their release keys",
+        ))?
         .arg(
             option(alloc, "preferences", "FILE")
                 .help("Pins, as in apt_preferences(5)")
