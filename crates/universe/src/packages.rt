@@ -30,10 +30,7 @@ impl<'u, 'a> Model for CountingPkg<'u, 'a> {
 
 impl<'u, 'a> CountingPkg<'u, 'a> {
     /// The package of the pair. Memory alone can fail.
-    pub fn of_pair(
-        alloc: Global,
-        pair: &'u Pair<'_, 'a>,
-    ) -> Result<CountingPkg<'u, 'a>, AllocError>
+    pub fn of_pair(alloc: Global, pair: &'u Pair<'_, 'a>) -> Result<CountingPkg<'u, 'a>, AllocError>
         ensures { IfOk result (λ pkg. pkg ≡ pair.now.pkg) }
     {
         match pair.standing_pkg() {
