@@ -10,8 +10,8 @@ ghost use Rattle.refutation.specs.declared.literal.Literal.{Literal as LiteralVa
 ghost use Rattle.universe.specs.Universe.{packages_of};
 ghost use Rattle.encode.specs.Numbers.{AreNumbersOf, IsAsked, IsNumberAt};
 
+use crate::known::Known;
 use crate::query::Query;
-use index::Providers;
 use relation::{Atom, Pkg};
 use std::alloc::{AllocError, Global};
 use std::marker::Model;
@@ -23,7 +23,7 @@ pub(crate) struct Facts<'u, 'p, 'a> {
     alloc: Global,
     universe: &'u Universe<'p, 'a>,
     packages: &'u [&'u Pkg<'a>],
-    providers: Providers<'u, 'a>,
+    providers: Known<'u, 'a>,
 }
 
 impl<'u, 'p, 'a> Model for Facts<'u, 'p, 'a> {
@@ -71,8 +71,7 @@ fn push_new(numbers: &mut Vec<u32>, new: u32) -> Result<(), AllocError>
 }
 
 impl<'u, 'p, 'a> Facts<'u, 'p, 'a> {
-    /// The facts of the universe, whose packages these are. Memory alone can fail. About n log n comparisons of the n
-    /// names that they have and provide.
+    /// The facts of the universe, whose packages these are. Memory alone can fail. Costs what `Known::of_packages` says.
     pub(crate) fn new(
         alloc: Global,
         universe: &'u Universe<'p, 'a>,
@@ -81,7 +80,7 @@ impl<'u, 'p, 'a> Facts<'u, 'p, 'a> {
         requires { map (λ pkg. pkg.now) packages.now ≡ packages_of universe.now.pairs }
         ensures { IfOk result (λ facts. facts ≡ universe.now) }
     {
-        let providers = Providers::build(alloc, packages)?;
+        let providers = Known::of_packages(alloc, packages)?;
         Ok(Facts {
             alloc,
             universe,

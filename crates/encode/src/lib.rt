@@ -8,6 +8,7 @@ mod basis;
 mod encoding;
 mod facts;
 mod goals;
+mod known;
 mod laws;
 mod literals;
 mod needs;

@@ -7,5 +7,5 @@ pub returns : goal.returns
 returns c = by_places c.args.self.now c.self.inside.providers (cc (c.self.invariant.1, c.self.view_is)) c.name.result.now
     c.in_ok-places.places.items c.as_slice.result.now c.as_slice.ensures.value (IsAsked c.args.query)
     (places_ordered c.args.self.now c.name.result.now c.self.inside.providers c.in_ok-found.found.items c.in_ok-places.places.items
-    c.in_ok-found.ensures.matching c.in_ok-places.ensures)
+    c.in_ok-found.ensures c.in_ok-places.ensures)
     c.name.ensures c.args.numbers.now.items c.push_places.new.numbers.items c.in_ok-push_places.ensures
