@@ -1,0 +1,10 @@
+pub mod KeyLemmas
+pub mod SelectionLemmas
+pub mod UnpackLemmas
+pub mod NamedLemmas
+pub mod RemovalLemmas
+pub mod PurgeLemmas
+pub mod WalkLemmas
+pub mod FixedLemmas
+pub mod BeginningLemmas
+pub mod FoundLemmas

@@ -1,0 +1,17 @@
+-- The steps so far are configures, and the change is underway with nothing to be removed; each leaves fewer names.
+use Rattle.std.proofs.Common.{length}
+use Rattle.plain.specs.Change.{HasNothingToRemove}
+use Rattle.plain.specs.Order.{AreNextSteps, IsNextConfigure}
+use Rattle.plain.specs.Underway.{unconfigured_of}
+use Rattle.fixed_order.specs.Ground.{IsUnderwayOn, members_in}
+use Rattle.fixed_order.proofs.configure.configures.Given as goal
+
+abbrev pub invariant-loop-steps : goal.invariant-loop-steps
+invariant-loop-steps l = record {
+  underway : IsUnderwayOn l.ground l.db;
+  nothing : HasNothingToRemove (members_in l.ground) l.db;
+  so_far : AreNextSteps (IsNextConfigure l.ground.universe.now) l.ground.universe.now l.initial.db l.steps.items l.db;
+}
+
+abbrev pub decreases-loop-steps : goal.decreases-loop-steps
+decreases-loop-steps l = length (unconfigured_of l.db)

@@ -1,0 +1,13 @@
+-- What isn't configured is present, and has a package name.
+use Rattle.std.proofs.Common.{sym, ap, ◌∙◌}
+use Rattle.rules.specs.State.{is_unconfigured_state}
+use Rattle.plain.proofs.ConfigureLemmas.{unconfigured_present}
+use Rattle.fixed_order.proofs.NamedLemmas.{record_named}
+use Rattle.fixed_order.proofs.configure.waiting.Goals as goal
+
+pub new-requires : goal.new-requires
+new-requires c = record_named c.args.ground.now c.args.db.now c.as_slice-found-items.result.now c.loop-found.found-index
+    c.found-item.result c.name.result.now c.requires.ground c.requires.underway c.as_slice-found-items.ensures c.loop-found-test.true
+    c.found-item.is
+    (unconfigured_present c.found-item.result.state (sym (c.is_unconfigured.ensures ∙ ap is_unconfigured_state c.state.ensures)
+    ∙ c.if-is_unconfigured.true)) c.name.ensures

@@ -1,0 +1,19 @@
+// The steps of a plain change in its fixed order: unpacks by name, then removals, each with the deconfigures that it needs,
+// then configures of least groups, then purges by name. It stands on `plain`, which says what the order is, and on the
+// judge's calls, by which it asks whether a step is allowed. The main call is `fixed_order`.
+#![tactic(auto)]
+
+mod configure;
+mod fixed;
+mod ground;
+mod key;
+mod members;
+mod named;
+mod purge;
+mod removal;
+mod selection;
+mod state;
+mod unpack;
+
+pub use fixed::fixed_order;
+pub use named::{has_names, has_pair_names};

@@ -1,0 +1,148 @@
+// The second phase: the least name whose removal is allowed is removed, or where there is none, the least name to be removed
+// that is installed is deconfigured, until no name is to be removed.
+
+ghost use Rattle.std.specs.Prelude.{◌≡◌, ◌↔◌, ℕ, IfOk, IsTrue, MatchOption, map};
+ghost use Rattle.std.specs.List.{All, filter};
+ghost use Rattle.rules.specs.Database.{HasRecord, IsInstalled};
+ghost use Rattle.rules.specs.Legal.{Allowed};
+ghost use Rattle.rules.specs.Name.{IsAscending};
+ghost use Rattle.rules.specs.declared.step.Step.TheVariants.{Remove};
+ghost use Rattle.plain.specs.Change.{HasNothingToRemove, IsToRemove};
+ghost use Rattle.plain.specs.Order.{AreRemovals, IsNextRemoval, after_all};
+ghost use Rattle.plain.specs.Underway.{is_to_remove};
+ghost use Rattle.fixed_order.specs.Ground.{IsGround, IsUnderwayOn, members_in};
+ghost use Rattle.fixed_order.specs.Names.{AreAllWith};
+ghost use Rattle.fixed_order.specs.Removal.{IsLeastOf};
+
+use crate::ground::Ground;
+use crate::key::{Key, in_order};
+use crate::state::is_installed;
+use plancheck::{apply, remove_failing};
+use rules::{Step, allowed_where_none_fails};
+use status::{Records, StateRecord};
+use std::alloc::AllocError;
+use universe::Universe;
+
+// Whether the record is of a name to be removed.
+fn is_to_remove(ground: &Ground<'_, '_, '_, '_>, found: &StateRecord<'_, '_>) -> bool
+    requires { IsGround ground.now }
+    ensures { result ≡ is_to_remove (members_in ground.now) found.now }
+{
+    found.state().is_present() && !ground.members.has(found.name())
+}
+
+// The names to be removed, in the order of the records.
+fn leaving<'p, 'a>(
+    ground: &Ground<'_, '_, 'p, 'a>,
+    db: &Records<'p, 'a>,
+) -> Result<Vec<Key<'a>>, AllocError>
+    requires ground { IsGround ground.now }
+    requires underway { IsUnderwayOn ground.now db.now }
+    ensures { IfOk result (λ keys. keys.items
+        ≡ map (λ found. found.name) (filter (is_to_remove (members_in ground.now)) db.now)) }
+{
+    let mut keys = Vec::new(ground.alloc);
+    for found in db.as_slice() {
+        if is_to_remove(ground, found) {
+            keys.push(Key::new(found.name()))?;
+        }
+    }
+    Ok(keys)
+}
+
+// The names to be removed, in their order.
+fn to_remove<'p, 'a>(
+    ground: &Ground<'_, '_, 'p, 'a>,
+    db: &Records<'p, 'a>,
+) -> Result<Vec<Key<'a>>, AllocError>
+    requires ground { IsGround ground.now }
+    requires underway { IsUnderwayOn ground.now db.now }
+    ensures { IfOk result (λ keys. AreAllWith (IsToRemove (members_in ground.now) db.now) keys.items) }
+{
+    let keys = leaving(ground, db)?;
+    let ordered = in_order(keys)?;
+    Ok(ordered)
+}
+
+// Whether the removal of the name is allowed.
+fn can_be_removed(db: &Records<'_, '_>, universe: &Universe<'_, '_>, name: &[u8]) -> bool
+    ensures { IsTrue result ↔ Allowed universe.now db.now (Remove name.now) }
+{
+    allowed_where_none_fails();
+    remove_failing(db, name).is_none()
+}
+
+// The least of the names whose removal is allowed, if there is one.
+fn least_removable<'k, 'n>(
+    db: &Records<'_, '_>,
+    universe: &Universe<'_, '_>,
+    keys: &'k [Key<'n>],
+) -> Option<&'k Key<'n>>
+    requires { IsAscending keys.now }
+    ensures { MatchOption result
+        (All (λ name. ¬ Allowed universe.now db.now (Remove name)) keys.now)
+        (λ key. IsLeastOf (λ name. Allowed universe.now db.now (Remove name)) keys.now key.now) }
+{
+    for key in keys {
+        if can_be_removed(db, universe, key.name()) {
+            return Some(key);
+        }
+    }
+    None
+}
+
+// The least of the names that is installed, if there is one.
+fn least_installed<'k, 'n>(db: &Records<'_, '_>, keys: &'k [Key<'n>]) -> Option<&'k Key<'n>>
+    requires { IsAscending keys.now }
+    ensures { MatchOption result
+        (All (λ name. ¬ HasRecord IsInstalled name db.now) keys.now)
+        (λ key. IsLeastOf (λ name. HasRecord IsInstalled name db.now) keys.now key.now) }
+{
+    for key in keys {
+        if is_installed(db, key.name()) {
+            return Some(key);
+        }
+    }
+    None
+}
+
+// The next of the removals, if a name is to be removed.
+fn next_removal<'p, 'a>(
+    ground: &Ground<'_, '_, 'p, 'a>,
+    db: &Records<'p, 'a>,
+) -> Result<Option<Step>, AllocError>
+    requires ground { IsGround ground.now }
+    requires underway { IsUnderwayOn ground.now db.now }
+    ensures { IfOk result (λ step. MatchOption step (HasNothingToRemove (members_in ground.now) db.now)
+        (IsNextRemoval ground.now.universe.now (members_in ground.now) db.now)) }
+{
+    let keys = to_remove(ground, db)?;
+    match least_removable(db, ground.universe, keys.as_slice()) {
+        Some(key) => Ok(Some(Step::Remove(key.try_name(ground.alloc)?))),
+        None => match least_installed(db, keys.as_slice()) {
+            Some(key) => Ok(Some(Step::Deconfigure(key.try_name(ground.alloc)?))),
+            None => Ok(None),
+        },
+    }
+}
+
+/// Takes the removals and deconfigures, and answers them. For each it costs a look at every record, and what
+/// `plancheck::remove_failing` does of each name that is to be removed, up to the one that goes. Memory alone can fail.
+pub(crate) fn removals<'p, 'a>(
+    ground: &Ground<'_, '_, 'p, 'a>,
+    db: &mut Records<'p, 'a>,
+) -> Result<Vec<Step>, AllocError>
+    requires ground { IsGround ground.now }
+    requires underway { IsUnderwayOn ground.now db.old }
+    ensures removals { IfOk result (λ steps. AreRemovals ground.now.universe.now (members_in ground.now) db.old steps.items) }
+    ensures after { IfOk result (λ steps. db.new ≡ after_all ground.now.universe.now db.old steps.items) }
+    ensures underway { IfOk result (λ _. IsUnderwayOn ground.now db.new) }
+    ensures nothing { IfOk result (λ _. HasNothingToRemove (members_in ground.now) db.new) }
+{
+    let mut steps = Vec::new(ground.alloc);
+    while let Some(step) = next_removal(ground, db)? {
+        apply(db, ground.universe, None, &step)?;
+        steps.push(step)?;
+    }
+    Ok(steps)
+}
