@@ -45,8 +45,8 @@ fn needs(db: &Records<'_, '_>, pkg: &Pkg<'_>, found: &StateRecord<'_, '_>) -> bo
         && (some_needs(db, pkg, found.pre_depends()) || some_needs(db, pkg, found.depends()))
 }
 
-// The package of the name, if it is present.
-fn present<'p, 'a>(db: &Records<'p, 'a>, name: &[u8]) -> Option<&'p Pkg<'a>> {
+/// The package of the name, if it is present.
+pub(crate) fn present<'p, 'a>(db: &Records<'p, 'a>, name: &[u8]) -> Option<&'p Pkg<'a>> {
     for found in db.holders(name) {
         if found.name() == name {
             return found.present_pkg();
@@ -83,6 +83,37 @@ pub(crate) fn broken_by(
                 && breaks_other(pkg, other)
             {
                 names.push(Name::copied_from(alloc, found.name())?)?;
+            }
+        }
+    }
+    Ok(names)
+}
+
+/// Whether a present package of another name breaks this one.
+pub(crate) fn is_broken(db: &Records<'_, '_>, pkg: &Pkg<'_>) -> bool {
+    for found in db.as_slice() {
+        if let Some(other) = found.present_pkg() {
+            if found.name() != pkg.name() && breaks_other(other, pkg) {
+                return true;
+            }
+        }
+    }
+    false
+}
+
+/// The names of the present packages of other names that break the one of this name.
+pub(crate) fn breaking(
+    alloc: Global,
+    db: &Records<'_, '_>,
+    name: &[u8],
+) -> Result<Vec<Name>, AllocError> {
+    let mut names = Vec::new(alloc);
+    if let Some(pkg) = present(db, name) {
+        for found in db.as_slice() {
+            if let Some(other) = found.present_pkg() {
+                if is_name(found.name()) && found.name() != name && breaks_other(other, pkg) {
+                    names.push(Name::copied_from(alloc, found.name())?)?;
+                }
             }
         }
     }

@@ -13,6 +13,8 @@ mod member;
 mod one_each;
 mod ordered;
 mod ordering;
+mod rank;
+mod ring;
 mod strategy;
 mod tidy;
 mod waiting;

@@ -1,11 +1,12 @@
 //! The members of a selection, with what unpacking them takes.
 
-ghost use Rattle.std.specs.Prelude.{◌≡◌, IfOk, map};
-ghost use Rattle.std.specs.List.{filter_map};
+ghost use Rattle.std.specs.Prelude.{◌≡◌, IfOk, IfSome, map};
+ghost use Rattle.std.specs.List.{Contains, filter_map};
 ghost use Rattle.std.specs.Option.{option_copied};
 ghost use Rattle.order.specs.Selection.{IsOneEach, chosen, is_member_version, member_at, member_of, with_stanza};
 ghost use Rattle.universe.specs.Universe.{packages_of};
 
+use crate::rank::ranks_of;
 use debversion::Version;
 use index::IndexPackage;
 use indexmap::IndexSet;
@@ -77,11 +78,13 @@ impl<'a> Member<'a> {
     }
 }
 
-/// The members of a selection, no two of which are of one name, with a table of the names.
+/// The members of a selection, no two of which are of one name, with a table of the names, and the order in which they are
+/// tried.
 #[derive(Drop)]
 pub(crate) struct Members<'a> {
     members: Vec<Member<'a>>,
     names: IndexSet<&'a [u8]>,
+    ranks: Vec<usize>,
 }
 
 impl<'a> Model for Members<'a> {
@@ -136,7 +139,12 @@ impl<'a> Members<'a> {
     {
         let members = members_at(alloc, universe, selection)?;
         let names = names_of(alloc, members.as_slice())?;
-        Ok(Members { members, names })
+        let ranks = ranks_of(alloc, members.as_slice())?;
+        Ok(Members {
+            members,
+            names,
+            ranks,
+        })
     }
 
     /// The members, lent.
@@ -153,9 +161,23 @@ impl<'a> Members<'a> {
         self.members.as_slice()
     }
 
+    /// How many members are tried.
+    pub(crate) fn tried(&self) -> usize {
+        self.ranks.len()
+    }
+
+    /// The member that is tried when so many were before.
+    pub(crate) fn at_rank(&self, rank: usize) -> Option<&Member<'a>>
+        ensures { IfSome result (λ member. Contains self.now member.now) }
+    {
+        let place = self.ranks.get(rank)?;
+        self.members.get(*place)
+    }
+
     /// The member of the name, if there is one. Linear in the name alone.
     pub(crate) fn of(&self, name: &[u8]) -> Option<&Member<'a>>
-        ensures { option_copied result ≡ member_of self.now name.now }
+        ensures found { option_copied result ≡ member_of self.now name.now }
+        ensures within { IfSome result (λ member. Contains self.now member.now) }
     {
         match self.names.get_index_of(name) {
             Some(place) => self.members.get(place),

@@ -6,12 +6,12 @@ ghost use Rattle.std.specs.Prelude.{IfOk};
 ghost use Rattle.std.specs.List.{Contains};
 ghost use Rattle.order.specs.Door.{IsGround, IsReached};
 
-use crate::clear::{broken_by, conflicting, cut_first, deconfigure_each};
+use crate::clear::{breaking, broken_by, conflicting, cut_first, deconfigure_each, is_broken};
 use crate::door::{Door, Ground};
 use crate::forward::{remove_first, unpack};
 use crate::member::{Member, Members};
 use crate::tidy::{configure_alone, tidy};
-use crate::waiting::leaving;
+use crate::waiting::{leaving, waiting};
 use index::IndexPackage;
 use plancheck::unpack_failing;
 use plancheck_end::{are_met, is_met, matches_some};
@@ -22,13 +22,18 @@ use std::alloc::{AllocError, Global};
 
 // Whether each Depends clause of the package is met by installed packages or by itself, and each Pre-Depends clause by
 // installed ones.
-fn is_ready(db: &Records<'_, '_>, pkg: &Pkg<'_>) -> bool {
+fn has_needs(db: &Records<'_, '_>, pkg: &Pkg<'_>) -> bool {
     for clause in pkg.depends() {
         if !matches_some(pkg, clause.as_slice()) && !is_met(db, clause) {
             return false;
         }
     }
     are_met(db, pkg.pre_depends())
+}
+
+// Whether the package can be configured as soon as it is unpacked.
+fn is_ready(db: &Records<'_, '_>, pkg: &Pkg<'_>) -> bool {
+    has_needs(db, pkg) && !is_broken(db, pkg)
 }
 
 // Whether the member stands in this version already.
@@ -104,9 +109,11 @@ fn install_ready<'p, 'a>(
     ensures reached { IfOk result (λ _. IsReached ground.now door.new) }
 {
     let mut moved = false;
-    for member in ground.members.as_slice() {
-        let unpacked = install(ground, door, member)?;
-        moved = moved || unpacked;
+    for rank in 0..ground.members.tried() {
+        if let Some(member) = ground.members.at_rank(rank) {
+            let unpacked = install(ground, door, member)?;
+            moved = moved || unpacked;
+        }
     }
     Ok(moved)
 }
@@ -126,7 +133,28 @@ fn leaving_among(
     Ok(gone)
 }
 
-// Unpacks the member, once what it breaks is deconfigured.
+// Unpacks the first member of these names that can be.
+fn pull_first<'p, 'a>(
+    ground: &Ground<'_, '_, 'p, 'a>,
+    door: &mut Door<'p, 'a>,
+    names: &[Name],
+) -> Result<bool, AllocError>
+    requires ground { IsGround ground.now }
+    requires reached { IsReached ground.now door.old }
+    ensures reached { IfOk result (λ _. IsReached ground.now door.new) }
+{
+    for name in names {
+        if let Some(member) = ground.members.of(name.as_bytes()) {
+            let unpacked = unpack(ground, door, member)?;
+            if unpacked {
+                return Ok(true);
+            }
+        }
+    }
+    Ok(false)
+}
+
+// Unpacks what the package breaks, if a member of its name can be; else the member itself, once that is deconfigured.
 fn unpack_breaking<'p, 'a>(
     ground: &Ground<'_, '_, 'p, 'a>,
     door: &mut Door<'p, 'a>,
@@ -139,6 +167,10 @@ fn unpack_breaking<'p, 'a>(
     ensures reached { IfOk result (λ _. IsReached ground.now door.new) }
 {
     let names = broken_by(ground.alloc, &door.db, pkg)?;
+    let pulled = pull_first(ground, door, names.as_slice())?;
+    if pulled {
+        return Ok(true);
+    }
     deconfigure_each(ground, door, names.as_slice())?;
     let unpacked = unpack(ground, door, member)?;
     Ok(unpacked)
@@ -172,6 +204,27 @@ fn make_way<'p, 'a>(
     }
 }
 
+// Makes the way of the member free, if it is to be unpacked and is ready, or if all are to be tried.
+fn make_way_for<'p, 'a>(
+    ground: &Ground<'_, '_, 'p, 'a>,
+    door: &mut Door<'p, 'a>,
+    member: &'p Member<'a>,
+    all: bool,
+) -> Result<bool, AllocError>
+    requires ground { IsGround ground.now }
+    requires reached { IsReached ground.now door.old }
+    requires within { Contains ground.now.members.now member.now }
+    ensures reached { IfOk result (λ _. IsReached ground.now door.new) }
+{
+    match unpacked_from(&door.db, member) {
+        Some(listed) if all || is_ready(&door.db, listed.pkg()) => {
+            let moved = make_way(ground, door, member, listed)?;
+            Ok(moved)
+        }
+        _ => Ok(false),
+    }
+}
+
 // Makes the way free for the first member for which that leads on, of those that are ready or of all.
 fn make_some_way<'p, 'a>(
     ground: &Ground<'_, '_, 'p, 'a>,
@@ -182,13 +235,11 @@ fn make_some_way<'p, 'a>(
     requires reached { IsReached ground.now door.old }
     ensures reached { IfOk result (λ _. IsReached ground.now door.new) }
 {
-    for member in ground.members.as_slice() {
-        if let Some(listed) = unpacked_from(&door.db, member) {
-            if all || is_ready(&door.db, listed.pkg()) {
-                let moved = make_way(ground, door, member, listed)?;
-                if moved {
-                    return Ok(true);
-                }
+    for rank in 0..ground.members.tried() {
+        if let Some(member) = ground.members.at_rank(rank) {
+            let moved = make_way_for(ground, door, member, all)?;
+            if moved {
+                return Ok(true);
             }
         }
     }
@@ -223,12 +274,46 @@ fn give_some_way<'p, 'a>(
     requires reached { IsReached ground.now door.old }
     ensures reached { IfOk result (λ _. IsReached ground.now door.new) }
 {
-    for member in ground.members.as_slice() {
-        if let Some(listed) = unpacked_from(&door.db, member) {
-            let moved = give_way(ground, door, member, listed)?;
-            if moved {
-                return Ok(true);
+    for rank in 0..ground.members.tried() {
+        if let Some(member) = ground.members.at_rank(rank) {
+            if let Some(listed) = unpacked_from(&door.db, member) {
+                let moved = give_way(ground, door, member, listed)?;
+                if moved {
+                    return Ok(true);
+                }
             }
+        }
+    }
+    Ok(false)
+}
+
+// Removes an old version that breaks the one of this name, which waits to be configured.
+fn free_waiting<'p, 'a>(
+    ground: &Ground<'_, '_, 'p, 'a>,
+    door: &mut Door<'p, 'a>,
+    name: &Name,
+) -> Result<bool, AllocError>
+    requires reached { IsReached ground.now door.old }
+    ensures reached { IfOk result (λ _. IsReached ground.now door.new) }
+{
+    let names = breaking(ground.alloc, &door.db, name.as_bytes())?;
+    let moved = cut_first(ground, door, names.as_slice())?;
+    Ok(moved)
+}
+
+// The same for the first name that waits and for which an old version can go.
+fn free_some_waiting<'p, 'a>(
+    ground: &Ground<'_, '_, 'p, 'a>,
+    door: &mut Door<'p, 'a>,
+) -> Result<bool, AllocError>
+    requires reached { IsReached ground.now door.old }
+    ensures reached { IfOk result (λ _. IsReached ground.now door.new) }
+{
+    let names = waiting(ground.alloc, &door.db, ground.members)?;
+    for name in names.as_slice() {
+        let moved = free_waiting(ground, door, name)?;
+        if moved {
+            return Ok(true);
         }
     }
     Ok(false)
@@ -247,8 +332,12 @@ fn do_dear<'p, 'a>(
     if removed {
         return Ok(true);
     }
-    let moved = give_some_way(ground, door)?;
-    Ok(moved)
+    let given = give_some_way(ground, door)?;
+    if given {
+        return Ok(true);
+    }
+    let freed = free_some_waiting(ground, door)?;
+    Ok(freed)
 }
 
 // The first of the choices that does something.

@@ -7,6 +7,7 @@ ghost use Rattle.order.specs.Door.{IsGround, IsReached};
 use crate::door::{Door, Ground, take};
 use crate::group::group_of;
 use crate::in_order::in_order;
+use crate::ring::fewest_in_need;
 use crate::waiting::{leaving, waiting};
 use rules::{Name, Step};
 use status::Records;
@@ -44,6 +45,23 @@ fn configure_each<'p, 'a>(
     Ok(moved)
 }
 
+// Configures the fewest waiting names that need each other, if the judge lets them.
+fn configure_ring<'p, 'a>(
+    ground: &Ground<'_, '_, 'p, 'a>,
+    door: &mut Door<'p, 'a>,
+) -> Result<bool, AllocError>
+    requires reached { IsReached ground.now door.old }
+    ensures reached { IfOk result (λ _. IsReached ground.now door.new) }
+{
+    let names = fewest_in_need(ground.alloc, &door.db, ground.members)?;
+    if names.is_empty() {
+        return Ok(false);
+    }
+    let group = in_order(ground.alloc, names.as_slice())?;
+    let taken = take(ground, door, None, Step::Configure(group))?;
+    Ok(taken)
+}
+
 // Configures a group of the names, if one can be.
 fn configure_group<'p, 'a>(
     ground: &Ground<'_, '_, 'p, 'a>,
@@ -63,7 +81,7 @@ fn configure_group<'p, 'a>(
     }
 }
 
-// Configures what waits: each name alone, and where none can be, a group.
+// Configures what waits: each name alone, and where none can be, a group, of which the smallest ring is tried first.
 fn configure_waiting<'p, 'a>(
     ground: &Ground<'_, '_, 'p, 'a>,
     door: &mut Door<'p, 'a>,
@@ -74,6 +92,10 @@ fn configure_waiting<'p, 'a>(
     let names = waiting(ground.alloc, &door.db, ground.members)?;
     let moved = configure_each(ground, door, names.as_slice())?;
     if moved {
+        return Ok(true);
+    }
+    let ringed = configure_ring(ground, door)?;
+    if ringed {
         return Ok(true);
     }
     let grouped = configure_group(ground, door, names.as_slice())?;

@@ -9,8 +9,8 @@ use rules::{Name, is_name};
 use status::{Records, StateRecord};
 use std::alloc::{AllocError, Global};
 
-// Whether the record is present and of a selected version, that is to be configured.
-fn is_waiting(members: &Members<'_>, found: &StateRecord<'_, '_>) -> bool
+/// Whether the record is present and of a selected version, that is to be configured.
+pub(crate) fn is_waiting(members: &Members<'_>, found: &StateRecord<'_, '_>) -> bool
     ensures { result ≡ is_waiting members.now found.now }
 {
     match found.present_pkg() {

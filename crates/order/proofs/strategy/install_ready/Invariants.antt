@@ -2,5 +2,5 @@
 use Rattle.order.specs.Door.{IsReached}
 use Rattle.order.proofs.strategy.install_ready.Given as goal
 
-abbrev pub invariant-loop-member : goal.invariant-loop-member
-invariant-loop-member l = IsReached l.ground l.door
+abbrev pub invariant-loop-rank : goal.invariant-loop-rank
+invariant-loop-rank l = IsReached l.ground l.door

@@ -8,8 +8,8 @@ use Rattle.order.specs.Selection.{member_of}
 use Rattle.order.proofs.MemberLemmas.{name_of}
 use Rattle.order.proofs.member.Members.of.Goals as goal
 
-pub returns-in-Some : goal.returns-in-Some
-returns-in-Some c =
+pub returns-in-Some-clause-found : goal.returns-in-Some-clause-found
+returns-in-Some-clause-found c =
     let members : List Pair = c.self.inside.members.items in
     let many : length c.self.inside.names.keys ≡ length members = as_many name_of c.self.inside.names.keys members c.self.invariant c.args.name.now in
     let within : c.in-Some.place < length c.deref.result.now = omega (arith, many, c.in-Some.ensures.within, c.deref.ensures.len) in
@@ -19,7 +19,7 @@ returns-in-Some c =
     (sym c.in-Some.is ∙ c.get_index_of.ensures.index)
     ∙ ap (λ (xs : List Pair). member_of xs c.args.name.now) c.self.view_is
 
-pub returns-in-None : goal.returns-in-None
-returns-in-None c = found_none name_of c.self.inside.names.keys c.self.inside.members.items c.self.invariant c.args.name.now
+pub returns-in-None-clause-found : goal.returns-in-None-clause-found
+returns-in-None-clause-found c = found_none name_of c.self.inside.names.keys c.self.inside.members.items c.self.invariant c.args.name.now
     (sym c.in-None.is ∙ c.get_index_of.ensures.index)
     ∙ ap (λ (xs : List Pair). member_of xs c.args.name.now) c.self.view_is
