@@ -12,15 +12,21 @@ use Rattle.cli_engine.specs.Answer.{Denotes}
 use Rattle.cli_engine.specs.Texts.{Texts, refutation_of}
 use Rattle.cli_engine.proofs.DistinctLemmas.{distinct_start}
 use Rattle.cli_engine.proofs.MeaningLemmas.{ok-same, one_meaning}
+use Rattle.plain.proofs.MemberLemmas.{universe_is_counted}
 use Rattle.refutation.proofs.LineLemmas.{one_answer as one_bad_line}
 use Rattle.refutation.proofs.NeededLemmas.{universe_has_needed_pairs}
 use Rattle.refutation.proofs.PremiseLemmas.{none_is_acceptable}
 use Rattle.cli_engine.specs.Refuted.{RefutationHasOneAnswer, YesRefutes}
-use Rattle.cli_engine.specs.Solution.{MeaningHasNeededPairs}
+use Rattle.cli_engine.specs.Solution.{MeaningHasNeededPairs, MeaningIsCounted}
 
 -- the pairs of the universe that texts denote ascend, and those that must be selected are there
 pub needed-pairs : MeaningHasNeededPairs
 needed-pairs texts u start is = universe_has_needed_pairs (inputs_of start is.indices is.prefs (goals_of is.lines)) u
+    (distinct_start texts start is.indices is.read.listed) is.requested.built.universe
+
+-- the universe that texts denote is counted by their start
+pub counted-by-start : MeaningIsCounted
+counted-by-start texts u start is = universe_is_counted (inputs_of start is.indices is.prefs (goals_of is.lines)) u
     (distinct_start texts start is.indices is.read.listed) is.requested.built.universe
 
 pub yes-refutes : YesRefutes

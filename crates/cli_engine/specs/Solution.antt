@@ -1,5 +1,6 @@
 -- What is answered to a request by the texts, and which refusal comes first.
 use Rattle.std.specs.Prelude.{ℕ, List}
+use Rattle.plain.specs.Counted.{IsCounted}
 use Rattle.refutation.specs.Laws.{HasAscendingPairs, HasNeededPairs}
 use Rattle.rules.specs.Database.{Record}
 use Rattle.rules.specs.Universe.{Universe}
@@ -24,3 +25,7 @@ IsFirstRequestRefusal texts refused = (refutation : List ℕ) → IsFirstRefutat
 -- the pairs of the universe that texts denote ascend, and those that must be selected are there
 abbrev pub MeaningHasNeededPairs : Type 0
 MeaningHasNeededPairs = (texts : Texts) (u : Universe) (start : List Record) → Denotes texts u start → HasAscendingPairs u × HasNeededPairs u
+
+-- the universe that texts denote is counted by their start
+abbrev pub MeaningIsCounted : Type 0
+MeaningIsCounted = (texts : Texts) (u : Universe) (start : List Record) → Denotes texts u start → IsCounted start u

@@ -2,7 +2,7 @@
 
 ghost use Rattle.cli_engine.specs.Meaning.{GoodPlanIsAnswered, HasOneAnswer, HasOneMeaning, MeaningIsNotRefused, YesKeepsPromise};
 ghost use Rattle.cli_engine.specs.Refuted.{RefutationHasOneAnswer, YesRefutes};
-ghost use Rattle.cli_engine.specs.Solution.{MeaningHasNeededPairs};
+ghost use Rattle.cli_engine.specs.Solution.{MeaningHasNeededPairs, MeaningIsCounted};
 
 /// Texts have one meaning: the universe and the start that they denote.
 pub fn texts_have_one_meaning()
@@ -17,6 +17,11 @@ pub fn a_meaning_is_not_refused()
 /// The pairs of the universe that texts denote ascend, and those that must be selected are there.
 pub fn a_meaning_has_needed_pairs()
     ensures { MeaningHasNeededPairs }
+{}
+
+/// The universe that texts denote is counted by their start.
+pub fn a_meaning_is_counted()
+    ensures { MeaningIsCounted }
 {}
 
 /// A plan has one answer over texts.

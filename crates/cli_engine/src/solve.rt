@@ -2,6 +2,7 @@
 
 ghost use Rattle.std.specs.Prelude.{◌<◌, ◌^◌, IfErr, IfOk, length};
 ghost use Rattle.candidates.specs.Inputs.{indices_of};
+ghost use Rattle.plain.specs.Counted.{IsCounted};
 ghost use Rattle.refutation.specs.Laws.{HasAscendingPairs, HasNeededPairs};
 ghost use Rattle.rules.specs.Verdict.{IsBuiltOn};
 ghost use Rattle.status_store.specs.Slots.{slot_records};
@@ -15,7 +16,7 @@ ghost use Rattle.cli_engine.specs.Texts.{sources_of};
 
 use crate::check::universe_of;
 use crate::inputs::Inputs;
-use crate::laws::a_meaning_has_needed_pairs;
+use crate::laws::{a_meaning_has_needed_pairs, a_meaning_is_counted};
 use crate::read::{ReadTexts, read_texts};
 use crate::refusal::Refusal;
 use solver::{Solved, solve};
@@ -32,6 +33,7 @@ fn solve_from<'a>(
     limit: u32,
 ) -> Result<Solved, AllocError>
     requires built { IsBuiltOn (slot_records database.now.slots) universe.now }
+    requires counted { IsCounted (slot_records database.now.slots) universe.now }
     requires few { length universe.now.pairs < 2 ^ 32 }
     requires distinct { HaveDistinctNames universe.now.starts }
     requires ascending { HasAscendingPairs universe.now }
@@ -57,6 +59,7 @@ fn solve_by<'a>(
     ensures refused { IfErr result (λ refused. IsFirstRequestRefusal (texts_of inputs.now) refused) }
 {
     a_meaning_has_needed_pairs();
+    a_meaning_is_counted();
     let ReadTexts {
         database,
         indices,

@@ -1,22 +1,28 @@
-// The request solved: the start, the clauses, the search, and the judgement of what it found.
+// The request solved: the start, the clauses, the search, and what is made of what it found.
 
 ghost use Rattle.std.specs.Prelude.{◌≡◌, ◌^◌, ◌<◌, IfOk, length};
+ghost use Rattle.clauses.specs.Clause.{MakesAllTrue};
 ghost use Rattle.refutation.specs.Laws.{HasAscendingPairs, HasNeededPairs};
 ghost use Rattle.rules.specs.Database.{IsQuiet};
+ghost use Rattle.rules.specs.Minimal.{IsLocallyMinimal};
+ghost use Rattle.rules.specs.Sound.{IsAcceptable};
 ghost use Rattle.rules.specs.Verdict.{IsBuiltOn};
 ghost use Rattle.universe.specs.Universe.{HaveDistinctNames};
+ghost use Rattle.plain.specs.Counted.{IsCounted};
 ghost use Rattle.encode.specs.Encoding.{IsEncoding};
-ghost use Rattle.search.specs.Found.{IsAnswer};
+ghost use Rattle.encode.specs.Selection.{selects};
+ghost use Rattle.search.specs.Found.{IsAnswer, IsSelection};
 ghost use Rattle.solver.specs.Solved.{IsAtLimit, IsSolved};
 
 use crate::choice::some_has_two;
 use crate::convert::refutation_of;
 use crate::plan::planned;
 use crate::solved::{Solved, Undecided};
-use encode::{Encoding, encode, true_selection_is_acceptable};
+use encode::{Encoding, encode};
 use plancheck::is_quiet;
 use refutecheck::{Verdict, check_refutation};
 use search::{Found, Refutation, search};
+use search_settle::{settle, standing_records_are_present};
 use status::Records;
 use std::alloc::{AllocError, Global};
 use universe::Universe;
@@ -53,6 +59,30 @@ fn at_limit(encoding: &Encoding<'_>, limit: u32) -> Undecided
     Undecided::Unchecked
 }
 
+// Has settled a selection that makes all clauses true.
+fn settled(
+    alloc: Global,
+    start: &Records<'_, '_>,
+    universe: &Universe<'_, '_>,
+    encoding: &Encoding<'_>,
+    selection: &[u32],
+) -> Result<Vec<u32>, AllocError>
+    requires built { IsBuiltOn start.now universe.now }
+    requires encoding { IsEncoding universe.now encoding.now }
+    requires distinct { HaveDistinctNames universe.now.starts }
+    requires ascending { HasAscendingPairs universe.now }
+    requires needed { HasNeededPairs universe.now }
+    requires selection { IsSelection encoding.now.clauses.numbers selection.now }
+    requires makes_true { MakesAllTrue selection.now encoding.now.clauses.clauses }
+    ensures acceptable { IfOk result (λ settled. IsAcceptable universe.now (selects settled.items)) }
+    ensures minimal { IfOk result (λ settled. IsLocallyMinimal universe.now (selects settled.items)) }
+{
+    standing_records_are_present();
+    let _start = start;
+    let settled = settle(alloc, universe, encoding, selection)?;
+    Ok(settled)
+}
+
 // What is answered where this was found.
 fn answer_of<'p, 'a>(
     alloc: Global,
@@ -63,6 +93,7 @@ fn answer_of<'p, 'a>(
     limit: u32,
 ) -> Result<Solved, AllocError>
     requires built { IsBuiltOn start.now universe.now }
+    requires counted { IsCounted start.now universe.now }
     requires quiet { IsQuiet start.now }
     requires encoding { IsEncoding universe.now encoding.now }
     requires found { IsAnswer encoding.now.clauses limit found.now }
@@ -72,10 +103,10 @@ fn answer_of<'p, 'a>(
     requires needed { HasNeededPairs universe.now }
     ensures { IfOk result (λ solved. IsSolved universe.now start.now limit solved) }
 {
-    true_selection_is_acceptable();
     match found {
         Found::Selection(numbers) => {
-            let solved = planned(alloc, start, universe, numbers.as_slice(), limit)?;
+            let settled = settled(alloc, start, universe, encoding, numbers.as_slice())?;
+            let solved = planned(alloc, start, universe, settled.as_slice(), limit)?;
             Ok(solved)
         }
         Found::Refutation(refutation) => {
@@ -98,6 +129,7 @@ fn search_by<'p, 'a>(
     limit: u32,
 ) -> Result<Solved, AllocError>
     requires built { IsBuiltOn start.now universe.now }
+    requires counted { IsCounted start.now universe.now }
     requires quiet { IsQuiet start.now }
     requires encoding { IsEncoding universe.now encoding.now }
     requires few { length universe.now.pairs < 2 ^ 32 }
@@ -114,8 +146,8 @@ fn search_by<'p, 'a>(
 
 /// Solves the request of the universe from this start, with at most so many conflicts of the search above level 0: a plan
 /// that is judged good; a refutation that is accepted, so that no selection is acceptable; or why it is undecided. A start
-/// in which packages conflict isn't searched. Costs what `encode` and `search` cost, and then `order` and `check_plan`, or
-/// `check_refutation`. Memory alone can fail.
+/// in which packages conflict isn't searched. Costs what `encode` and `search` cost, and then `settle`, `order` and
+/// `check_plan`, or `check_refutation`. Memory alone can fail.
 pub fn solve<'p, 'a>(
     alloc: Global,
     start: &Records<'p, 'a>,
@@ -124,6 +156,8 @@ pub fn solve<'p, 'a>(
 ) -> Result<Solved, AllocError>
     // the universe is built on the start
     requires built { IsBuiltOn start.now universe.now }
+    // and counts each pair by the record that stands, or else by the indices
+    requires counted { IsCounted start.now universe.now }
     // pairs have numbers of 32 bits, as those of a request have (`rules::PAIRS`)
     requires few { length universe.now.pairs < 2 ^ 32 }
     // no two facts of the start are about one name, as of a status file

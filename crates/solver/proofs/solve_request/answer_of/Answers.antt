@@ -1,26 +1,23 @@
--- A selection is acceptable, and at the limit some clause leaves a choice.
-use Rattle.std.proofs.Common.{ℕ, ◌≤◌, List, subst, sym}
-use Rattle.std.specs.List.{All}
-use Rattle.std.proofs.lemmas.List.Elements.{All-weaker}
-use Rattle.encode.specs.Selection.{selects}
-use Rattle.rules.specs.Sound.{IsAcceptable}
-use Rattle.search.specs.Found.{IsAnswer}
+-- What was found is an answer over the clauses of the encoding, and at the limit some clause leaves a choice.
+use Rattle.std.proofs.Common.{List, ℕ, subst, sym}
+use Rattle.clauses.specs.Clause.{MakesAllTrue}
+use Rattle.search.specs.Found.{IsAnswer, IsSelection}
 use Rattle.search.specs.declared.found.Found.{Found}
 use Rattle.search.specs.declared.found.Found.TheVariants as found
 use Rattle.solver.proofs.ChoiceLemmas.{undecided_at_limit}
 use Rattle.solver.proofs.solve_request.answer_of.Goals as goal
 
-pub planned-requires-clause-acceptable : goal.planned-requires-clause-acceptable
-planned-requires-clause-acceptable c =
+pub settled-requires-clause-selection : goal.settled-requires-clause-selection
+settled-requires-clause-selection c =
     let Is : Found → Type 0 = λ f. IsAnswer c.args.encoding.now.clauses c.args.limit f in
     let answer : Is (found.Selection c.in-Selection.numbers) = subst Is c.in-Selection.is c.requires.found in
-    let bounds : All (λ number. (1 ≤ number) × (number ≤ c.args.encoding.now.clauses.numbers)) c.in-Selection.numbers.items = answer.0.1 in
-    let Over : List ℕ → Type 0 = λ xs. IsAcceptable c.args.universe.now (selects xs) in
-    subst Over (sym c.as_slice.ensures.value)
-    (c.true_selection_is_acceptable.ensures c.args.universe.now c.args.encoding.now c.in-Selection.numbers.items c.requires.ascending
-    c.requires.needed c.requires.encoding
-    (All-weaker (λ number. (1 ≤ number) × (number ≤ c.args.encoding.now.clauses.numbers)) (λ number. 1 ≤ number)
-    (λ number both. both.0) c.in-Selection.numbers.items bounds) answer.1)
+    subst (IsSelection c.args.encoding.now.clauses.numbers) (sym c.as_slice.ensures.value) answer.0
+
+pub settled-requires-clause-makes_true : goal.settled-requires-clause-makes_true
+settled-requires-clause-makes_true c =
+    let Is : Found → Type 0 = λ f. IsAnswer c.args.encoding.now.clauses c.args.limit f in
+    let answer : Is (found.Selection c.in-Selection.numbers) = subst Is c.in-Selection.is c.requires.found in
+    subst (λ (xs : List ℕ). MakesAllTrue xs c.args.encoding.now.clauses.clauses) (sym c.as_slice.ensures.value) answer.1
 
 pub returns-in-Limit : goal.returns-in-Limit
 returns-in-Limit c =
