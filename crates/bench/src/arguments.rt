@@ -16,6 +16,8 @@ pub enum Measure {
     Status,
     /// Building the universe of a request over a Packages file.
     Universe,
+    /// Encoding that universe into clauses.
+    Clauses,
 }
 
 /// A measure, and the file on which it is taken.
@@ -49,6 +51,7 @@ fn measure_of(word: &str) -> Option<Measure> {
         "index" => Some(Measure::Index),
         "status" => Some(Measure::Status),
         "universe" => Some(Measure::Universe),
+        "clauses" => Some(Measure::Clauses),
         _ => None,
     }
 }

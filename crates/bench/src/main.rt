@@ -1,6 +1,6 @@
 //! What debplan's readers cost on real data. `bench MEASURE FILE ..` reads each FILE once, does the work of
 //! the MEASURE before it, and prints fixed counts; times go to standard error alone.
-//! It stands on the readers, `kept_index` and `universe_build`, and nothing stands on it.
+//! It stands on the readers, `kept_index`, `universe_build` and `encode`, and nothing stands on it.
 #![tactic(auto)]
 
 mod arguments;
@@ -18,7 +18,8 @@ use arguments::{Measure, Task, tasks_of};
 use std::process::ExitCode;
 use std::{env, fs, io};
 
-const USAGE: &str = "usage: bench (stanzas|versions|relations|index|status|universe) FILE ..";
+const USAGE: &str =
+    "usage: bench (stanzas|versions|relations|index|status|universe|clauses) FILE ..";
 
 fn main(rt: HostRuntime) -> io::Result<ExitCode> {
     let words: Vec<String> = env::args(&rt)?.skip(1).collect(rt.alloc())?;
@@ -45,5 +46,6 @@ fn run(rt: &HostRuntime, task: &Task<'_>) -> Result<()> {
         Measure::Index => indices::measure(rt, fs::read(rt, path)?.as_slice()),
         Measure::Status => statuses::measure(rt, fs::read(rt, path)?.as_slice()),
         Measure::Universe => universes::measure(rt, path),
+        Measure::Clauses => universes::measure_clauses(rt, path),
     }
 }

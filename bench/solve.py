@@ -1,0 +1,179 @@
+#!/usr/bin/python3
+"""solve.py DIR PROGRAM [--empty] [--apt] [--libsolv] GOAL..: solves requests by debplan and shows what comes out, a row of
+a table for each. A GOAL is `install:NAME`, `remove:NAME`, `upgrade:NAME`, `upgrade-all`, or `random:COUNT`, which stands
+for as many names of the indices to be installed, drawn at random but the same in each run (`gone:COUNT`: installed names to
+be removed). DIR is what tools/collect-inputs wrote on this machine, PROGRAM is debplan. Each plan has to be judged `yes` by
+check-plan, and each refutation by check-refutation. With --empty nothing is installed. With --apt the packages that
+`apt-get -s` would change, without recommended ones, stand beside; with --libsolv the time of libsolv from the same texts.
+It exits with 1 where an answer isn't judged yes or a request is undecided. --libsolv wants Debian's package python3-solv."""
+
+import argparse
+import glob
+import os
+import random
+import re
+import subprocess
+import sys
+import tempfile
+import time
+
+HERE = os.path.dirname(os.path.abspath(__file__))
+STATUS = re.compile(r"^Status: \S+ \S+ (\S+)$", re.MULTILINE)
+INST = re.compile(r"^Inst (\S+) (\[\S+\] )?\(", re.MULTILINE)
+REMV = re.compile(r"^(?:Remv|Purg) (\S+)", re.MULTILINE)
+
+
+def run(command):
+    """The exit status, what a process prints, its wall time in milliseconds, and its peak memory in MiB."""
+    with tempfile.TemporaryFile() as out:
+        start = time.perf_counter()
+        process = subprocess.Popen(command, stdout=out, stderr=subprocess.STDOUT)
+        _, status, usage = os.wait4(process.pid, 0)
+        wall = (time.perf_counter() - start) * 1000
+        out.seek(0)
+        return os.waitstatus_to_exitcode(status), out.read().decode(), wall, usage.ru_maxrss / 1024
+
+
+def installed_in(path):
+    """The version of each name that is present in a status file."""
+    found = {}
+    with open(path, encoding="utf-8") as text:
+        for stanza in text.read().split("\n\n"):
+            state = STATUS.search(stanza)
+            if state and state[1] not in ("not-installed", "config-files"):
+                fields = dict(re.findall(r"^(Package|Version): (\S+)$", stanza, re.MULTILINE))
+                found[fields["Package"]] = fields["Version"]
+    return found
+
+
+class Outcome:
+    """What the steps of a plan change, and how many packages are unconfigured at a time."""
+
+    def __init__(self, plan, start):
+        end, open_names, self.most, self.deconfigured, self.steps = dict(start), set(), 0, 0, 0
+        for line in plan.splitlines()[1:]:
+            action, *words = line.split()
+            self.steps += 1
+            if action == "unpack":
+                end[words[0]] = words[1]
+                open_names.add(words[0])
+            elif action == "configure":
+                open_names.difference_update(words)
+            elif action == "deconfigure":
+                self.deconfigured += 1
+                open_names.add(words[0])
+            elif action == "remove":
+                end.pop(words[0], None)
+                open_names.discard(words[0])
+            self.most = max(self.most, len(open_names))
+        self.new = len(end.keys() - start.keys())
+        self.removed = len(start.keys() - end.keys())
+        self.upgraded = sum(1 for name in end.keys() & start.keys() if end[name] != start[name])
+
+
+def lines_of(goal):
+    return goal.replace(":", " ") + "\n"
+
+
+class Bench:
+    def __init__(self, options):
+        self.folder, self.program = os.path.abspath(options.folder), os.path.abspath(options.program)
+        self.options = options
+        self.room = tempfile.mkdtemp()
+        self.status = os.path.join(self.room, "status") if options.empty else os.path.join(self.folder, "status")
+        if options.empty:
+            open(self.status, "w", encoding="utf-8").close()
+        self.start = installed_in(self.status)
+        self.faults = 0
+
+    def judged(self, answer, inputs, text):
+        """Whether the judge says yes to a plan or a refutation."""
+        path = os.path.join(self.room, "answer")
+        with open(path, "w", encoding="utf-8") as file:
+            file.write(text)
+        _, said, _, _ = run([self.program, answer, *inputs, path])
+        return said.strip()
+
+    def apt(self, goal):
+        """What apt would change: packages new, upgraded and removed, or that it refuses."""
+        kind, _, name = goal.partition(":")
+        words = {"install": ["install", name], "remove": ["remove", name], "upgrade": ["install", "--only-upgrade", name]}
+        command = ["apt-get", "-s", "--no-install-recommends", "-o", f"Dir::State::status={self.status}"]
+        code, said, _, _ = run([*command, *words.get(kind, ["dist-upgrade"])])
+        if code:
+            return "refuses"
+        new = sum(1 for _, old in INST.findall(said) if not old)
+        upgraded = sum(1 for _, old in INST.findall(said) if old)
+        return f"{new}/{upgraded}/{len(REMV.findall(said))}"
+
+    def libsolv(self, goal):
+        kind, _, name = goal.partition(":")
+        if kind != "install":
+            return ""
+        code, _, wall, _ = run(["/usr/bin/python3", os.path.join(HERE, "libsolv_request.py"), self.folder, name])
+        return f"{wall:.0f} ms" if code == 0 else "refuses"
+
+    def row(self, goal):
+        request = os.path.join(self.room, "request")
+        with open(request, "w", encoding="utf-8") as text:
+            text.write(lines_of(goal))
+        sources = os.path.join(self.folder, "sources")
+        inputs = ["--arch", "amd64", "--status", self.status, "--sources", sources, "--request", request]
+        code, said, wall, peak = run([self.program, "solve", *inputs])
+        cells = [f"`{lines_of(goal).strip()}`"]
+        if code == 0:
+            judged, outcome = self.judged("check-plan", inputs, said), Outcome(said, self.start)
+            cells += ["plan", f"{outcome.new}/{outcome.upgraded}/{outcome.removed}", f"{outcome.steps}"]
+            cells += [f"{outcome.deconfigured}", f"{outcome.most}"]
+        elif code == 1:
+            judged = self.judged("check-refutation", inputs, said)
+            cells += ["refuted", "", f"{len(said.splitlines()) - 1} lines", "", ""]
+        else:
+            judged = "undecided"
+            cells += [said.strip(), "", "", "", ""]
+        if judged != "yes":
+            self.faults += 1
+            cells[1] += f" ({judged})"
+        cells += [f"{wall:.0f} ms", f"{peak:.0f} MiB"]
+        cells += [self.apt(goal)] if self.options.apt else []
+        cells += [self.libsolv(goal)] if self.options.libsolv else []
+        print("| " + " | ".join(cells) + " |", flush=True)
+
+
+def goals_of(words, folder, start):
+    """The goals, with those drawn at random put in."""
+    names = set()
+    if any(word.startswith("random:") for word in words):
+        for path in sorted(glob.glob(os.path.join(folder, "index-*"))):
+            with open(path, encoding="utf-8") as text:
+                names.update(line[9:].strip() for line in text if line.startswith("Package: "))
+    for word in words:
+        kind, _, count = word.partition(":")
+        if kind == "random":
+            yield from (f"install:{name}" for name in random.Random(1).sample(sorted(names), int(count)))
+        elif kind == "gone":
+            yield from (f"remove:{name}" for name in random.Random(1).sample(sorted(start), int(count)))
+        else:
+            yield word
+
+
+def main():
+    parser = argparse.ArgumentParser(usage=__doc__)
+    parser.add_argument("folder")
+    parser.add_argument("program")
+    parser.add_argument("--empty", action="store_true")
+    parser.add_argument("--apt", action="store_true")
+    parser.add_argument("--libsolv", action="store_true")
+    parser.add_argument("goals", nargs="+")
+    options = parser.parse_args()
+    bench = Bench(options)
+    columns = ["Request", "Answer", "New, upgraded, removed", "Steps", "Deconfigured", "At a time", "Time", "Peak"]
+    columns += ["apt"] if options.apt else []
+    columns += ["libsolv"] if options.libsolv else []
+    print("| " + " | ".join(columns) + " |\n|" + "---|" * len(columns))
+    for goal in goals_of(options.goals, bench.folder, bench.start):
+        bench.row(goal)
+    sys.exit(1 if bench.faults else 0)
+
+
+main()
