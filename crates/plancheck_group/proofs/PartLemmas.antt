@@ -1,16 +1,16 @@
 -- A group passes where each of its names is ready and supplied, and what that says of its greatest part.
-use Rattle.std.proofs.Common.{◌≡◌, ◌≢◌, ℕ, ◌+◌, ◌<◌, ◌≤◌, true, List, [], ◌∷◌, ◌++◌, length, get_or, take, drop, sym, ap, subst, ◌∙◌}
+use Rattle.std.proofs.Common.{◌≡◌, ◌≢◌, ℕ, ◌+◌, ◌-◌, ◌<◌, ◌≤◌, true, List, [], ◌∷◌, ◌++◌, length, get_or, take, drop, sym, ap, subst, arith, ◌∙◌}
 use Rattle.std.specs.Prelude.{◌↔◌, ◌==◌}
 use Rattle.std.specs.List.{All, Contains}
 use Rattle.std.proofs.lemmas.List.Elements.{All-append, All-contains, All-drop, All-take, All-weaker, All-contains_itself, Contains-append_left, Contains-append_right, Contains-append_cases}
-use Rattle.std.proofs.lemmas.List.{drop_more, nil_from_length, take_all, take_more, take-append-drop}
+use Rattle.std.proofs.lemmas.List.{drop_more, get_or_default, length-append, length-drop, length-take-le, nil_from_length, take_all, take_more, take-append-drop}
 use Rattle.std.proofs.lemmas.Bool.{eq-eqb, eqb-true}
 use Rattle.rules.specs.Configure.{AreConfigurable, HasConfigurable, ArePreDependsInstalled, IsConfigurable, IsUnbroken, AreUnbroken, GroupPasses, IsGreatestPart, members_of, others_of}
 use Rattle.rules.specs.Database.{Record, HasRecord, ForMembers, installed_of}
 use Rattle.rules.specs.ElementLaws.{All-intro, Contains-cons, Contains-head, Contains-nil, Contains-rest}
 use Rattle.rules.specs.Sound.{MeetsClauses}
 use Rattle.rules.proofs.GroupLemmas.{MemberPasses, MemberPasses-more, ForMembers-each, GroupPasses-each, GroupPasses-from_each, contains-others_of, empty_from_none, others_of-contains}
-use Rattle.plancheck_group.specs.Part.{AreSupplied, HasNoPartWithout, HasWhatPasses, IsPartWith, IsReady, IsSupplied}
+use Rattle.plancheck_group.specs.Part.{AreSupplied, HasNoPartWithout, HasWhatPasses, IsNarrowed, IsPartWith, IsReady, IsSupplied, IsSuppliedPart}
 use mathlib.Core.Logic.{inl, inr}
 
 -- the name of a list of one is in it
@@ -138,6 +138,31 @@ part_pushed P names part more last copied pushed same has is =
 pub whole_has : (db : List Record) (names : List (List ℕ)) → HasWhatPasses db names names
 whole_has db names = record { within = All-contains_itself names; greatest = λ other within passes. within }
 
+-- what a part has of a group that has what passes of another, it has of that one
+pub has_through : (db : List Record) (names group part : List (List ℕ)) → HasWhatPasses db names group → HasWhatPasses db group part
+    → HasWhatPasses db names part
+has_through db names group part first second = record {
+  within = All-weaker (Contains group) (Contains names) (λ name there. All-contains (Contains names) group name first.within there) part second.within;
+  greatest = λ other within passes. second.greatest other (first.greatest other within passes) passes;
+}
+
+-- the ready names have what passes
+pub ready_has : (db : List Record) (names ready : List (List ℕ)) → IsPartWith (IsReady db) names ready → HasWhatPasses db names ready
+ready_has db names ready is = record {
+  within = All-intro (Contains names) ready (λ name there. ((is name).0 there).0);
+  greatest = λ other within passes. All-intro (Contains ready) other (λ name there.
+      (is name).1 (All-contains (Contains names) other name within there, ready_in db other passes name there));
+}
+
+-- what is left of ready names is ready
+pub still_ready : (db : List Record) (names part : List (List ℕ)) → All (IsReady db) names → HasWhatPasses db names part → All (IsReady db) part
+still_ready db names part ready has = All-weaker (Contains names) (IsReady db)
+    (λ name there. All-contains (IsReady db) names name ready there) part has.within
+
+-- all names are narrowed to themselves
+pub whole_narrowed : (db : List Record) (names : List (List ℕ)) → IsNarrowed db names names
+whole_narrowed db names = record { has = whole_has db names; no_longer = omega arith }
+
 -- a part that passes and has what passes is the greatest
 pub greatest_from : (db : List Record) (names part : List (List ℕ)) → HasWhatPasses db names part → All (IsReady db) part
     → All (IsSupplied db part) part → IsGreatestPart db names part
@@ -146,6 +171,13 @@ greatest_from db names part has ready supplied = record {
   passes = group_from db part ready supplied;
   greatest = has.greatest;
 }
+
+-- the greatest part is found where what is supplied is left, then what is ready, and then what is supplied
+pub greatest_by_steps : (db : List Record) (names supplied ready part : List (List ℕ)) → IsSuppliedPart db names supplied
+    → IsPartWith (IsReady db) supplied ready → IsSuppliedPart db ready part → IsGreatestPart db names part
+greatest_by_steps db names supplied ready part first is last = greatest_from db names part
+    (has_through db names supplied part first.has (has_through db supplied ready part (ready_has db supplied ready is) last.has))
+    (still_ready db ready part (part_has (IsReady db) supplied ready is) last.has) last.supplied
 
 -- a name that isn't supplied in a group is in no part of it that passes
 pub unsupplied_in : (db : List Record) (group other : List (List ℕ)) (name : List ℕ) → ¬ IsSupplied db group name
@@ -183,6 +215,16 @@ pub parted : (names : List (List ℕ)) (place : ℕ) → place < length names
 parted names place within = sym (take-append-drop place names)
     ∙ ap (λ rest. take place names ++ rest) (drop_more names place [] within)
 
+-- a list without the element at a place has one less
+pub length_without_at : (names : List (List ℕ)) (place : ℕ) → place < length names
+    → length (take place names ++ drop (place + 1) names) + 1 ≡ length names
+length_without_at names place within =
+    let parts : length (take place names ++ drop (place + 1) names) ≡ length (take place names) + length (drop (place + 1) names)
+    = length-append (take place names) (drop (place + 1) names) in
+    let front : length (take place names) ≡ place = length-take-le place names (omega arith) in
+    let back : length (drop (place + 1) names) ≡ length names - (place + 1) = length-drop (place + 1) names in
+    omega arith
+
 -- so has a part without the name at a place, where that isn't supplied
 pub has_without_at : (db : List Record) (names part : List (List ℕ)) (place : ℕ) → place < length part
     → ((d : List ℕ) → ¬ IsSupplied db part (get_or part place d)) → HasWhatPasses db names part
@@ -193,6 +235,32 @@ has_without_at db names part place within lacks has =
     let Lacks : List (List ℕ) → Type 0 = λ group. ¬ IsSupplied db group name in
     has_without db names (take place part) (drop (place + 1) part) name (subst (HasWhatPasses db names) whole has)
     (subst Lacks whole (lacks []))
+
+-- where the name at a place isn't supplied, what is read there isn't
+pub lacks_at : (db : List Record) (part : List (List ℕ)) (place : ℕ) (name : List ℕ) → place < length part → name ≡ get_or part place name
+    → ¬ IsSupplied db part name → (d : List ℕ) → ¬ IsSupplied db part (get_or part place d)
+lacks_at db part place name within is lacks d there = lacks (subst (IsSupplied db part) (get_or_default part place d name within ∙ sym is) there)
+
+-- a part narrowed further by a name that isn't supplied
+pub narrowed_without_at : (db : List Record) (names part : List (List ℕ)) (place : ℕ) → place < length part
+    → ((d : List ℕ) → ¬ IsSupplied db part (get_or part place d)) → IsNarrowed db names part
+    → IsNarrowed db names (take place part ++ drop (place + 1) part)
+narrowed_without_at db names part place within lacks narrowed = record {
+  has = has_without_at db names part place within lacks narrowed.has;
+  no_longer = let long = length_without_at part place within in let longer = narrowed.no_longer in omega arith;
+}
+
+-- what two walks leave of a part without a name that isn't supplied has what passes, and is shorter than the part
+pub walked_on : (db : List Record) (names part fewer up down : List (List ℕ)) (place : ℕ) → HasWhatPasses db names part
+    → place < length part → ((d : List ℕ) → ¬ IsSupplied db part (get_or part place d))
+    → fewer ≡ take place part ++ drop (place + 1) part → IsNarrowed db fewer up → IsNarrowed db up down
+    → HasWhatPasses db names down × (length down < length part)
+walked_on db names part fewer up down place has within lacks is first second =
+    let left : HasWhatPasses db names fewer = subst (HasWhatPasses db names) (sym is) (has_without_at db names part place within lacks has) in
+    let shorter : length fewer + 1 ≡ length part = ap (λ (ns : List (List ℕ)). length ns + 1) is ∙ length_without_at part place within in (
+      has_through db names up down (has_through db names fewer up left first.has) second.has,
+      (let one = first.no_longer in let two = second.no_longer in omega arith),
+    )
 
 -- what holds of all names of a part holds of those but for one
 pub all_without_at : (P : List ℕ → Type 0) (part : List (List ℕ)) (place : ℕ) → All P part

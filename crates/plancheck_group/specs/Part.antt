@@ -1,5 +1,5 @@
 -- The parts of a group, name by name (Policy 7.2 and 7.3).
-use Rattle.std.specs.Prelude.{◌≡◌, ℕ, List, [], ◌∷◌, ◌++◌, ◌↔◌}
+use Rattle.std.specs.Prelude.{◌≡◌, ℕ, ◌≤◌, List, [], ◌∷◌, ◌++◌, ◌↔◌, length}
 use Rattle.std.specs.List.{All, Contains}
 use Rattle.rules.specs.Configure.{AreConfigurable, ArePreDependsInstalled, AreUnbroken, GroupPasses, IsGreatestPart, members_of, others_of}
 use Rattle.rules.specs.Database.{Record, ForMembers, IsPresent, installed_of, pkg_of}
@@ -31,6 +31,16 @@ IsPartWith P names part = (name : List ℕ) → Contains part name ↔ (Contains
 pub record HasWhatPasses (db : List Record) (names part : List (List ℕ)) : Type 0 where
   pub within : All (Contains names) part
   pub greatest : (other : List (List ℕ)) → All (Contains names) other → GroupPasses db other → All (Contains part) other
+
+-- the part has what passes of the group, and is no longer
+pub record IsNarrowed (db : List Record) (names part : List (List ℕ)) : Type 0 where
+  pub has : HasWhatPasses db names part
+  pub no_longer : length part ≤ length names
+
+-- the part has what passes of the group, and each of its names is supplied in it
+pub record IsSuppliedPart (db : List Record) (names part : List (List ℕ)) : Type 0 where
+  pub has : HasWhatPasses db names part
+  pub supplied : All (IsSupplied db part) part
 
 -- the greatest part that passes of the group's names but for this one is empty
 abbrev pub HasNoPartWithout : List Record → List (List ℕ) → List ℕ → Type 0

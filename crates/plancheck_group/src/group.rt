@@ -4,27 +4,30 @@
 ghost use Rattle.std.specs.Prelude.{◌≡◌, ◌↔◌, IfOk, IsTrue};
 ghost use Rattle.std.specs.List.{All};
 ghost use Rattle.rules.specs.Configure.{IsGreatestPart, IsIndivisible, others_of};
-ghost use Rattle.plancheck_group.specs.Part.{HasNoPartWithout, IsPartWith, IsReady};
+ghost use Rattle.plancheck_group.specs.Part.{HasNoPartWithout, IsPartWith, IsReady, IsSuppliedPart};
 
-use crate::part::{first_unsupplied, others_of, ready_of};
+use crate::part::{copies_of, drop_downward, drop_upward, first_unsupplied, others_of, ready_of};
 use rules::{Name, indivisible_by_others};
 use status::Records;
 use std::alloc::{AllocError, Global};
 
-// Drops the names whose Depends the others don't meet, one by one: what such a name lacks is lacking in every part of
-// the group, so no part that passes has it.
+// Drops the names whose Depends the others don't meet: what such a name lacks is lacking in every part of the group, so no part
+// that passes has it. The walks go up and down, since a name is often dropped for one that stands behind it.
 fn keep_supplied(db: &Records<'_, '_>, part: &mut Vec<Name>)
-    requires { All (IsReady db.now) part.old.items }
-    ensures { IsGreatestPart db.now part.old.items part.new.items }
+    ensures { IsSuppliedPart db.now part.old.items part.new.items }
 {
+    drop_downward(db, part);
     while let Some(place) = first_unsupplied(db, part.as_slice()) {
         part.remove(place);
+        drop_upward(db, part, place);
+        drop_downward(db, part);
     }
 }
 
 /// The names of the greatest part of the group that passes the tests of a configuring together, but for the one of its
-/// parts: it has each name of every part that does. A name is tested once for each name that is dropped, and once more;
-/// a test costs what `are_supplied` says. Memory alone can fail.
+/// parts: it has each name of every part that does. Names are tested in walks over them, down and up, of which each but the
+/// last two drops one or more; a test costs what `are_supplied` says, and for what is left then what `ready_of` says. Memory
+/// alone can fail.
 pub fn greatest_part(
     alloc: Global,
     db: &Records<'_, '_>,
@@ -32,7 +35,9 @@ pub fn greatest_part(
 ) -> Result<Vec<Name>, AllocError>
     ensures { IfOk result (λ part. IsGreatestPart db.now names.now part.items) }
 {
-    let mut part = ready_of(alloc, db, names)?;
+    let mut supplied = copies_of(alloc, names)?;
+    keep_supplied(db, &mut supplied);
+    let mut part = ready_of(alloc, db, supplied.as_slice())?;
     keep_supplied(db, &mut part);
     Ok(part)
 }

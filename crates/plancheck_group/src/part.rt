@@ -1,8 +1,8 @@
 // The names of a group that pass alone, or beside the other members (Policy 7.2 and 7.3).
 
-ghost use Rattle.std.specs.Prelude.{◌≢◌, ◌↔◌, ◌∷◌, [], ℕ, ◌<◌, List, get_or, length, IfOk, IsTrue, MatchOption};
+ghost use Rattle.std.specs.Prelude.{◌≡◌, ◌≢◌, ◌↔◌, ◌∷◌, [], ℕ, ◌<◌, List, get_or, length, IfOk, IsTrue, MatchOption};
 ghost use Rattle.std.specs.List.{All};
-ghost use Rattle.plancheck_group.specs.Part.{IsPartWith, IsReady, IsSupplied};
+ghost use Rattle.plancheck_group.specs.Part.{IsNarrowed, IsPartWith, IsReady, IsSupplied};
 
 use crate::configure::{are_configurable, are_pre_depends_installed, are_supplied, are_unbroken};
 use plancheck_end::is_same;
@@ -36,6 +36,17 @@ pub fn ready_of(
         }
     }
     Ok(ready)
+}
+
+/// The names, copied. Memory alone can fail.
+pub fn copies_of(alloc: Global, names: &[Name]) -> Result<Vec<Name>, AllocError>
+    ensures { IfOk result (λ copies. copies.items ≡ names.now) }
+{
+    let mut copies = Vec::new(alloc);
+    for name in names {
+        copies.push(name.try_copy(alloc)?)?;
+    }
+    Ok(copies)
 }
 
 /// The names but for this one. Linear in them. Memory alone can fail.
@@ -72,4 +83,32 @@ pub fn first_unsupplied(db: &Records<'_, '_>, part: &[Name]) -> Option<usize>
         }
     }
     None
+}
+
+/// Drops names whose Depends aren't met in what is left then, in one walk from the last to the first. What passes stays. For
+/// each name the cost is that of `are_supplied`.
+pub fn drop_downward(db: &Records<'_, '_>, part: &mut Vec<Name>)
+    ensures { IsNarrowed db.now part.old.items part.new.items }
+{
+    let mut place = part.len();
+    while place > 0 {
+        place -= 1;
+        if !is_supplied(db, part.as_slice(), &part[place]) {
+            part.remove(place);
+        }
+    }
+}
+
+/// The same in one walk from this place to the last.
+pub fn drop_upward(db: &Records<'_, '_>, part: &mut Vec<Name>, from: usize)
+    ensures { IsNarrowed db.now part.old.items part.new.items }
+{
+    let mut place = from;
+    while place < part.len() {
+        if is_supplied(db, part.as_slice(), &part[place]) {
+            place += 1;
+        } else {
+            part.remove(place);
+        }
+    }
 }

@@ -1,0 +1,21 @@
+-- A name that isn't supplied in what is left is dropped.
+use Rattle.std.proofs.Common.{◌≡◌, false, true, ℕ, ◌-◌, List, sym, subst, arith, ◌∙◌}
+use Rattle.plancheck_group.specs.Part.{IsNarrowed, IsSupplied}
+use Rattle.plancheck_group.proofs.PartLemmas.{lacks_at, narrowed_without_at, whole_narrowed}
+use Rattle.plancheck_group.proofs.part.drop_downward.Goals as goal
+
+pub loop-place-init : goal.loop-place-init
+loop-place-init c = record { narrowed = whole_narrowed c.args.db.now c.args.part.now.items; within = omega (arith, c.len-place.ensures) }
+
+pub loop-place-preserved-then-not-is_supplied : goal.loop-place-preserved-then-not-is_supplied
+loop-place-preserved-then-not-is_supplied c = record {
+  narrowed = subst (IsNarrowed c.args.db.now c.args.part.now.items) (sym c.remove.ensures.by_index.2)
+      (narrowed_without_at c.args.db.now c.args.part.now.items c.loop-place.part.items (c.loop-place.place - 1)
+      (omega (arith, c.loop-place.invariant.within, c.loop-place-test.true))
+      (lacks_at c.args.db.now c.loop-place.part.items (c.loop-place.place - 1) c.index.result.now (omega (arith, c.loop-place.invariant.within, c.loop-place-test.true)) c.index.ensures
+      (λ there. absurd (let e : true ≡ false = sym (c.is_supplied.ensures.1
+      (subst (λ (group : List (List ℕ)). IsSupplied c.args.db.now group c.index.result.now) (sym c.as_slice.ensures.value) there))
+      ∙ c.if-not-is_supplied.true in cc)))
+      c.loop-place.invariant.narrowed);
+  within = omega (arith, c.loop-place.invariant.within, c.loop-place-test.true, c.remove.ensures.len);
+}
