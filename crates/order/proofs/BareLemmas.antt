@@ -9,8 +9,9 @@ use Rattle.rules.specs.Sound.{HasMember, HasVersion}
 use Rattle.rules.specs.Universe.{IsOf, Universe}
 use Rattle.rules.specs.declared.step.Step.{Step}
 use Rattle.rules.specs.declared.step.Step.TheVariants as step
-use Rattle.order.specs.Order.{InstalledAreSelected, IsAtRest, IsForward, IsOfSelected, IsOrder, IsWantedEnd}
-use Rattle.order.specs.Selection.{bare}
+use Rattle.forward_steps.specs.Forward.{IsAtRest, IsForward, IsOfSelected}
+use Rattle.order.specs.Order.{InstalledAreSelected, IsOrder, IsWantedEnd}
+use Rattle.forward_steps.specs.Selection.{bare}
 use Rattle.order.specs.declared.ordered.Ordered.{Ordered}
 use Rattle.order.specs.declared.ordered.Ordered.TheVariants as ordered
 

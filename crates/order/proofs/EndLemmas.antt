@@ -17,10 +17,10 @@ use Rattle.rules.specs.declared.step.Verdict.{Verdict}
 use Rattle.rules.specs.declared.step.Verdict.TheVariants as verdict
 use Rattle.plancheck_end.proofs.InstalledLemmas.{all_installed, installed_all}
 use Rattle.universe.specs.Universe.{packages_of}
-use Rattle.order.specs.Door.{HasStanza}
+use Rattle.forward_steps.specs.Door.{HasStanza}
 use Rattle.order.specs.Order.{InstalledAreSelected, IsWantedEnd}
-use Rattle.order.specs.Selection.{IsOneEach, is_member_version, member_at, with_stanza}
-use Rattle.order.proofs.MemberVersions.{version_from_test, version_test_from}
+use Rattle.forward_steps.specs.Selection.{IsOneEach, is_member_version, member_at, with_stanza}
+use Rattle.forward_steps.proofs.MemberVersions.{version_from_test, version_test_from}
 
 -- an end with something against it isn't wanted
 pub not_wanted_first : GoodPlanHasYes → (u : Universe) (start : List Record) (selected : List Pkg) (steps : List Step) (db : List Record)

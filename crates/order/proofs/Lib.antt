@@ -1,10 +1,3 @@
-pub mod MemberLemmas
 pub mod OneEachLemmas
-pub mod StandingLemmas
-pub mod WorkLemmas
 pub mod BareLemmas
 pub mod EndLemmas
-pub mod ForwardLemmas
-pub mod MemberVersions
-pub mod MoveLemmas
-pub mod GroupLemmas

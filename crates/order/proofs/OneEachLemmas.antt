@@ -20,7 +20,7 @@ use Rattle.rules.proofs.Rising.{pairs_head, pairs_tail}
 use Rattle.std.proofs.lemmas.List.Elements.{All-contains, All-map}
 use Rattle.rules.specs.ElementLaws.{All-intro, Contains-map_intro}
 use Rattle.universe.specs.Universe.{numbered}
-use Rattle.order.specs.Selection.{AreApart, IsOneEach, chosen, name_at}
+use Rattle.forward_steps.specs.Selection.{AreApart, IsOneEach, chosen, name_at}
 
 -- a table has no more names than those that it had and those that are put in
 shorter : (earlier names : List (List ℕ)) → length (fold with_name earlier names) ≤ length earlier + length names

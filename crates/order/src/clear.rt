@@ -2,9 +2,9 @@
 // decides what is taken.
 
 ghost use Rattle.std.specs.Prelude.{IfOk};
-ghost use Rattle.order.specs.Door.{IsReached};
+ghost use Rattle.forward_steps.specs.Door.{IsReached};
 
-use crate::door::{Door, Ground, take};
+use forward_steps::{Door, Ground, take};
 use plancheck::remove_failing;
 use plancheck_end::{breaks_other, conflicts_with, matches_some};
 use relation::{Clause, Pkg};

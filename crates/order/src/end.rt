@@ -6,13 +6,12 @@ ghost use Rattle.rules.specs.Database.{IsInstalled, installed_of, pkg_of};
 ghost use Rattle.rules.specs.Sound.{HasVersion};
 ghost use Rattle.rules.specs.Universe.{IsOf};
 ghost use Rattle.universe.specs.Universe.{packages_of};
-ghost use Rattle.order.specs.Door.{IsGround, IsReached, selected_in};
+ghost use Rattle.forward_steps.specs.Door.{IsGround, IsReached, selected_in};
 ghost use Rattle.order.specs.Order.{InstalledAreSelected, IsWantedEnd};
-ghost use Rattle.order.specs.Selection.{IsOneEach, is_member_version};
+ghost use Rattle.forward_steps.specs.Selection.{IsOneEach, is_member_version};
 
-use crate::door::{Door, Ground};
-use crate::member::{Member, Members};
 use debversion::Version;
+use forward_steps::{Door, Ground, Member, Members};
 use plancheck_end::{first_against, is_same};
 use relation::Pkg;
 use rules::{good_plan_has_yes, good_where_nothing_is_against};

@@ -4,20 +4,13 @@
 #![tactic(auto)]
 
 mod clear;
-mod door;
 mod end;
-mod forward;
-mod group;
-mod in_order;
-mod member;
 mod one_each;
 mod ordered;
 mod ordering;
-mod rank;
 mod ring;
 mod strategy;
 mod tidy;
-mod waiting;
 
 pub use one_each::is_one_each;
 pub use ordered::Ordered;

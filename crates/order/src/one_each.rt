@@ -2,7 +2,7 @@
 
 ghost use Rattle.std.specs.Prelude.{◌≡◌, IfOk, IsTrue, map};
 ghost use Rattle.std.specs.List.{filter_map};
-ghost use Rattle.order.specs.Selection.{AreApart, IsOneEach, chosen, name_at};
+ghost use Rattle.forward_steps.specs.Selection.{AreApart, IsOneEach, chosen, name_at};
 
 use indexmap::IndexSet;
 use std::alloc::{AllocError, Global};

@@ -2,8 +2,7 @@
 // first guess at a group that can be configured together; whether it is one, the judge says.
 
 use crate::clear::present;
-use crate::member::Members;
-use crate::waiting::is_waiting;
+use forward_steps::{Members, is_waiting};
 use indexmap::IndexSet;
 use plancheck_end::{is_met, matches_some};
 use relation::{Clause, Pkg};

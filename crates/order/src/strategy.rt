@@ -4,14 +4,11 @@
 
 ghost use Rattle.std.specs.Prelude.{IfOk};
 ghost use Rattle.std.specs.List.{Contains};
-ghost use Rattle.order.specs.Door.{IsGround, IsReached};
+ghost use Rattle.forward_steps.specs.Door.{IsGround, IsReached};
 
 use crate::clear::{breaking, broken_by, conflicting, cut_first, deconfigure_each, is_broken};
-use crate::door::{Door, Ground};
-use crate::forward::{remove_first, unpack};
-use crate::member::{Member, Members};
 use crate::tidy::{configure_alone, tidy};
-use crate::waiting::{leaving, waiting};
+use forward_steps::{Door, Ground, Member, Members, leaving, remove_first, unpack, waiting};
 use index::IndexPackage;
 use plancheck::unpack_failing;
 use plancheck_end::{are_met, is_met, matches_some};

@@ -2,13 +2,10 @@
 // proof beside the door's, since a step that isn't allowed isn't taken.
 
 ghost use Rattle.std.specs.Prelude.{IfOk};
-ghost use Rattle.order.specs.Door.{IsGround, IsReached};
+ghost use Rattle.forward_steps.specs.Door.{IsGround, IsReached};
 
-use crate::door::{Door, Ground, take};
-use crate::group::group_of;
-use crate::in_order::in_order;
 use crate::ring::fewest_in_need;
-use crate::waiting::{leaving, waiting};
+use forward_steps::{Door, Ground, group_of, in_order, leaving, take, waiting};
 use rules::{Name, Step};
 use status::Records;
 use std::alloc::AllocError;

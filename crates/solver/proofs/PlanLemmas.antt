@@ -4,7 +4,7 @@ use Rattle.std.specs.Prelude.{◌↔◌}
 use Rattle.std.specs.List.{All, Contains, cons_option, filter_map}
 use Rattle.encode.specs.Selection.{selects}
 use Rattle.order.specs.Order.{InstalledAreSelected, IsPlanFor}
-use Rattle.order.specs.Selection.{chosen}
+use Rattle.forward_steps.specs.Selection.{chosen}
 use Rattle.plain.specs.PhaseLaws.{EndsWell, HasJust}
 use Rattle.plainness.specs.Members.{numbered_members, pkg_of_number}
 use Rattle.plainness.proofs.MemberLemmas.{same_members}

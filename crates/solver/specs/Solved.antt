@@ -14,7 +14,7 @@ use Rattle.rules.specs.Universe.{Universe}
 use Rattle.rules.specs.declared.step.Step.{Step}
 use Rattle.encode.specs.Selection.{selects}
 use Rattle.order.specs.Order.{IsBlockedAfter, IsPlanFor}
-use Rattle.order.specs.Selection.{chosen}
+use Rattle.forward_steps.specs.Selection.{chosen}
 use Rattle.plain.specs.Change.{IsPlain}
 use Rattle.plain.specs.Order.{IsInFixedOrder}
 use Rattle.fixed_order.specs.Names.{HasNames, HasPairNames}

@@ -1,6 +1,6 @@
 -- The names are those of what is chosen.
 use Rattle.std.proofs.Common.{List, ℕ, Bor, map, ap, subst, ◌∙◌}
-use Rattle.order.specs.Selection.{AreApart, chosen}
+use Rattle.forward_steps.specs.Selection.{AreApart, chosen}
 use Rattle.order.proofs.OneEachLemmas.{names_chosen, one_each_where_apart}
 use Rattle.order.proofs.one_each.is_one_each.Goals as goal
 

@@ -1,7 +1,7 @@
 -- The names so far, and those of the numbers that are left, are those of all.
 use Rattle.std.proofs.Common.{◌≡◌, ◌++◌, List, ℕ, Bor, drop, map}
 use Rattle.std.specs.List.{filter_map}
-use Rattle.order.specs.Selection.{name_at}
+use Rattle.forward_steps.specs.Selection.{name_at}
 use Rattle.order.proofs.one_each.names_of.Given as goal
 
 abbrev pub invariant-loop-number : goal.invariant-loop-number

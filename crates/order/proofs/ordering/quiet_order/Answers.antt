@@ -3,12 +3,12 @@ use Rattle.std.proofs.Common.{◌≡◌, List, map, sym, subst, ap, ◌∙◌}
 use Rattle.std.specs.List.{All}
 use Rattle.rules.specs.Package.{Pkg}
 use Rattle.universe.specs.Universe.{packages_of}
-use Rattle.order.specs.Door.{HasStanza}
+use Rattle.forward_steps.specs.Door.{HasStanza}
 use Rattle.order.specs.Order.{IsOrder}
-use Rattle.order.specs.Selection.{IsOneEach, bare, chosen}
+use Rattle.forward_steps.specs.Selection.{IsOneEach, bare, chosen}
 use Rattle.order.proofs.BareLemmas.{order_from_bare}
 use Rattle.order.proofs.EndLemmas.{members_have_stanzas}
-use Rattle.order.proofs.MemberLemmas.{bare_one_each, chosen_members}
+use Rattle.forward_steps.proofs.MemberLemmas.{bare_one_each, chosen_members}
 use Rattle.order.proofs.ordering.quiet_order.Goals as goal
 
 pub members_order-requires-clause-one_each : goal.members_order-requires-clause-one_each

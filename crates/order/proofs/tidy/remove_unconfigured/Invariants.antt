@@ -1,5 +1,5 @@
 -- The steps so far are a run.
-use Rattle.order.specs.Door.{IsReached}
+use Rattle.forward_steps.specs.Door.{IsReached}
 use Rattle.order.proofs.tidy.remove_unconfigured.Given as goal
 
 abbrev pub invariant-loop-name : goal.invariant-loop-name

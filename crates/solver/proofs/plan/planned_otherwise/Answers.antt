@@ -1,7 +1,7 @@
 -- What the order promises of the selection.
 use Rattle.std.proofs.Common.{subst}
 use Rattle.order.specs.Order.{IsOrder}
-use Rattle.order.specs.Selection.{chosen}
+use Rattle.forward_steps.specs.Selection.{chosen}
 use Rattle.order.specs.declared.ordered.Ordered.{Ordered}
 use Rattle.order.specs.declared.ordered.Ordered.TheVariants as ordered
 use Rattle.solver.proofs.plan.planned_otherwise.Goals as goal

@@ -1,0 +1,5 @@
+pub mod Selection
+pub mod Forward
+pub mod Work
+pub mod Group
+pub mod Door

@@ -1,0 +1,63 @@
+// The names that wait to be configured, and those that are to be removed.
+
+ghost use Rattle.std.specs.Prelude.{◌≡◌, IfOk, map};
+ghost use Rattle.std.specs.List.{filter};
+ghost use Rattle.forward_steps.specs.Selection.{is_leaving, is_waiting};
+
+use crate::member::Members;
+use rules::{Name, is_name};
+use status::{Records, StateRecord};
+use std::alloc::{AllocError, Global};
+
+/// Whether the record is present and of a selected version, that is to be configured.
+pub fn is_waiting(members: &Members<'_>, found: &StateRecord<'_, '_>) -> bool
+    ensures { result ≡ is_waiting members.now found.now }
+{
+    match found.present_pkg() {
+        Some(there) if found.state().is_unconfigured() => {
+            is_name(found.name()) && members.has_version(found.name(), there.version())
+        }
+        _ => false,
+    }
+}
+
+/// The names of the records that wait to be configured, in the order of the records. Linear in them. Memory alone can fail.
+pub fn waiting(
+    alloc: Global,
+    db: &Records<'_, '_>,
+    members: &Members<'_>,
+) -> Result<Vec<Name>, AllocError>
+    ensures { IfOk result (λ names. names.items ≡ map (λ found. found.name) (filter (is_waiting members.now) db.now)) }
+{
+    let mut names = Vec::new(alloc);
+    for found in db.as_slice() {
+        if is_waiting(members, found) {
+            names.push(Name::copied_from(alloc, found.name())?)?;
+        }
+    }
+    Ok(names)
+}
+
+// Whether the record is present and of a name without a member.
+fn is_leaving(members: &Members<'_>, found: &StateRecord<'_, '_>) -> bool
+    ensures { result ≡ is_leaving members.now found.now }
+{
+    found.state().is_present() && is_name(found.name()) && members.of(found.name()).is_none()
+}
+
+/// The names of the present records that have no member, in the order of the records. Linear in them. Memory alone can fail.
+pub fn leaving(
+    alloc: Global,
+    db: &Records<'_, '_>,
+    members: &Members<'_>,
+) -> Result<Vec<Name>, AllocError>
+    ensures { IfOk result (λ names. names.items ≡ map (λ found. found.name) (filter (is_leaving members.now) db.now)) }
+{
+    let mut names = Vec::new(alloc);
+    for found in db.as_slice() {
+        if is_leaving(members, found) {
+            names.push(Name::copied_from(alloc, found.name())?)?;
+        }
+    }
+    Ok(names)
+}

@@ -1,7 +1,0 @@
--- The group is settled by the names before the index.
-use Rattle.std.proofs.Common.{take}
-use Rattle.order.specs.Group.{IsNarrowedBy}
-use Rattle.order.proofs.group.narrowed_by.Given as goal
-
-abbrev pub invariant-loop-name : goal.invariant-loop-name
-invariant-loop-name l = IsNarrowedBy l.db l.names (take l.name-index l.names) l.narrow.items
