@@ -2,6 +2,7 @@ pub mod NumberLemmas
 pub mod LiteralLemmas
 pub mod GrowLemmas
 pub mod PairLemmas
+pub mod PlaceLemmas
 pub mod NeedLemmas
 pub mod AgainstLemmas
 pub mod GoalLemmas

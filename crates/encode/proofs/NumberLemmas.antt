@@ -12,6 +12,7 @@ use Rattle.rules.specs.Universe.{Pair, Universe}
 use Rattle.index.specs.Providers.{IsProviderAt, plain_atom}
 use Rattle.refutation.specs.Premise.{PairHas}
 use Rattle.universe.specs.Universe.{packages_of}
+use Rattle.encode.specs.Known.{AreListed}
 use Rattle.encode.specs.Numbers.{AreNumbersOf, IsNumberAt}
 use mathlib.Core.Logic.{inl, inr}
 
@@ -92,12 +93,12 @@ of_atom pkg atom (native, either) = (
   ],
 )
 
--- the places of all providers of a name, which all that have the property have or provide, are those of the pairs with it
+-- among places that have all providers of a name, which all that have the property have or provide, are those of the pairs with it
 pub all_places : (u : Universe) (name places : List ℕ) (P : Pkg → Type 0)
-    → ((place : ℕ) → Contains places place ↔ IsProviderAt name (packages_of u.pairs) place)
+    → ((place : ℕ) → IsProviderAt name (packages_of u.pairs) place → Contains places place)
     → ((pkg : Pkg) → P pkg → Matches pkg (plain_atom name))
     → (number : ℕ) → Any (λ place. IsNumberAt u P place number) places ↔ PairHas u number P
-all_places u name places P exact named number = (to, from)
+all_places u name places P listed named number = (to, from)
   where
     to : Any (λ place. IsNumberAt u P place number) places → PairHas u number P
     to some = Any-elim (λ place. IsNumberAt u P place number) places (PairHas u number P) (λ place within both. both.1) some
@@ -106,7 +107,7 @@ all_places u name places P exact named number = (to, from)
     from has =
         let at = place_of u number P has in
         let pkg = at.2 in
-        Any-intro (λ place. IsNumberAt u P place number) places at.0 ((exact at.0).1 (pkg.0, pkg.1, named pkg.0 pkg.2)) (at.1, has)
+        Any-intro (λ place. IsNumberAt u P place number) places at.0 (listed at.0 (pkg.0, pkg.1, named pkg.0 pkg.2)) (at.1, has)
 
 -- a package matches an atom of a list with one more where it matches one of the list or that one
 pub matches_more : (pkg : Pkg) (atoms : List Atom) (index : ℕ) (d : Atom) → index < length atoms
@@ -213,17 +214,15 @@ others_more name pkg atoms index d within = let more = matches_more pkg atoms in
   λ either. elim either [ inl was ↦ (was.0, more.1 (inl was.1)) | inr here ↦ (here.0, more.1 (inr here.1)) ],
 )
 
--- the numbers with those of the places of all providers of the name, where all that have the property have or provide it
-pub by_places : (u : Universe) (packages : List Pkg) → packages ≡ packages_of u.pairs → (name places slice : List ℕ) → slice ≡ places
-    → (P : Pkg → Type 0) → ((place : ℕ) → Contains places place ↔ IsProviderAt name packages place)
-    → ((pkg : Pkg) → P pkg → Matches pkg (plain_atom name)) → (before after : List ℕ)
+-- the numbers with those of the places that are listed for the name, which all that have the property have or provide
+pub by_places : (u : Universe) (places : List ℕ → List ℕ) → AreListed places (packages_of u.pairs) → (name slice : List ℕ) → slice ≡ places name
+    → (P : Pkg → Type 0) → ((pkg : Pkg) → P pkg → Matches pkg (plain_atom name)) → (before after : List ℕ)
     → ((number : ℕ) → Contains after number ↔ (Contains before number ⊎ Any (λ place. IsNumberAt u P place number) slice))
     → (number : ℕ) → Contains after number ↔ (Contains before number ⊎ PairHas u number P)
-by_places u packages are name places slice is P matching named before after adds number =
-    let Exact : List Pkg → Type 0 = λ ps. (place : ℕ) → Contains places place ↔ IsProviderAt name ps place in
+by_places u places listed name slice is P named before after adds number =
     let Adds : List ℕ → Type 0 = λ ps. Contains after number ↔ (Contains before number ⊎ Any (λ place. IsNumberAt u P place number) ps) in
-    let all = all_places u name places P (subst Exact are matching) named number in
-    let here : Adds places = subst Adds is (adds number) in (
+    let all = all_places u name (places name) P (listed name) named number in
+    let here : Adds (places name) = subst Adds is (adds number) in (
       λ now. elim (here.0 now) [ inl was ↦ inl was | inr some ↦ inr (all.0 some) ],
       λ either. elim either [ inl was ↦ here.1 (inl was) | inr has ↦ here.1 (inr (all.1 has)) ],
     )
@@ -267,12 +266,3 @@ new_is_last numbers more new is number =
         | inr same ↦ Contains-append_right numbers (new ∷ []) number (subst (Contains (new ∷ [])) (sym same) (Contains-head new []))
       ],
     )
-
--- the places of all providers in another order
-pub places_ordered : (u : Universe) (name : List ℕ) (packages : List Pkg) (found places : List ℕ)
-    → ((place : ℕ) → Contains found place ↔ IsProviderAt name packages place) → ((place : ℕ) → Contains places place ↔ Contains found place)
-    → (place : ℕ) → Contains places place ↔ IsProviderAt name packages place
-places_ordered u name packages found places exact same place = (
-  λ within. (exact place).0 ((same place).0 within),
-  λ is. (same place).1 ((exact place).1 is),
-)

@@ -4,13 +4,11 @@ ghost use Rattle.std.specs.Prelude.{◌≡◌, ◌≢◌, ◌↔◌, ◌⊎◌, 
 ghost use Rattle.std.specs.List.{Any, Contains, slice_get};
 ghost use Rattle.std.specs.Option.{option_copied};
 ghost use Rattle.rules.specs.Package.{MatchesSome};
-ghost use Rattle.refutation.specs.Clause.{IsListOf};
-ghost use Rattle.refutation.specs.Premise.{PairHas, Selects};
-ghost use Rattle.refutation.specs.declared.literal.Literal.{Literal as LiteralValue};
+ghost use Rattle.refutation.specs.Premise.{PairHas};
 ghost use Rattle.universe.specs.Universe.{packages_of};
 ghost use Rattle.encode.specs.Numbers.{AreNumbersOf, IsAsked, IsNumberAt};
 
-use crate::known::Known;
+use crate::known::{Known, lent_at};
 use crate::query::Query;
 use relation::{Atom, Pkg};
 use std::alloc::{AllocError, Global};
@@ -23,30 +21,21 @@ pub(crate) struct Facts<'u, 'p, 'a> {
     alloc: Global,
     universe: &'u Universe<'p, 'a>,
     packages: &'u [&'u Pkg<'a>],
-    providers: Known<'u, 'a>,
+    known: Known<'a>,
 }
 
 impl<'u, 'p, 'a> Model for Facts<'u, 'p, 'a> {
     ghost use Rattle.std.specs.Prelude.{◌≡◌, map};
     ghost use Rattle.rules.specs.Universe.{Universe as UniverseValue};
     ghost use Rattle.universe.specs.Universe.{packages_of};
+    ghost use Rattle.encode.specs.Known.{AreListed, places_in};
 
     ghost Value = { UniverseValue };
 
     ghost view = { λ f. f.universe.now };
 
     ghost invariant = { λ f. (map (λ pkg. pkg.now) f.packages.now ≡ packages_of f.universe.now.pairs)
-        × (f.providers ≡ packages_of f.universe.now.pairs) };
-}
-
-// The package that is lent at this place.
-fn lent_at<'u, 'a>(packages: &'u [&'u Pkg<'a>], place: usize) -> Option<&'u Pkg<'a>>
-    ensures { option_copied result ≡ slice_get (map (λ pkg. pkg.now) packages.now) place }
-{
-    match packages.get(place) {
-        None => None,
-        Some(pkg) => Some(*pkg),
-    }
+        × AreListed (places_in f.known) (packages_of f.universe.now.pairs) };
 }
 
 /// The number of what is at a place; an error where it is above 4,294,967,295.
@@ -80,12 +69,12 @@ impl<'u, 'p, 'a> Facts<'u, 'p, 'a> {
         requires { map (λ pkg. pkg.now) packages.now ≡ packages_of universe.now.pairs }
         ensures { IfOk result (λ facts. facts ≡ universe.now) }
     {
-        let providers = Known::of_packages(alloc, packages)?;
+        let known = Known::of_packages(alloc, universe, packages)?;
         Ok(Facts {
             alloc,
             universe,
             packages,
-            providers,
+            known,
         })
     }
 
@@ -106,33 +95,6 @@ impl<'u, 'p, 'a> Facts<'u, 'p, 'a> {
         ensures { option_copied result ≡ slice_get (packages_of self.now.pairs) place }
     {
         lent_at(self.packages, place)
-    }
-
-    // How late the pair at a place is preferred: what stands comes first, then what has the name, then what has a name that
-    // was present.
-    fn rank(&self, place: usize, name: &[u8]) -> u8 {
-        let Some(pair) = self.universe.pairs().get(place) else {
-            return 3;
-        };
-        let start = self.universe.start(pair.name());
-        if pair.standing_pkg().is_some() {
-            0
-        } else if pair.name() == name {
-            1
-        } else if start.is_some_and(|start| start.is_present()) {
-            2
-        } else {
-            3
-        }
-    }
-
-    // The places in the order in which their pairs are preferred, for one of this name.
-    fn preferred(&self, places: Vec<usize>, name: &[u8]) -> Result<Vec<usize>, AllocError>
-        ensures { IfOk result (λ ordered. (place : ℕ) → Contains ordered.items place ↔ Contains places.items place) }
-    {
-        let mut ordered = places;
-        ordered.sort_by_key(|place| self.rank(*place, name))?;
-        Ok(ordered)
     }
 
     // Puts the number of the pair at this place behind the others, if its package is asked for.
@@ -179,9 +141,8 @@ impl<'u, 'p, 'a> Facts<'u, 'p, 'a> {
         ensures { OnOk result ((number : ℕ) → Contains numbers.new.items number
             ↔ (Contains numbers.old.items number ⊎ PairHas self.now number (IsAsked query.entry))) }
     {
-        let found = self.providers.of(self.alloc, query.name())?;
-        let places = self.preferred(found, query.name())?;
-        self.push_places(numbers, places.as_slice(), query)?;
+        let places = self.known.of(query.name());
+        self.push_places(numbers, places, query)?;
         Ok(())
     }
 

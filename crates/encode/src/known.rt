@@ -1,143 +1,219 @@
-//! Who has or provides each name that packages ask for, looked up once.
-ghost use Rattle.std.specs.Prelude.{◌≡◌, ◌↔◌, ℕ, IfOk, IfSome, IsTrue, map};
-ghost use Rattle.std.specs.List.{Contains};
-ghost use Rattle.index.specs.Providers.{IsProviderAt};
+//! The places of packages, by the names that they have or provide.
+ghost use Rattle.std.specs.Prelude.{◌≡◌, ◌<◌, ◌++◌, ◌∷◌, [], IfOk, OnErr, OnOk, length, map, slice_get, slice_set, unwrap_or};
+ghost use Rattle.std.specs.List.{All, Contains};
+ghost use Rattle.std.specs.Option.{option_copied};
+ghost use Rattle.encode.specs.Known.{AreItemsListed, AreListed, AtEach, IsAt, IsItemListed, IsNameListed, KeepsPlaces, places_in};
 
-use index::Providers;
+use crate::place_list::PlaceList;
 use indexmap::IndexMap;
-use relation::{Clause, Pkg};
+use relation::{Pkg, Provided};
 use std::alloc::{AllocError, Global};
 use std::marker::Model;
+use universe::Universe;
 
-// A name, and the places of all packages that have or provide it.
+/// For each name the places of all packages that have or provide it, in the order in which they are preferred.
+/// `numbers` has the number of the list of each name.
 #[derive(Drop)]
-struct NamedPlaces<'a> {
-    name: &'a [u8],
-    places: Vec<usize>,
-}
-
-fn is_of(found: &NamedPlaces<'_>, name: &[u8]) -> bool
-    ensures { IsTrue result ↔ (found.now.name.now ≡ name.now) }
-{
-    found.name == name
-}
-
-// What stands at the number.
-fn found_at<'f, 'a>(found: &'f [NamedPlaces<'a>], number: usize) -> Option<&'f NamedPlaces<'a>>
-    ensures { IfSome result (λ one. Contains found.now one.now) }
-{
-    found.get(number)
-}
-
-// An equal list of places.
-fn copied(alloc: Global, places: &[usize]) -> Result<Vec<usize>, AllocError>
-    ensures { IfOk result (λ copy. copy.items ≡ places.now) }
-{
-    let mut copy = Vec::new(alloc);
-    copy.extend_from_slice(places)?;
-    Ok(copy)
-}
-
-/// Packages that are asked who has or provides a name. For the names that they ask for themselves that is looked up once.
-#[derive(Drop)]
-pub(crate) struct Known<'u, 'a> {
-    providers: Providers<'u, 'a>,
+pub(crate) struct Known<'a> {
+    alloc: Global,
     numbers: IndexMap<&'a [u8], usize>,
-    found: Vec<NamedPlaces<'a>>,
+    lists: Vec<PlaceList>,
 }
 
-impl<'u, 'a> Model for Known<'u, 'a> {
-    ghost use Rattle.std.specs.Prelude.{List};
+impl<'a> Model for Known<'a> {
+    ghost use Rattle.std.specs.Prelude.{◌<◌, ℕ, List, length};
     ghost use Rattle.std.specs.List.{All};
-    ghost use Rattle.rules.specs.Package.{Pkg as PkgValue};
-    ghost use Rattle.encode.specs.Known.{AreProvidersOf};
+    ghost use Rattle.indexmap.specs.IndexMap.{values};
+    ghost use Rattle.encode.specs.Known.{listed};
 
-    ghost Value = { List PkgValue };
+    ghost Value = { List (List ℕ × List ℕ) };
 
-    ghost view = { λ k. k.providers };
+    ghost view = { λ k. listed k.lists.items k.numbers.entries };
 
-    ghost invariant = { λ k. All (AreProvidersOf k.providers) k.found.items };
+    ghost invariant = { λ k. All (λ number. number < length k.lists.items) (values k.numbers) };
 }
 
-impl<'u, 'a> Known<'u, 'a> {
-    // The packages, of which nothing was looked up yet.
-    fn begun(alloc: Global, packages: &'u [&'u Pkg<'a>]) -> Result<Known<'u, 'a>, AllocError>
-        ensures { IfOk result (λ known. known ≡ map (λ pkg. pkg.now) packages.now) }
-    {
-        let providers = Providers::build(alloc, packages)?;
-        Ok(Known {
-            providers,
+/// The package that is lent at this place.
+pub(crate) fn lent_at<'u, 'a>(packages: &'u [&'u Pkg<'a>], place: usize) -> Option<&'u Pkg<'a>>
+    ensures { option_copied result ≡ slice_get (map (λ pkg. pkg.now) packages.now) place }
+{
+    match packages.get(place) {
+        None => None,
+        Some(pkg) => Some(*pkg),
+    }
+}
+
+// Whether the package provides something, and its name was present at the start.
+fn provides_as_present(universe: &Universe<'_, '_>, pkg: &Pkg<'_>) -> bool {
+    !pkg.provides().is_empty()
+        && universe
+            .start(pkg.name())
+            .is_some_and(|start| start.is_present())
+}
+
+// Puts the place behind the others of the list of this number.
+fn push_to(lists: &mut Vec<PlaceList>, number: usize, place: usize) -> Result<(), AllocError>
+    requires { number < length lists.old.items }
+    ensures ok { OnOk result (lists.new.items
+        ≡ slice_set lists.old.items number (unwrap_or (slice_get lists.old.items number) [] ++ place ∷ [])) }
+    ensures err { OnErr result (lists.new.items ≡ lists.old.items) }
+    ensures len { length lists.new.items ≡ length lists.old.items }
+{
+    lists[number].push(place)?;
+    Ok(())
+}
+
+impl<'a> Known<'a> {
+    // No places.
+    fn new(alloc: Global) -> Known<'a> {
+        Known {
+            alloc,
             numbers: IndexMap::new(alloc),
-            found: Vec::new(alloc),
-        })
+            lists: Vec::new(alloc),
+        }
     }
 
-    // Looks the name up, unless it was.
-    fn learn(&mut self, alloc: Global, name: &'a [u8]) -> Result<(), AllocError>
-        ensures { self.new ≡ self.old }
+    /// The places of all packages that have or provide the name, and maybe others, those first that are preferred: what
+    /// stands comes first, then what has the name, then what has a name that was present. One may be there twice. Linear in
+    /// the name.
+    pub(crate) fn of(&self, name: &[u8]) -> &[usize]
+        ensures { result.now ≡ places_in self.now name.now }
     {
-        if self.numbers.get(name).is_none() {
-            let places = self.providers.of(alloc, name)?;
-            self.numbers.insert(name, self.found.len())?;
-            self.found.push(NamedPlaces { name, places })?;
+        match self.numbers.get(name).copied() {
+            Some(number) => self.lists[number].as_slice(),
+            None => &[],
+        }
+    }
+
+    // Enters the place for the name.
+    fn add(&mut self, name: &'a [u8], place: usize) -> Result<(), AllocError>
+        ensures kept { KeepsPlaces (places_in self.old) (places_in self.new) }
+        ensures added { OnOk result (Contains (places_in self.new name.now) place) }
+    {
+        match self.numbers.get(name).copied() {
+            Some(number) => push_to(&mut self.lists, number, place),
+            None => {
+                let number = self.lists.len();
+                self.lists.push(PlaceList::of(self.alloc, place)?)?;
+                self.numbers.insert(name, number)?;
+                Ok(())
+            }
+        }
+    }
+
+    // Enters the place for the name of the item, unless it is foreign.
+    fn add_item(&mut self, item: &Provided<'a>, place: usize) -> Result<(), AllocError>
+        ensures kept { KeepsPlaces (places_in self.old) (places_in self.new) }
+        ensures added { OnOk result (IsItemListed (places_in self.new) place item.now) }
+    {
+        if item.is_foreign() {
+            return Ok(());
+        }
+        self.add(item.name(), place)?;
+        Ok(())
+    }
+
+    // Enters the place for the names of the items.
+    fn add_items(&mut self, items: &[Provided<'a>], place: usize) -> Result<(), AllocError>
+        ensures kept { KeepsPlaces (places_in self.old) (places_in self.new) }
+        ensures added { OnOk result (All (IsItemListed (places_in self.new) place) items.now) }
+    {
+        for item in items {
+            self.add_item(item, place)?;
         }
         Ok(())
     }
 
-    // Looks the names of the atoms up.
-    fn learn_all(&mut self, alloc: Global, clauses: &[Clause<'a>]) -> Result<(), AllocError>
-        ensures { self.new ≡ self.old }
-    {
-        for clause in clauses {
-            for atom in clause.as_slice() {
-                self.learn(alloc, atom.name())?;
+    // Enters what stands.
+    fn enter_standing(&mut self, universe: &Universe<'_, 'a>) -> Result<(), AllocError> {
+        for (place, pair) in universe.pairs().iter().enumerate() {
+            if let Some(pkg) = pair.standing_pkg() {
+                self.add(pkg.name(), place)?;
+                self.add_items(pkg.provides(), place)?;
             }
         }
         Ok(())
     }
 
-    /// The packages, with the names looked up that they need. Memory alone can fail. About n log n comparisons of the n names
-    /// that they have and provide, and as many for each name that they need.
+    // Enters the place for the name of the package at it, if there is one.
+    fn add_name_at(&mut self, packages: &[&Pkg<'a>], place: usize) -> Result<(), AllocError>
+        ensures kept { KeepsPlaces (places_in self.old) (places_in self.new) }
+        ensures added { OnOk result (IsAt (IsNameListed (places_in self.new)) (map (λ pkg. pkg.now) packages.now) place) }
+    {
+        match lent_at(packages, place) {
+            None => Ok(()),
+            Some(pkg) => {
+                self.add(pkg.name(), place)?;
+                Ok(())
+            }
+        }
+    }
+
+    // Enters the packages for their names.
+    fn add_names(&mut self, packages: &[&Pkg<'a>]) -> Result<(), AllocError>
+        ensures { OnOk result (AtEach (IsNameListed (places_in self.new)) (map (λ pkg. pkg.now) packages.now)) }
+    {
+        for place in 0..packages.len() {
+            self.add_name_at(packages, place)?;
+        }
+        Ok(())
+    }
+
+    // Enters what packages provide whose name was present.
+    fn enter_present(
+        &mut self,
+        universe: &Universe<'_, 'a>,
+        packages: &[&Pkg<'a>],
+    ) -> Result<(), AllocError>
+        ensures { KeepsPlaces (places_in self.old) (places_in self.new) }
+    {
+        for (place, pkg) in packages.iter().enumerate() {
+            if provides_as_present(universe, pkg) {
+                self.add_items(pkg.provides(), place)?;
+            }
+        }
+        Ok(())
+    }
+
+    // Enters the place for what the package at it provides, if there is one.
+    fn add_provided_at(&mut self, packages: &[&Pkg<'a>], place: usize) -> Result<(), AllocError>
+        ensures kept { KeepsPlaces (places_in self.old) (places_in self.new) }
+        ensures added { OnOk result (IsAt (AreItemsListed (places_in self.new)) (map (λ pkg. pkg.now) packages.now) place) }
+    {
+        match lent_at(packages, place) {
+            None => Ok(()),
+            Some(pkg) => {
+                self.add_items(pkg.provides(), place)?;
+                Ok(())
+            }
+        }
+    }
+
+    // Enters the packages for what they provide.
+    fn add_provided(&mut self, packages: &[&Pkg<'a>]) -> Result<(), AllocError>
+        ensures kept { KeepsPlaces (places_in self.old) (places_in self.new) }
+        ensures added { OnOk result (AtEach (AreItemsListed (places_in self.new)) (map (λ pkg. pkg.now) packages.now)) }
+    {
+        for place in 0..packages.len() {
+            self.add_provided_at(packages, place)?;
+        }
+        Ok(())
+    }
+
+    /// The packages, which are those of the universe, by the names that they have or provide. Memory alone can fail. Linear in
+    /// these names.
     pub(crate) fn of_packages(
         alloc: Global,
-        packages: &'u [&'u Pkg<'a>],
-    ) -> Result<Known<'u, 'a>, AllocError>
-        ensures { IfOk result (λ known. known ≡ map (λ pkg. pkg.now) packages.now) }
+        universe: &Universe<'_, 'a>,
+        packages: &[&Pkg<'a>],
+    ) -> Result<Known<'a>, AllocError>
+        ensures { IfOk result (λ known. AreListed (places_in known) (map (λ pkg. pkg.now) packages.now)) }
     {
-        let mut known = Known::begun(alloc, packages)?;
-        for pkg in packages {
-            known.learn_all(alloc, pkg.pre_depends())?;
-            known.learn_all(alloc, pkg.depends())?;
-        }
+        let mut known = Known::new(alloc);
+        known.enter_standing(universe)?;
+        known.add_names(packages)?;
+        known.enter_present(universe, packages)?;
+        known.add_provided(packages)?;
         Ok(known)
-    }
-
-    // What was looked up of the name.
-    fn found_for(&self, name: &[u8]) -> Option<&[usize]>
-        ensures { IfSome result (λ places. (place : ℕ) → Contains places.now place ↔ IsProviderAt name.now self.now place) }
-    {
-        let number = self.numbers.get(name)?;
-        let found = found_at(self.found.as_slice(), *number)?;
-        if is_of(found, name) {
-            return Some(found.places.as_slice());
-        }
-        None
-    }
-
-    /// The places of the packages that have or provide the name. Memory alone can fail. Linear in the answer and the name where
-    /// a package needs the name; else two binary searches besides.
-    pub(crate) fn of(&self, alloc: Global, name: &[u8]) -> Result<Vec<usize>, AllocError>
-        ensures { IfOk result (λ places. (place : ℕ) → Contains places.items place ↔ IsProviderAt name.now self.now place) }
-    {
-        match self.found_for(name) {
-            Some(places) => {
-                let places = copied(alloc, places)?;
-                Ok(places)
-            }
-            None => {
-                let places = self.providers.of(alloc, name)?;
-                Ok(places)
-            }
-        }
     }
 }

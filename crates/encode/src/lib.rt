@@ -12,6 +12,7 @@ mod known;
 mod laws;
 mod literals;
 mod needs;
+mod place_list;
 mod premises;
 mod query;
 mod starts;

@@ -1,17 +1,24 @@
--- The copy has the places that were looked up.
-use Rattle.std.proofs.Common.{ℕ, List, subst, sym}
-use Rattle.std.specs.Prelude.{◌↔◌}
-use Rattle.std.specs.List.{Contains}
-use Rattle.index.specs.Providers.{IsProviderAt}
-use Rattle.rules.specs.Package.{Pkg}
+-- The list of the name's number, or none where the name has no number.
+use Rattle.std.proofs.Common.{◌≡◌, ◌∙◌, None, ap, sym}
+use Rattle.encode.specs.Known.{places_in}
+use Rattle.encode.proofs.PlaceLemmas.{number-within, number_of, places-nowhere, places-read}
 use Rattle.encode.proofs.known.Known.of.Goals as goal
 
-pub returns-in_ok-places-in-Some : goal.returns-in_ok-places-in-Some
-returns-in_ok-places-in-Some c =
-    subst (λ (xs : List ℕ). (place : ℕ) → Contains xs place ↔ IsProviderAt c.args.name.now c.args.self.now place)
-    (sym c.in_ok-places-in-Some.ensures) c.in-Some.ensures
+pub returns-in-Some : goal.returns-in-Some
+returns-in-Some c =
+    let lists = c.self.inside.lists.items in
+    let es = c.self.inside.numbers.entries in
+    let name = c.args.name.now in
+    let copied = sym c.copied.ensures ∙ c.in-Some.is in
+    let within = number-within c.get.result _ _ c.in-Some.number c.self.invariant c.get.ensures.member copied in
+    c.as_slice.ensures
+    ∙ places-read name lists es c.in-Some.number c.index.result.now (sym c.get.ensures.value ∙ copied) within c.index.ensures
+    ∙ ap (λ table. places_in table name) c.self.view_is
 
-pub returns-in_ok-places-in-None : goal.returns-in_ok-places-in-None
-returns-in_ok-places-in-None c =
-    subst (λ (pkgs : List Pkg). (place : ℕ) → Contains c.in_ok-places-in-None.places.items place ↔ IsProviderAt c.args.name.now pkgs place)
-    c.self.view_is c.in_ok-places-in-None.ensures.matching
+pub returns-in-None : goal.returns-in-None
+returns-in-None c =
+    let lists = c.self.inside.lists.items in
+    let es = c.self.inside.numbers.entries in
+    let name = c.args.name.now in
+    let e : number_of name es ≡ None = sym c.get.ensures.value ∙ sym c.copied.ensures ∙ c.in-None.is in
+    sym (ap (λ table. places_in table name) (sym c.self.view_is) ∙ places-nowhere name lists es e)

@@ -1,0 +1,12 @@
+-- The packages at the places so far are listed.
+use Rattle.std.proofs.Common.{Bor, map}
+use Rattle.rules.specs.Package.{Pkg}
+use Rattle.encode.specs.Known.{AreItemsListed, KeepsPlaces, places_in}
+use Rattle.encode.proofs.PlaceLemmas.{AtFirst}
+use Rattle.encode.proofs.known.Known.add_provided.Given as goal
+
+abbrev pub invariant-loop-place : goal.invariant-loop-place
+invariant-loop-place l = record {
+  kept : KeepsPlaces (places_in l.fn.self) (places_in l.self);
+  added : AtFirst (AreItemsListed (places_in l.self)) (map (λ (pkg : Bor Pkg). pkg.now) l.packages) l.place;
+}
