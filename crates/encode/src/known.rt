@@ -159,6 +159,21 @@ impl<'a> Known<'a> {
         Ok(())
     }
 
+    // Enters the place for what the package provides, if its name was present.
+    fn enter_if_present(
+        &mut self,
+        universe: &Universe<'_, 'a>,
+        pkg: &Pkg<'a>,
+        place: usize,
+    ) -> Result<(), AllocError>
+        ensures { KeepsPlaces (places_in self.old) (places_in self.new) }
+    {
+        if !provides_as_present(universe, pkg) {
+            return Ok(());
+        }
+        self.add_items(pkg.provides(), place)
+    }
+
     // Enters what packages provide whose name was present.
     fn enter_present(
         &mut self,
@@ -168,9 +183,7 @@ impl<'a> Known<'a> {
         ensures { KeepsPlaces (places_in self.old) (places_in self.new) }
     {
         for (place, pkg) in packages.iter().enumerate() {
-            if provides_as_present(universe, pkg) {
-                self.add_items(pkg.provides(), place)?;
-            }
+            self.enter_if_present(universe, pkg, place)?;
         }
         Ok(())
     }
