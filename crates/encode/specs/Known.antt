@@ -18,17 +18,19 @@ KeepsPlaces old new = (name : List ℕ) (place : ℕ) → Contains (old name) pl
 abbrev pub IsItemListed : (List ℕ → List ℕ) → ℕ → Provided → Type 0
 IsItemListed places place item = item.foreign ≡ false → Contains (places item.name) place
 
--- the place is listed for the package's name, or for what it provides
+-- the place is listed for the package's name
 abbrev pub IsNameListed : (List ℕ → List ℕ) → ℕ → Pkg → Type 0
 IsNameListed places place pkg = Contains (places pkg.name) place
 
+-- the place is listed for each name that the package provides
 abbrev pub AreItemsListed : (List ℕ → List ℕ) → ℕ → Pkg → Type 0
 AreItemsListed places place pkg = All (IsItemListed places place) pkg.relations.provides
 
--- what is said of a place and its package is so of the package at this place, if there is one, or at each place
+-- what is said of a place and its package is so of the package at this place, if there is one
 abbrev pub IsAt : (ℕ → Pkg → Type 0) → List Pkg → ℕ → Type 0
 IsAt Says packages place = (pkg : Pkg) → slice_get packages place ≡ Some pkg → Says place pkg
 
+-- it is so at each place
 abbrev pub AtEach : (ℕ → Pkg → Type 0) → List Pkg → Type 0
 AtEach Says packages = (place : ℕ) → IsAt Says packages place
 
