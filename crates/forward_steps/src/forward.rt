@@ -10,7 +10,7 @@ ghost use Rattle.forward_steps.specs.Forward.{IsAtRest};
 use crate::door::{Door, Ground, take_forward};
 use crate::group::group_of;
 use crate::member::Member;
-use crate::waiting::{leaving, waiting};
+use crate::pending::{leaving, waiting};
 use rules::{Goal, Name, Step, VersionText, is_name};
 use std::alloc::AllocError;
 

@@ -6,7 +6,7 @@ ghost use Rattle.rules.specs.Configure.{GroupPasses};
 ghost use Rattle.forward_steps.specs.Door.{NoPartPasses};
 ghost use Rattle.forward_steps.specs.Group.{AreOthersOf, IsGroupOf, IsNarrowed, IsNarrowedBy};
 
-use crate::in_order::in_order;
+use crate::name_order::in_order;
 use plancheck_end::is_same;
 use plancheck_group::greatest_part;
 use rules::{Name, Names};

@@ -6,14 +6,14 @@
 mod door;
 mod forward;
 mod group;
-mod in_order;
 mod member;
+mod name_order;
+mod pending;
 mod rank;
-mod waiting;
 
 pub use door::{Door, Ground, opened, take};
 pub use forward::{finish, remove_first, unpack};
 pub use group::group_of;
-pub use in_order::in_order;
 pub use member::{Member, Members};
-pub use waiting::{is_waiting, leaving, waiting};
+pub use name_order::in_order;
+pub use pending::{is_waiting, leaving, waiting};

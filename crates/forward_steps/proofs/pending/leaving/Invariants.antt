@@ -3,7 +3,7 @@ use Rattle.std.proofs.Common.{◌≡◌, ◌++◌, drop, map}
 use Rattle.std.specs.List.{filter}
 use Rattle.rules.specs.Database.{Record}
 use Rattle.forward_steps.specs.Selection.{is_leaving}
-use Rattle.forward_steps.proofs.waiting.leaving.Given as goal
+use Rattle.forward_steps.proofs.pending.leaving.Given as goal
 
 abbrev pub invariant-loop-found : goal.invariant-loop-found
 invariant-loop-found l = l.names.items ++ map (λ (found : Record). found.name) (filter (is_leaving l.members) (drop l.found-index l.db))

@@ -3,7 +3,7 @@ use Rattle.std.specs.Ordering.{eq_by_cmp}
 use Rattle.std.proofs.lemmas.List.Filters.{dedup_is}
 use Rattle.rules.specs.Name.{name_cmp}
 use Rattle.forward_steps.proofs.GroupLemmas.{in_order_from_sort}
-use Rattle.forward_steps.proofs.in_order.sorted.Goals as goal
+use Rattle.forward_steps.proofs.name_order.sorted.Goals as goal
 
 pub returns : goal.returns
 returns c = in_order_from_sort c.args.keys.items c.sort.new.self.items c.dedup.new.self.items c.in_ok-sort.ensures.sorted
