@@ -1,14 +1,16 @@
 #!/usr/bin/python3
-"""solve.py DIR PROGRAM [--empty] [--apt] [--libsolv] GOAL..: solves requests by debplan and shows what comes out, a row of
-a table for each. A GOAL is `install:NAME`, `remove:NAME`, `upgrade:NAME`, `upgrade-all`, or `random:COUNT`, which stands
-for as many names of the indices to be installed, drawn at random but the same in each run (`gone:COUNT`: installed names to
-be removed). DIR is what tools/collect-inputs wrote on this machine, PROGRAM is debplan. Each plan has to be judged `yes` by
-check-plan, and each refutation by check-refutation. With --empty nothing is installed. With --apt the packages that
-`apt-get -s` would change, without recommended ones, stand beside; with --libsolv the time of libsolv from the same texts.
-It exits with 1 where an answer isn't judged yes or a request is undecided. --libsolv wants Debian's package python3-solv."""
+"""solve.py DIR PROGRAM [--empty] [--apt] [--libsolv] [--part K/N] GOAL..: solves requests by debplan and shows what comes
+out, a row of a table for each. A GOAL is `install:NAME`, `remove:NAME`, `upgrade:NAME`, `upgrade-all`, or `random:COUNT`,
+which stands for as many names of the indices to be installed, drawn at random but the same in each run (`gone:COUNT`:
+installed names to be removed). DIR is what tools/collect-inputs wrote on this machine, PROGRAM is debplan. Each plan has to
+be judged `yes` by check-plan, and each refutation by check-refutation. With --empty nothing is installed. With --apt the
+packages that `apt-get -s` would change, without recommended ones, stand beside; with --libsolv the time of libsolv from the
+same texts. With --part every N-th goal alone is solved, from the K-th on, so that N processes can share a sample. It exits
+with 1 where an answer isn't judged yes or a request is undecided. --libsolv wants Debian's package python3-solv."""
 
 import argparse
 import glob
+import itertools
 import os
 import random
 import re
@@ -157,6 +159,12 @@ def goals_of(words, folder, start):
             yield word
 
 
+def part_of(goals, part):
+    """Every N-th of the goals from the K-th on, where the part is K/N."""
+    first, step = (int(word) for word in part.split("/"))
+    return itertools.islice(goals, first - 1, None, step)
+
+
 def main():
     parser = argparse.ArgumentParser(usage=__doc__)
     parser.add_argument("folder")
@@ -164,6 +172,7 @@ def main():
     parser.add_argument("--empty", action="store_true")
     parser.add_argument("--apt", action="store_true")
     parser.add_argument("--libsolv", action="store_true")
+    parser.add_argument("--part", default="1/1")
     parser.add_argument("goals", nargs="+")
     options = parser.parse_args()
     bench = Bench(options)
@@ -171,7 +180,7 @@ def main():
     columns += ["apt"] if options.apt else []
     columns += ["libsolv"] if options.libsolv else []
     print("| " + " | ".join(columns) + " |\n|" + "---|" * len(columns))
-    for goal in goals_of(options.goals, bench.folder, bench.start):
+    for goal in part_of(goals_of(options.goals, bench.folder, bench.start), options.part):
         bench.row(goal)
     sys.exit(1 if bench.faults else 0)
 
