@@ -23,6 +23,8 @@ HERE = os.path.dirname(os.path.abspath(__file__))
 STATUS = re.compile(r"^Status: \S+ \S+ (\S+)$", re.MULTILINE)
 INST = re.compile(r"^Inst (\S+) (\[\S+\] )?\(", re.MULTILINE)
 REMV = re.compile(r"^(?:Remv|Purg) (\S+)", re.MULTILINE)
+# The files in which apt keeps what it read of its lists, so that it reads them once.
+CACHES = ("pkgcache", "srcpkgcache")
 
 
 def run(command):
@@ -100,7 +102,8 @@ class Bench:
         """What apt would change: packages new, upgraded and removed, or that it refuses."""
         kind, _, name = goal.partition(":")
         words = {"install": ["install", name], "remove": ["remove", name], "upgrade": ["install", "--only-upgrade", name]}
-        command = ["apt-get", "-s", "--no-install-recommends", "-o", f"Dir::State::status={self.status}"]
+        settings = [f"Dir::State::status={self.status}", *(f"Dir::Cache::{cache}={self.room}/{cache}" for cache in CACHES)]
+        command = ["apt-get", "-s", "--no-install-recommends", *(word for setting in settings for word in ("-o", setting))]
         code, said, _, _ = run([*command, *words.get(kind, ["dist-upgrade"])])
         if code:
             return "refuses"
@@ -185,4 +188,5 @@ def main():
     sys.exit(1 if bench.faults else 0)
 
 
-main()
+if __name__ == "__main__":
+    main()
