@@ -18,6 +18,8 @@ pub enum Measure {
     Universe,
     /// Encoding that universe into clauses.
     Clauses,
+    /// Searching for what fulfils the requests of a list.
+    Search,
 }
 
 /// A measure, and the file on which it is taken.
@@ -52,6 +54,7 @@ fn measure_of(word: &str) -> Option<Measure> {
         "status" => Some(Measure::Status),
         "universe" => Some(Measure::Universe),
         "clauses" => Some(Measure::Clauses),
+        "search" => Some(Measure::Search),
         _ => None,
     }
 }

@@ -1,6 +1,6 @@
 //! What debplan's readers cost on real data. `bench MEASURE FILE ..` reads each FILE once, does the work of
 //! the MEASURE before it, and prints fixed counts; times go to standard error alone.
-//! It stands on the readers, `kept_index`, `universe_build` and `encode`, and nothing stands on it.
+//! It stands on the readers, `kept_index`, `universe_build`, `encode`, `search` and `search_settle`, and nothing stands on it.
 #![tactic(auto)]
 
 mod arguments;
@@ -8,6 +8,8 @@ mod indices;
 mod opened;
 mod relations;
 mod report;
+mod search_list;
+mod searches;
 mod stanzas;
 mod statuses;
 mod universes;
@@ -19,7 +21,7 @@ use std::process::ExitCode;
 use std::{env, fs, io};
 
 const USAGE: &str =
-    "usage: bench (stanzas|versions|relations|index|status|universe|clauses) FILE ..";
+    "usage: bench (stanzas|versions|relations|index|status|universe|clauses|search) FILE ..";
 
 fn main(rt: HostRuntime) -> io::Result<ExitCode> {
     let words: Vec<String> = env::args(&rt)?.skip(1).collect(rt.alloc())?;
@@ -47,5 +49,6 @@ fn run(rt: &HostRuntime, task: &Task<'_>) -> Result<()> {
         Measure::Status => statuses::measure(rt, fs::read(rt, path)?.as_slice()),
         Measure::Universe => universes::measure(rt, path),
         Measure::Clauses => universes::measure_clauses(rt, path),
+        Measure::Search => searches::measure(rt, fs::read(rt, path)?.as_slice()),
     }
 }

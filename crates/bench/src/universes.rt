@@ -69,8 +69,8 @@ fn literals_in(clauses: &Clauses) -> usize {
     literals
 }
 
-// What is kept of the index in this file.
-fn kept_of(rt: &HostRuntime, path: &str) -> Result<Vec<u8>> {
+/// What is kept of the index in this file.
+pub fn kept_of(rt: &HostRuntime, path: &str) -> Result<Vec<u8>> {
     let mut opened = Opened {
         file: File::open(rt, path)?,
     };
