@@ -1,7 +1,6 @@
 -- A plan has one answer; yes keeps its promise, and is said of every good plan.
-use Rattle.std.proofs.Common.{◌≡◌, ◌⊎◌, ℕ, List, Result, Ok, Err, refl, sym, ap, subst, ◌∙◌}
+use Rattle.std.proofs.Common.{◌≡◌, ◌⊎◌, ℕ, List, Ok, Err, sym, ap, subst, ◌∙◌}
 use Rattle.rules.specs.Database.{Record}
-use Rattle.rules.specs.Run.{IsGoodPlan}
 use Rattle.rules.specs.Universe.{Universe}
 use Rattle.rules.specs.Verdict.{IsVerdict}
 use Rattle.rules.specs.declared.step.Step.{Step}
@@ -9,14 +8,13 @@ use Rattle.rules.specs.declared.step.Verdict.{Verdict}
 use Rattle.rules.specs.declared.step.Verdict.TheVariants as verdict
 use Rattle.rules.proofs.OneVerdict.{one_verdict}
 use Rattle.rules.proofs.PlanLemmas.{good_plan_keeps_promise}
-use Rattle.cli_engine.specs.Answer.{IsAnswer, IsFault, IsFirstRefusal}
+use Rattle.cli_engine.specs.Answer.{IsAnswer, IsFault}
 use Rattle.cli_engine.specs.Meaning.{GoodPlanIsAnswered, HasOneAnswer, IsReadAs, YesKeepsPromise}
 use Rattle.cli_engine.specs.Reading.{out_of_memory}
 use Rattle.cli_engine.specs.Texts.{Texts, plan_of}
 use Rattle.cli_engine.specs.declared.refusal.Fault.{Fault}
 use Rattle.cli_engine.specs.declared.refusal.Input.{Input}
 use Rattle.cli_engine.specs.declared.refusal.Input.TheVariants as place
-use Rattle.cli_engine.specs.declared.refusal.Refusal.{Refusal}
 use Rattle.cli_engine.proofs.DistinctLemmas.{distinct_start}
 use Rattle.cli_engine.proofs.MeaningLemmas.{meaning_is_not_refused, ok-same, one_meaning}
 use mathlib.Core.Logic.{inl, inr}

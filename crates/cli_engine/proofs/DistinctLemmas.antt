@@ -1,5 +1,5 @@
 -- The start that texts are read as has distinct names.
-use Rattle.std.proofs.Common.{◌≡◌, ℕ, Bool, true, false, List, [], Result, Ok, Err, refl, sym, subst, if◌then◌else◌}
+use Rattle.std.proofs.Common.{◌≡◌, Bool, true, false, List, [], Result, Ok, Err, sym, subst, if◌then◌else◌}
 use Rattle.std.specs.Prelude.{length, nat_lt}
 use Rattle.rules.specs.Available.{Index}
 use Rattle.rules.specs.Database.{HasDistinctNames, Record}

@@ -2,14 +2,12 @@
 use Rattle.std.proofs.Common.{◌≡◌, List, refl, ap, subst}
 use Rattle.candidates.specs.Inputs.{inputs_of}
 use Rattle.refutation.specs.declared.line.Line.{Line}
-use Rattle.rules.specs.Database.{Record}
 use Rattle.rules.specs.Universe.{Universe}
 use Rattle.refutecheck.specs.Answer.{IsVerdict}
 use Rattle.refutecheck.specs.declared.verdict.Verdict.{Verdict}
 use Rattle.refutecheck.specs.declared.verdict.Verdict.TheVariants as verdict
 use Rattle.universe_build.specs.Build.{goals_of}
-use Rattle.cli_engine.specs.Answer.{Denotes}
-use Rattle.cli_engine.specs.Texts.{Texts, refutation_of}
+use Rattle.cli_engine.specs.Texts.{refutation_of}
 use Rattle.cli_engine.proofs.DistinctLemmas.{distinct_start}
 use Rattle.cli_engine.proofs.MeaningLemmas.{ok-same, one_meaning}
 use Rattle.plain.proofs.MemberLemmas.{universe_is_counted}

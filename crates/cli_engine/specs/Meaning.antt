@@ -11,7 +11,6 @@ use Rattle.rules.specs.declared.step.Verdict.TheVariants as verdict
 use Rattle.cli_engine.specs.Answer.{Denotes, IsAnswer, IsFirstRefusal}
 use Rattle.cli_engine.specs.Reading.{out_of_memory}
 use Rattle.cli_engine.specs.Texts.{Texts, plan_of}
-use Rattle.cli_engine.specs.declared.refusal.Fault.{Fault}
 use Rattle.cli_engine.specs.declared.refusal.Input.TheVariants as place
 use Rattle.cli_engine.specs.declared.refusal.Refusal.{Refusal}
 

@@ -1,10 +1,9 @@
 -- An allowed step that leads to the selection leaves less to be done.
-use Rattle.std.proofs.Common.{◌≡◌, ◌≢◌, ℕ, ◌+◌, ◌<◌, ◌≤◌, Bool, true, false, cond, not, List, [], ◌∷◌, ◌++◌, ◌&&◌, ◌||◌, Option, Some, None, IsSome, bytes_eq, inl, inr, refl, sym, ap, subst, ◌∙◌, arith, length, lit<}
-use Rattle.std.specs.Prelude.{IsTrue, MatchBool}
-use Rattle.std.specs.List.{All, Any, Contains, filter, list_any}
+use Rattle.std.proofs.Common.{◌≡◌, ◌≢◌, ℕ, ◌+◌, ◌<◌, ◌≤◌, Bool, true, false, cond, not, List, [], ◌∷◌, ◌++◌, ◌&&◌, ◌||◌, Option, Some, None, IsSome, bytes_eq, refl, sym, ap, subst, ◌∙◌, arith, length, lit<}
+use Rattle.std.specs.List.{Contains, filter, list_any}
 use Rattle.std.proofs.lemmas.List.Elements.{All-contains, Contains-append_left, Contains-append_right}
 use Rattle.rules.specs.Configure.{AreConfigurable, HasConfigurable, IsConfigurable}
-use Rattle.rules.specs.Database.{Record, HasDistinctNames, HasRecord, HasSoundFlag, IsPresent, IsRemoved, Stands, stands}
+use Rattle.rules.specs.Database.{Record, HasDistinctNames, HasRecord, HasSoundFlag, IsPresent, IsRemoved, stands}
 use Rattle.rules.specs.ElementLaws.{Any-elim, Any-intro, Contains-filter_intro, Contains-head, Contains-map_intro, Any-from_list_any, list_any-from_contains}
 use Rattle.rules.specs.Legal.{Allowed}
 use Rattle.rules.specs.NamedLaws.{bytes_eq-true, bytes_eq-same, contains-is_among, is_among-contains}
@@ -16,7 +15,6 @@ use Rattle.rules.specs.Step.{IndexPackage, after_unpack, changed, configured, is
 use Rattle.rules.specs.Universe.{StandsAs, Universe, listed_of}
 use Rattle.rules.specs.Verdict.{IsBuiltOn}
 use Rattle.rules.specs.Version.{SameVersion}
-use Rattle.rules.specs.VersionOrderLaws.{same_version_equivalence}
 use Rattle.rules.specs.declared.status.State.{State}
 use Rattle.rules.specs.declared.status.State.TheVariants.{NotInstalled, ConfigFiles, HalfInstalled, Unpacked, HalfConfigured, TriggersAwaited, TriggersPending, Installed}
 use Rattle.rules.specs.declared.step.Rule.TheVariants as rule
@@ -27,9 +25,9 @@ use Rattle.rules.proofs.QuietLemmas.{the_named, the_record}
 use Rattle.forward_steps.specs.Door.{IsTaken, Moves}
 use Rattle.forward_steps.specs.Forward.{IsForward}
 use Rattle.forward_steps.specs.Selection.{IsOneEach}
-use Rattle.forward_steps.specs.Work.{is_standing, unpacking, work_in, work_left, work_with}
+use Rattle.forward_steps.specs.Work.{is_standing, work_in, work_left, work_with}
 use Rattle.forward_steps.proofs.StandingLemmas.{stands-as, standing_from, standing_kept, standing_parts, stanza_is, the_only, unpacked_stands}
-use Rattle.forward_steps.proofs.WorkLemmas.{no_more_work, present_work, some_work, unconfigured_work, unpacking_falls, unpacking_kept, work_appended, work_dropped, work_falls, work_kept, work_of_one}
+use Rattle.forward_steps.proofs.WorkLemmas.{present_work, some_work, unconfigured_work, unpacking_falls, unpacking_kept, work_appended, work_dropped, work_falls, work_of_one}
 
 -- A record that a change by a test doesn't touch, or does
 

@@ -1,18 +1,17 @@
 -- Groups that are narrowed until no part of them passes, and their order.
-use Rattle.std.proofs.Common.{◌≡◌, ◌≢◌, ℕ, zero, suc, ◌+◌, ◌<◌, Bool, true, false, List, [], ◌∷◌, ◌++◌, length, get_or, take, inl, inr, refl, sym, ap, subst, ◌∙◌, arith}
-use Rattle.std.specs.Prelude.{◌↔◌}
+use Rattle.std.proofs.Common.{◌≡◌, ℕ, ◌<◌, true, List, [], ◌∷◌, ◌++◌, length, refl, sym, ap, subst, ◌∙◌, arith}
 use Rattle.std.specs.Cmp.{eq_by_cmp_equiv}
 use Rattle.std.specs.Cmp.Lexicographic.{nat_list_cmp_total}
-use Rattle.std.specs.List.{All, Any, Contains, dedup}
+use Rattle.std.specs.List.{All, Contains, dedup}
 use Rattle.std.specs.List.Sorted.{IsPermutation, IsSorted}
 use Rattle.std.specs.Ordering.{eq_by_cmp}
 use Rattle.std.proofs.lemmas.List.Elements.{All-contains, All-push, All-weaker}
 use Rattle.std.proofs.lemmas.List.Kept.{Contains-dedup, Contains-from_dedup, IsStrictlySortedBy-dedup}
 use Rattle.std.proofs.lemmas.List.Sorted.{Contains-permutation, IsPermutation-sym}
 use Rattle.std.proofs.lemmas.Map.Text.{is_eq-slice_cmp}
-use Rattle.rules.specs.Configure.{GroupPasses, IsGreatestPart, IsIndivisible, IsProperPart}
+use Rattle.rules.specs.Configure.{GroupPasses, IsGreatestPart, IsIndivisible}
 use Rattle.rules.specs.Database.{Record}
-use Rattle.rules.specs.ElementLaws.{All-intro, Any-elim, Any-intro, Contains-head, Contains-nil}
+use Rattle.rules.specs.ElementLaws.{All-intro, Any-elim, Contains-head, Contains-nil}
 use Rattle.rules.specs.Name.{name_cmp}
 use Rattle.rules.specs.NamedLaws.{bytes_eq-true}
 use Rattle.rules.proofs.GroupLemmas.{GroupPasses-each, GroupPasses-from_each, MemberPasses-more}

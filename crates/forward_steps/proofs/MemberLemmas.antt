@@ -1,5 +1,5 @@
 -- Members of different names, and those of a list of numbers.
-use Rattle.std.proofs.Common.{◌≡◌, ◌≢◌, ℕ, zero, suc, false, List, [], ◌∷◌, Option, Some, None, map, refl, sym, ap, ◌∙◌, bytes_eq, arith}
+use Rattle.std.proofs.Common.{◌≡◌, ◌≢◌, ℕ, zero, suc, false, List, [], ◌∷◌, Option, Some, None, map, refl, sym, ap, bytes_eq, arith}
 use Rattle.std.specs.List.{All, AllByRecursion, filter_map, cons_option, slice_get}
 use Rattle.std.specs.Option.{option_map}
 use Rattle.std.proofs.lemmas.List.Elements.{All-head, All-map, All-tail}
@@ -9,7 +9,7 @@ use Rattle.rules.specs.Minimal.{pkg_at}
 use Rattle.rules.specs.Package.{Pkg}
 use Rattle.rules.specs.Universe.{Pair, Universe}
 use Rattle.rules.proofs.Rising.{pairs_head, pairs_tail}
-use Rattle.universe.specs.Universe.{numbered, packages_of}
+use Rattle.universe.specs.Universe.{packages_of}
 use Rattle.forward_steps.specs.Selection.{IsOneEach, bare, chosen, member_at, with_stanza}
 
 -- the name of a member

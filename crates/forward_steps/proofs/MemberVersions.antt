@@ -1,12 +1,11 @@
 -- The tests by the table of members say what is selected.
-use Rattle.std.proofs.Common.{◌≡◌, ◌≢◌, ℕ, Bool, true, false, not, ◌&&◌, List, Option, Some, None, map, inl, inr, refl, sym, ap, subst, ◌∙◌, bytes_eq}
-use Rattle.std.specs.Prelude.{is_some, IsTrue}
-use Rattle.std.specs.List.{All, Any, Contains, filter, find}
+use Rattle.std.proofs.Common.{◌≡◌, ℕ, Bool, true, false, not, ◌&&◌, List, Option, Some, None, refl, sym, ap, subst, ◌∙◌, bytes_eq}
+use Rattle.std.specs.Prelude.{is_some}
+use Rattle.std.specs.List.{Any, Contains}
 use Rattle.std.specs.Option.{option_map_or}
-use Rattle.std.proofs.lemmas.List.Elements.{All-contains}
 use Rattle.rules.specs.Available.{is_of}
-use Rattle.rules.specs.Database.{Record, HasRecord}
-use Rattle.rules.specs.ElementLaws.{All-intro, Any-elim, Any-intro, Contains-filter, Contains-filter_intro, Contains-map, Contains-map_intro}
+use Rattle.rules.specs.Database.{Record}
+use Rattle.rules.specs.ElementLaws.{Any-elim, Any-intro, Contains-map, Contains-map_intro}
 use Rattle.rules.specs.Name.{is_name}
 use Rattle.rules.specs.NamedLaws.{bytes_eq-true, bytes_eq-same}
 use Rattle.rules.specs.Package.{Pkg}

@@ -1,7 +1,6 @@
 -- Moves one after another, and where no step leads on.
-use Rattle.std.proofs.Common.{◌≡◌, ◌≢◌, ℕ, ◌<◌, Bool, true, false, not, List, [], ◌∷◌, map, length, refl, sym, ap, subst, ◌∙◌, arith, lit<}
-use Rattle.std.specs.Prelude.{IsTrue, MatchBool}
-use Rattle.std.specs.List.{All, Any, Contains, filter}
+use Rattle.std.proofs.Common.{◌≡◌, ℕ, ◌<◌, Bool, true, false, List, [], map, length, refl, sym, ap, subst, ◌∙◌, arith, lit<}
+use Rattle.std.specs.List.{All, Contains, filter}
 use Rattle.std.proofs.lemmas.List.Elements.{All-contains, All-from_recursion}
 use Rattle.rules.specs.Configure.{AreConfigurable, GroupPasses, HasConfigurable, IsConfigurable}
 use Rattle.rules.specs.Database.{Record, HasDistinctNames, HasRecord, HasSoundFlag, IsPresent}

@@ -1,27 +1,26 @@
 -- Which selected packages stand, before a step and after it.
-use Rattle.std.proofs.Common.{◌≡◌, ◌≢◌, ℕ, Bool, true, false, cond, not, List, [], ◌∷◌, ◌++◌, ◌&&◌, ◌||◌, Option, Some, None, inl, inr, refl, sym, ap, subst, ◌∙◌, bytes_eq, get_or, length, ◌<◌}
-use Rattle.std.specs.List.{All, AllPairs, Any, Contains, filter, find, list_any}
+use Rattle.std.proofs.Common.{◌≡◌, ◌≢◌, ℕ, true, false, List, ◌&&◌, Option, Some, None, inl, inr, refl, sym, ap, subst, ◌∙◌, bytes_eq, get_or, length, ◌<◌}
+use Rattle.std.specs.List.{AllPairs, Any, Contains, find, list_any}
 use Rattle.std.specs.Option.{option_and_then}
 use Rattle.std.specs.Ordering.{is_eq}
-use Rattle.std.specs.Prelude.{IsTrue, MatchOption, ⊤}
+use Rattle.std.specs.Prelude.{MatchOption, ⊤}
 use Rattle.std.specs.declared.cmp.Ordering.{Ordering}
 use Rattle.std.specs.declared.cmp.Ordering.TheVariants.{Less, Equal, Greater}
 use Rattle.std.proofs.lemmas.Bool.{cases_order}
 use Rattle.std.proofs.lemmas.List.{get_or_default}
 use Rattle.std.proofs.lemmas.List.Elements.{All-contains}
 use Rattle.rules.specs.Available.{is_of, same_version}
-use Rattle.rules.specs.Database.{Record, HasDistinctNames, Stands, stands}
+use Rattle.rules.specs.Database.{Record, Stands, stands}
 use Rattle.rules.specs.ElementLaws.{Any-elim, Any-from_list_any, Any-intro, list_any-from_contains}
 use Rattle.rules.specs.NamedLaws.{bytes_eq-true, bytes_eq-same}
 use Rattle.rules.specs.Package.{Pkg}
 use Rattle.rules.specs.Step.{IndexPackage, is_named, unpacked_with}
-use Rattle.rules.specs.Universe.{Pair, Universe, IsOf, StandsAs, listed_among, listed_of}
+use Rattle.rules.specs.Universe.{Pair, Universe, IsOf, StandsAs, listed_of}
 use Rattle.rules.specs.Verdict.{IsBuiltOn}
 use Rattle.rules.specs.Version.{SameVersion, version_cmp}
 use Rattle.rules.specs.VersionOrderLaws.{same_version_equivalence}
 use Rattle.rules.proofs.EndLemmas.{both_true}
 use Rattle.universe.proofs.Finding.{find-some}
-use Rattle.forward_steps.specs.Selection.{IsOneEach}
 use Rattle.forward_steps.specs.Work.{is_standing}
 
 -- an order that passes the test is equality

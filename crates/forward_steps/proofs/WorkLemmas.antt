@@ -1,8 +1,8 @@
 -- How the work that is left changes with the records.
 use Rattle.std.proofs.Common.{◌≡◌, ◌≢◌, ℕ, ◌+◌, ◌<◌, ◌≤◌, lit≤, Bool, true, false, cond, List, [], ◌∷◌, ◌++◌, inl, inr, refl, sym, ap, subst, ◌∙◌, arith}
-use Rattle.std.specs.List.{All, Contains, filter, list_any}
+use Rattle.std.specs.List.{Contains, filter, list_any}
 use Rattle.std.proofs.lemmas.List.Elements.{All-contains}
-use Rattle.rules.specs.Database.{Record, HasDistinctNames, IsPresent, IsUnconfigured}
+use Rattle.rules.specs.Database.{Record, HasDistinctNames}
 use Rattle.rules.specs.ElementLaws.{Any-elim, Any-from_list_any, Contains-cons, Contains-head, Contains-nil, Contains-rest}
 use Rattle.rules.specs.NamedLaws.{bytes_eq-true}
 use Rattle.rules.specs.Package.{Pkg}

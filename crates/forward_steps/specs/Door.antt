@@ -1,5 +1,5 @@
 -- What is known of the steps so far, and what a step does.
-use Rattle.std.specs.Prelude.{◌≡◌, ◌≢◌, ℕ, ◌<◌, Bool, List, [], MatchBool, IsTrue}
+use Rattle.std.specs.Prelude.{◌≡◌, ℕ, ◌<◌, Bool, List, [], MatchBool, IsTrue}
 use Rattle.std.specs.List.{All, Contains}
 use Rattle.rules.specs.Configure.{GroupPasses}
 use Rattle.rules.specs.Database.{Record, HasDistinctNames, IsQuiet}

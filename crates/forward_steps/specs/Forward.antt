@@ -7,7 +7,6 @@ use Rattle.rules.specs.Name.{is_name}
 use Rattle.rules.specs.Package.{Pkg}
 use Rattle.rules.specs.Sound.{HasMember, HasVersion}
 use Rattle.rules.specs.Universe.{Universe}
-use Rattle.rules.specs.declared.goal.Goal.{Goal}
 use Rattle.rules.specs.declared.goal.Goal.TheVariants as goal
 use Rattle.rules.specs.declared.step.Step.{Step}
 use Rattle.rules.specs.declared.step.Step.TheVariants as step

@@ -1,8 +1,7 @@
 -- The packages of a selection of admitted pairs (this project's own).
-use Rattle.std.specs.Prelude.{◌≡◌, ◌≢◌, ℕ, Bool, false, List, Option, map, is_some, bytes_eq, ◌&&◌, not}
+use Rattle.std.specs.Prelude.{◌≢◌, ℕ, Bool, false, List, Option, is_some, bytes_eq, ◌&&◌, not}
 use Rattle.std.specs.List.{AllPairs, find, filter_map}
 use Rattle.std.specs.Option.{option_map, option_map_or}
-use Rattle.std.specs.Ordering.{is_eq}
 use Rattle.rules.specs.Available.{is_of}
 use Rattle.rules.specs.Database.{Record}
 use Rattle.rules.specs.Minimal.{pkg_at}
@@ -11,7 +10,6 @@ use Rattle.rules.specs.Package.{Pkg}
 use Rattle.rules.specs.State.{is_present_state, is_unconfigured_state}
 use Rattle.rules.specs.Step.{no_relations}
 use Rattle.rules.specs.Universe.{Pair, Universe, listed_of}
-use Rattle.rules.specs.Version.{version_cmp}
 use Rattle.universe.specs.Universe.{numbered}
 
 -- the packages of the pairs of these numbers, counted from 1

@@ -1,8 +1,8 @@
 -- An order for packages is one for their names and versions alone.
-use Rattle.std.proofs.Common.{◌≡◌, ℕ, List, map, refl, sym, ap, subst, ◌∙◌}
-use Rattle.std.specs.List.{All, Any, Contains}
+use Rattle.std.proofs.Common.{◌≡◌, ℕ, List, map, sym, subst}
+use Rattle.std.specs.List.{Any}
 use Rattle.std.proofs.lemmas.List.Elements.{All-contains, All-map, All-weaker}
-use Rattle.rules.specs.Database.{Record, HasRecord, installed_of}
+use Rattle.rules.specs.Database.{Record, installed_of}
 use Rattle.rules.specs.ElementLaws.{All-intro, Any-elim, Any-intro, Any-weaker, Contains-map, Contains-map_intro}
 use Rattle.rules.specs.Package.{Pkg}
 use Rattle.rules.specs.Sound.{HasMember, HasVersion}

@@ -1,10 +1,10 @@
 -- When an end is the one that is wanted.
-use Rattle.std.proofs.Common.{◌≡◌, Bool, true, false, List, [], ◌∷◌, ℕ, zero, suc, Option, Some, None, refl, sym, ap, subst, ◌∙◌}
+use Rattle.std.proofs.Common.{◌≡◌, Bool, true, false, List, [], ◌∷◌, ℕ, zero, suc, Option, Some, None, refl, subst}
 use Rattle.std.specs.Prelude.{◌↔◌, IsTrue, MatchOption, is_some}
-use Rattle.std.specs.List.{All, Contains, filter_map, cons_option, slice_get}
+use Rattle.std.specs.List.{All, filter_map, cons_option, slice_get}
 use Rattle.std.specs.Option.{option_map}
 use Rattle.std.proofs.lemmas.List.Elements.{All-contains, All-cons, All-nil}
-use Rattle.rules.specs.Database.{Record, IsInstalled, IsQuiet, installed_of, pkg_of}
+use Rattle.rules.specs.Database.{Record, IsInstalled, IsQuiet, installed_of}
 use Rattle.rules.specs.ElementLaws.{All-intro, Contains-map, Contains-map_intro}
 use Rattle.rules.specs.Package.{Pkg}
 use Rattle.rules.specs.Run.{HasNothingAgainst, IsFirstAgainst, Run}
@@ -13,7 +13,6 @@ use Rattle.rules.specs.Universe.{Pair, Universe}
 use Rattle.rules.specs.Verdict.{GoodPlanHasYes, GoodWhereNothingIsAgainst, IsBuiltOn}
 use Rattle.rules.specs.declared.step.Reason.{Reason}
 use Rattle.rules.specs.declared.step.Step.{Step}
-use Rattle.rules.specs.declared.step.Verdict.{Verdict}
 use Rattle.rules.specs.declared.step.Verdict.TheVariants as verdict
 use Rattle.plancheck_end.proofs.InstalledLemmas.{all_installed, installed_all}
 use Rattle.universe.specs.Universe.{packages_of}

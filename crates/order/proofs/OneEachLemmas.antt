@@ -1,6 +1,6 @@
 -- Names that make a table as long as they are many are different.
-use Rattle.std.proofs.Common.{◌≡◌, ◌≢◌, ℕ, zero, suc, ◌+◌, ◌≤◌, lit≤, Bool, true, false, cond, ◌||◌, List, [], ◌∷◌, ◌++◌, Option, Some, None, map, fold, length, length-append, refl, sym, ap, subst, ◌∙◌, bytes_eq, arith, Bor, drop, nat_eq, get_or, ◌<◌}
-use Rattle.std.specs.List.{All, AllByRecursion, AllPairs, filter_map, cons_option, list_any, slice_get}
+use Rattle.std.proofs.Common.{◌≡◌, ◌≢◌, ℕ, zero, suc, ◌+◌, ◌≤◌, Bool, true, false, cond, ◌||◌, List, [], ◌∷◌, ◌++◌, Option, Some, None, map, fold, length, length-append, refl, sym, ap, ◌∙◌, bytes_eq, arith, Bor, drop, nat_eq, get_or, ◌<◌}
+use Rattle.std.specs.List.{All, filter_map, cons_option, list_any, slice_get}
 use Rattle.std.specs.Option.{option_map}
 use Rattle.std.proofs.lemmas.List.Elements.{All-cons, All-nil}
 use Rattle.std.proofs.lemmas.List.Folds.{list_any-append}
@@ -17,9 +17,8 @@ use Rattle.rules.specs.NamedLaws.{bytes_eq-same}
 use Rattle.rules.specs.Package.{Pkg}
 use Rattle.rules.specs.Universe.{Pair, Universe}
 use Rattle.rules.proofs.Rising.{pairs_head, pairs_tail}
-use Rattle.std.proofs.lemmas.List.Elements.{All-contains, All-map}
+use Rattle.std.proofs.lemmas.List.Elements.{All-contains}
 use Rattle.rules.specs.ElementLaws.{All-intro, Contains-map_intro}
-use Rattle.universe.specs.Universe.{numbered}
 use Rattle.forward_steps.specs.Selection.{AreApart, IsOneEach, chosen, name_at}
 
 -- a table has no more names than those that it had and those that are put in

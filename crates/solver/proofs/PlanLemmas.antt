@@ -1,7 +1,7 @@
 -- Steps that install just the packages of a selection are a plan for it.
-use Rattle.std.proofs.Common.{◌≡◌, ℕ, zero, suc, Bool, List, [], ◌∷◌, Option, refl, sym, ap, subst, ◌∙◌}
+use Rattle.std.proofs.Common.{◌≡◌, ℕ, zero, suc, List, [], ◌∷◌, Option, refl, sym, ap, subst, ◌∙◌}
 use Rattle.std.specs.Prelude.{◌↔◌}
-use Rattle.std.specs.List.{All, Contains, cons_option, filter_map}
+use Rattle.std.specs.List.{Contains, cons_option}
 use Rattle.encode.specs.Selection.{selects}
 use Rattle.order.specs.Order.{InstalledAreSelected, IsPlanFor}
 use Rattle.forward_steps.specs.Selection.{chosen}

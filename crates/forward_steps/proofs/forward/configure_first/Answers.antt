@@ -1,5 +1,5 @@
 -- A group of those that wait is allowed where one is found, and else none is.
-use Rattle.std.proofs.Common.{List, ℕ, Option, MatchOption, refl, sym, subst, ◌∙◌}
+use Rattle.std.proofs.Common.{List, ℕ, Option, MatchOption, refl, subst, ◌∙◌}
 use Rattle.rules.specs.Legal.{Allowed}
 use Rattle.rules.specs.declared.step.Step.TheVariants.{Configure}
 use Rattle.forward_steps.specs.Door.{NoPartPasses, NoneConfigured, selected_in}

@@ -1,7 +1,6 @@
 -- The step is that of the goal's name; another goal asks for no purge.
-use Rattle.std.proofs.Common.{◌≡◌, ℕ, List, refl, sym, subst, ◌∙◌}
+use Rattle.std.proofs.Common.{◌≡◌, refl, subst}
 use Rattle.rules.specs.Legal.{Allowed}
-use Rattle.rules.specs.declared.goal.Goal.TheVariants as goals
 use Rattle.rules.specs.declared.step.Step.TheVariants.{Purge}
 use Rattle.forward_steps.specs.Door.{CannotPurge, selected_in}
 use Rattle.forward_steps.proofs.MoveLemmas.{moves_by}

@@ -1,9 +1,8 @@
 -- One goal more asks for no purge that is allowed.
-use Rattle.std.proofs.Common.{◌≡◌, List, take, sym, subst, ◌∙◌}
+use Rattle.std.proofs.Common.{◌≡◌, List, take, subst, ◌∙◌}
 use Rattle.std.proofs.lemmas.List.Elements.{All-more}
 use Rattle.std.proofs.lemmas.List.{take_all}
 use Rattle.rules.specs.Database.{Record}
-use Rattle.rules.specs.declared.goal.Goal.{Goal}
 use Rattle.std.specs.List.{All}
 use Rattle.forward_steps.specs.Door.{CannotPurge, selected_in}
 use Rattle.forward_steps.proofs.MoveLemmas.{stayed}

@@ -1,5 +1,5 @@
 -- One name more can't be removed.
-use Rattle.std.proofs.Common.{List, sym, subst, ◌∙◌}
+use Rattle.std.proofs.Common.{List, subst, ◌∙◌}
 use Rattle.std.proofs.lemmas.List.Elements.{All-more}
 use Rattle.rules.specs.Database.{Record}
 use Rattle.plancheck_group.proofs.PartLemmas.{up_to_end}

@@ -1,5 +1,5 @@
 -- The names that leave have no member, and no other name that has none is present.
-use Rattle.std.proofs.Common.{List, ℕ, sym, subst, ◌∙◌}
+use Rattle.std.proofs.Common.{sym, subst, ◌∙◌}
 use Rattle.std.specs.List.{All}
 use Rattle.rules.specs.Sound.{HasMember}
 use Rattle.forward_steps.specs.Door.{CannotRemove, NoneRemoved, selected_in}

@@ -1,6 +1,6 @@
 -- One name more narrows the group.
 use Rattle.std.proofs.Common.{take}
-use Rattle.plancheck_group.proofs.PartLemmas.{up_to_end, up_to_next}
+use Rattle.plancheck_group.proofs.PartLemmas.{up_to_next}
 use Rattle.forward_steps.specs.Group.{IsNarrowedBy}
 use Rattle.forward_steps.proofs.GroupLemmas.{narrowed_more}
 use Rattle.forward_steps.proofs.group.narrowed_by.Goals as goal

@@ -1,5 +1,5 @@
 -- A good end is wanted where just the selection is installed, and one with something against it isn't.
-use Rattle.std.proofs.Common.{rules, ◌≡◌, true, false, sym, ◌∙◌}
+use Rattle.std.proofs.Common.{◌≡◌, true, false, sym, ◌∙◌}
 use Rattle.forward_steps.specs.Door.{selected_in}
 use Rattle.order.proofs.EndLemmas.{not_wanted, nothing_where_none, wanted_where_exact}
 use Rattle.order.proofs.end.is_wanted.Goals as goal

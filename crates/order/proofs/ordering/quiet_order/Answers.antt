@@ -1,11 +1,11 @@
 -- The members are what is chosen, with its stanzas.
-use Rattle.std.proofs.Common.{◌≡◌, List, map, sym, subst, ap, ◌∙◌}
+use Rattle.std.proofs.Common.{List, sym, subst, ap, ◌∙◌}
 use Rattle.std.specs.List.{All}
 use Rattle.rules.specs.Package.{Pkg}
 use Rattle.universe.specs.Universe.{packages_of}
 use Rattle.forward_steps.specs.Door.{HasStanza}
 use Rattle.order.specs.Order.{IsOrder}
-use Rattle.forward_steps.specs.Selection.{IsOneEach, bare, chosen}
+use Rattle.forward_steps.specs.Selection.{IsOneEach, chosen}
 use Rattle.order.proofs.BareLemmas.{order_from_bare}
 use Rattle.order.proofs.EndLemmas.{members_have_stanzas}
 use Rattle.forward_steps.proofs.MemberLemmas.{bare_one_each, chosen_members}

@@ -1,5 +1,4 @@
 -- The steps in the fixed order are a plan.
-use Rattle.std.proofs.Common.{List}
 use Rattle.encode.specs.Selection.{selects}
 use Rattle.plain.specs.Change.{IsPlainChange}
 use Rattle.solver.proofs.PlanLemmas.{plan_that_ends_well}

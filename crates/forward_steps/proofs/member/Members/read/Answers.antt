@@ -1,6 +1,5 @@
 -- The members are of different names, as what is chosen.
-use Rattle.std.proofs.Common.{List, ap, subst, sym, ◌∙◌}
-use Rattle.rules.specs.Package.{Pkg}
+use Rattle.std.proofs.Common.{ap, subst, sym, ◌∙◌}
 use Rattle.universe.specs.Universe.{packages_of}
 use Rattle.forward_steps.specs.Selection.{IsOneEach, chosen}
 use Rattle.forward_steps.proofs.MemberLemmas.{bare_one_each, chosen_members}
