@@ -1,0 +1,4 @@
+pub mod MemberLemmas
+pub mod OverLemmas
+pub mod PlaceLemmas
+pub mod SelectedLemmas
