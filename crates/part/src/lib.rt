@@ -5,4 +5,4 @@
 
 mod laws;
 
-pub use laws::{part_is_acceptable, part_selects_the_same};
+pub use laws::{part_has_needed_pairs, part_is_acceptable, part_is_minimal, part_selects_the_same};
