@@ -1,7 +1,12 @@
+pub mod ClauseLemmas
+pub mod FittingLemmas
+pub mod ListLemmas
 pub mod MemberLemmas
 pub mod MinimalLemmas
 pub mod NeededLemmas
 pub mod OverLemmas
 pub mod PkgLemmas
 pub mod PlaceLemmas
+pub mod PremiseLemmas
 pub mod SelectedLemmas
+pub mod WantedLemmas

@@ -11,7 +11,7 @@ use Rattle.rules.specs.Universe.{Universe, Pair}
 use Rattle.refutation.specs.Clause.{item_at}
 use Rattle.part.specs.Laws.{PartIsMinimal}
 use Rattle.part.specs.Part.{IsClosedPart, IsLifted, IsPart, StandingWerePresent}
-use Rattle.part.specs.Premises.{number_in}
+use Rattle.part.specs.Part.{number_in}
 use Rattle.part.proofs.OverLemmas.{over, is_over, over_part}
 use Rattle.part.proofs.PkgLemmas.{lowered_pkg, number_is, raised_pkg, stood_present}
 use Rattle.part.proofs.PlaceLemmas.{numbered, one_place}

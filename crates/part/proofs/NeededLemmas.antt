@@ -23,7 +23,7 @@ match_weaker None P Q weaker holds = tt
 match_weaker (Some x) P Q weaker holds = weaker x holds
 
 -- and of one that is there of which two things hold
-match_both : {X : Type 0} (o : Option X) (P Q R : X → Type 0) → ((x : X) → P x → Q x → R x) → MatchOption o ⊤ P → MatchOption o ⊤ Q
+pub match_both : {X : Type 0} (o : Option X) (P Q R : X → Type 0) → ((x : X) → P x → Q x → R x) → MatchOption o ⊤ P → MatchOption o ⊤ Q
     → MatchOption o ⊤ R
 match_both None P Q R gives one two = tt
 match_both (Some x) P Q R gives one two = gives x one two

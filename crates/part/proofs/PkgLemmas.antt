@@ -12,7 +12,7 @@ use Rattle.rules.specs.Universe.{Universe, Pair, Start}
 use Rattle.rules.specs.Version.{SameVersion}
 use Rattle.refutation.specs.Clause.{item_at}
 use Rattle.part.specs.Part.{StandingWerePresent}
-use Rattle.part.specs.Premises.{number_in}
+use Rattle.part.specs.Part.{number_in}
 use Rattle.part.proofs.PlaceLemmas.{left_item, right_item}
 
 -- the pair of a package

@@ -1,6 +1,7 @@
 -- Parts of a universe, over which a request may be solved in place of the whole (this project's own).
 use Rattle.std.specs.Prelude.{◌≡◌, ◌↔◌, ℕ, ◌<◌, Bool, List, Some, IsTrue, MatchOption, ⊤}
 use Rattle.std.specs.List.{All, AllPairs, AllZip, Contains}
+use Rattle.std.specs.Option.{unwrap_or}
 use Rattle.refutation.specs.Clause.{item_at}
 use Rattle.rules.specs.Minimal.{IsWanted, Needs, pkg_at}
 use Rattle.rules.specs.Package.{Pkg}
@@ -31,3 +32,11 @@ StandingWerePresent u = All (λ start. MatchOption start.standing ⊤ (λ _. IsT
 abbrev pub IsLifted : List ℕ → (ℕ → Bool) → (ℕ → Bool) → Type 0
 IsLifted numbers selection lifted = (number : ℕ) → IsTrue (lifted number)
     ↔ ((place : ℕ) × (item_at numbers place ≡ Some number) × IsTrue (selection place))
+
+-- the number that the pair of this number of the part has in the universe, and 0 where the part has no such pair
+abbrev pub number_in : List ℕ → ℕ → ℕ
+number_in numbers number = unwrap_or (item_at numbers number) 0
+
+-- the part of a selection of the universe's pairs that is within the part, as a selection of the pairs of the part
+abbrev pub lowered : List ℕ → (ℕ → Bool) → ℕ → Bool
+lowered numbers selection place = selection (number_in numbers place)

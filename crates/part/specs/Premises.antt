@@ -1,17 +1,12 @@
 -- Premises of a part of a universe as those of the universe (this project's own).
 use Rattle.std.specs.Prelude.{◌≢◌, ℕ, List}
-use Rattle.std.specs.Option.{unwrap_or}
-use Rattle.refutation.specs.Clause.{item_at}
 use Rattle.refutation.specs.Premise.{IsPremise, IsInPremise}
 use Rattle.refutation.specs.declared.line.Premise.{Premise}
 use Rattle.refutation.specs.declared.line.Premise.TheVariants as premise
 use Rattle.refutation.specs.declared.literal.Literal.{Literal}
 use Rattle.refutation.specs.declared.literal.Literal.TheVariants as literal
 use Rattle.rules.specs.Universe.{Universe}
-
--- the number that the pair of this number of the part has in the universe, and 0 where the part has no such pair
-abbrev pub number_in : List ℕ → ℕ → ℕ
-number_in numbers number = unwrap_or (item_at numbers number) 0
+use Rattle.part.specs.Part.{number_in}
 
 -- the literal with the number that its pair has in the universe
 abbrev pub literal_in : List ℕ → Literal → Literal

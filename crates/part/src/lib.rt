@@ -5,4 +5,8 @@
 
 mod laws;
 
-pub use laws::{part_has_needed_pairs, part_is_acceptable, part_is_minimal, part_selects_the_same};
+pub use laws::{
+    acceptable_part_is_acceptable, choice_of_part, clauses_of_part, list_is_lifted,
+    part_has_needed_pairs, part_is_acceptable, part_is_minimal, part_selects_the_same,
+    premises_of_part,
+};
