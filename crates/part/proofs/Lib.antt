@@ -5,6 +5,7 @@ pub mod MemberLemmas
 pub mod MinimalLemmas
 pub mod NeededLemmas
 pub mod OverLemmas
+pub mod PartRows
 pub mod PkgLemmas
 pub mod PlaceLemmas
 pub mod PremiseLemmas

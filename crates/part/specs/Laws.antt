@@ -12,17 +12,17 @@ use Rattle.rules.specs.Universe.{Universe}
 use Rattle.part.specs.Part.{IsPart, IsClosedPart, StandingWerePresent, IsLifted, lowered}
 use Rattle.part.specs.Premises.{premise_in, literal_in, LeavesChoice}
 
--- a selection of the part selects the packages that it selects as one of the universe
+-- a selection of the part's pairs selects the packages that it selects as one of the universe's
 abbrev pub PartSelectsTheSame : Type 0
 PartSelectsTheSame = (u part : Universe) (numbers : List ℕ) (selection lifted : ℕ → Bool) → IsPart u numbers part
     → IsLifted numbers selection lifted → selected u lifted ≡ selected part selection
 
--- a selection of the part is acceptable exactly where it is so as one of the universe
+-- a selection of the part's pairs is acceptable exactly where it is so as one of the universe's
 abbrev pub PartIsAcceptable : Type 0
 PartIsAcceptable = (u part : Universe) (numbers : List ℕ) (selection lifted : ℕ → Bool) → IsPart u numbers part
     → IsLifted numbers selection lifted → IsAcceptable part selection ↔ IsAcceptable u lifted
 
--- over a closed part, where each name that stands was present, a selection that is locally minimal is so as one of the universe
+-- over a closed part, where each name that stands was present, a selection that is locally minimal is so as one of the universe's
 abbrev pub PartIsMinimal : Type 0
 PartIsMinimal = (u part : Universe) (numbers : List ℕ) (selection lifted : ℕ → Bool) → IsPart u numbers part → IsClosedPart u numbers
     → StandingWerePresent u → IsLifted numbers selection lifted → IsLocallyMinimal part selection → IsLocallyMinimal u lifted
@@ -33,13 +33,13 @@ abbrev pub PartHasNeededPairs : Type 0
 PartHasNeededPairs = (u part : Universe) (numbers : List ℕ) → HasAscendingPairs u → HasNeededPairs u → StandingWerePresent u
     → IsPart u numbers part → IsClosedPart u numbers → HasAscendingPairs part × HasNeededPairs part
 
--- where a list has the numbers of a selection of the part, the list of the numbers that its pairs have in the universe is that selection
--- as one of the universe
+-- where a list has the numbers of a selection of the part, the list of the numbers that these pairs have in the universe is that
+-- selection as one of the universe's
 abbrev pub ListIsLifted : Type 0
 ListIsLifted = (numbers chosen lifted : List ℕ) → AllZip (λ place number. item_at numbers place ≡ Some number) chosen lifted
     → IsLifted numbers (λ place. list_any (λ one. one == place) chosen) (λ number. list_any (λ one. one == number) lifted)
 
--- the part of an acceptable selection within a closed part, where each name that stands was present, is acceptable
+-- what an acceptable selection has of a closed part, where each name that stands was present, is acceptable over the part
 abbrev pub AcceptablePartIsAcceptable : Type 0
 AcceptablePartIsAcceptable = (u part : Universe) (numbers : List ℕ) (selection : ℕ → Bool) → IsPart u numbers part → IsClosedPart u numbers
     → StandingWerePresent u → IsAcceptable u selection → IsAcceptable part (lowered numbers selection)

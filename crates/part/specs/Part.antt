@@ -27,16 +27,16 @@ pub record IsClosedPart (u : Universe) (numbers : List ℕ) : Type 0 where
 abbrev pub StandingWerePresent : Universe → Type 0
 StandingWerePresent u = All (λ start. MatchOption start.standing ⊤ (λ _. IsTrue start.is_present)) u.starts
 
--- the second selection is the first one, of the pairs of the part, as a selection of the universe's: it has a number where that is
--- the number of a pair which the first one has
+-- the second selection is the first one, a selection of the part's pairs, as one of the universe's: it has just the numbers that the
+-- selected pairs of the part have in the universe
 abbrev pub IsLifted : List ℕ → (ℕ → Bool) → (ℕ → Bool) → Type 0
 IsLifted numbers selection lifted = (number : ℕ) → IsTrue (lifted number)
     ↔ ((place : ℕ) × (item_at numbers place ≡ Some number) × IsTrue (selection place))
 
--- the number that the pair of this number of the part has in the universe, and 0 where the part has no such pair
+-- the number in the universe of the part's pair of this number, and 0 where there is none
 abbrev pub number_in : List ℕ → ℕ → ℕ
 number_in numbers number = unwrap_or (item_at numbers number) 0
 
--- the part of a selection of the universe's pairs that is within the part, as a selection of the pairs of the part
+-- what a selection of the universe's pairs has of the part, as a selection of the part's pairs
 abbrev pub lowered : List ℕ → (ℕ → Bool) → ℕ → Bool
 lowered numbers selection place = selection (number_in numbers place)
