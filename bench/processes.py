@@ -1,4 +1,4 @@
-"""The wall time and the peak memory of whole processes."""
+"""What the measuring programs share: the wall time and the peak memory of whole processes, and how apt is asked."""
 
 import os
 import statistics
@@ -8,6 +8,12 @@ import time
 
 # apt builds no cache on disk, and so reads its lists in each run.
 NO_CACHE = ["-o", "Dir::Cache::pkgcache=", "-o", "Dir::Cache::srcpkgcache="]
+
+
+def simulation(folder, name):
+    """The command that has apt simulate the request to install the package over the status file of the folder."""
+    status = os.path.join(folder, "status")
+    return ["apt-get", "-s", "-o", f"Dir::State::status={status}", "--no-install-recommends", "install", name]
 
 
 def measured(command):
