@@ -74,12 +74,16 @@ def time_candidate(folder, program, rounds):
 
 
 def version_of(folder, name):
-    """The version of the package's first stanza in the indices."""
+    """The version of the package's first stanza in the indices. They are read line by line: the peak memory of a process
+    counts what the one that starts it holds."""
     for path in sorted(glob.glob(os.path.join(folder, "index-*.Packages"))):
+        is_there = False
         with open(path, encoding="utf-8") as index:
-            found = re.search(rf"^Package: {re.escape(name)}\n(?:.+\n)*?Version: (\S+)$", index.read(), re.MULTILINE)
-        if found:
-            return found[1]
+            for line in index:
+                if line.startswith("Package: "):
+                    is_there = line == f"Package: {name}\n"
+                elif is_there and line.startswith("Version: "):
+                    return line.split()[1]
     fail(f"{folder} has no package {name}")
 
 
