@@ -24,7 +24,7 @@ def measured(command):
     _, status, usage = os.wait4(process.pid, 0)
     wall = time.perf_counter() - start
     if status != 0:
-        sys.exit(f"{sys.argv[0]}: {command[0]} ended with status {status}: {printed}")
+        sys.exit(f"{sys.argv[0]}: {command[0]} ended with status {os.waitstatus_to_exitcode(status)}: {printed}")
     return wall * 1000, usage.ru_maxrss / 1024, printed
 
 
