@@ -12,6 +12,8 @@ import sys
 
 import apt_pkg
 
+from processes import simulation
+
 RELATIONS = ("Pre-Depends", "Depends", "Conflicts", "Breaks", "Provides")
 FIELDS = ("Package", "Version", "Status", "Config-Version", *RELATIONS)
 ATOM = re.compile(r"([A-Za-z0-9][A-Za-z0-9+.-]*)(?::([A-Za-z0-9-]+))?\s*(?:\(\s*([<>=]+)\s*([^\s)]+)\s*\))?$")
@@ -189,12 +191,6 @@ def packages_of(folder, versions):
     if len(packages) != len(versions):
         sys.exit(f"gnome_plan.py: {folder} isn't of this machine's lists")
     return packages
-
-
-def simulation(folder, name):
-    """The command that has apt simulate the request."""
-    status = os.path.join(folder, "status")
-    return ["apt-get", "-s", "-o", f"Dir::State::status={status}", "--no-install-recommends", "install", name]
 
 
 def versions_of(folder, name):

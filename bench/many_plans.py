@@ -17,7 +17,8 @@ from concurrent.futures import ThreadPoolExecutor
 
 import apt_pkg
 
-from gnome_plan import INST, Machine, Package, is_there, simulation, stanzas_in, steps_of
+from gnome_plan import INST, Machine, Package, is_there, stanzas_in, steps_of
+from processes import simulation
 
 
 def steps_for(folder, name, packages, installed):

@@ -1,4 +1,4 @@
-"""The wall time and the peak memory of whole processes."""
+"""What the measuring programs share: the wall time and the peak memory of whole processes, and how apt is asked."""
 
 import os
 import statistics
@@ -10,6 +10,12 @@ import time
 NO_CACHE = ["-o", "Dir::Cache::pkgcache=", "-o", "Dir::Cache::srcpkgcache="]
 
 
+def simulation(folder, name):
+    """The command that has apt simulate the request to install the package over the status file of the folder."""
+    status = os.path.join(folder, "status")
+    return ["apt-get", "-s", "-o", f"Dir::State::status={status}", "--no-install-recommends", "install", name]
+
+
 def measured(command):
     """The wall time of a process in milliseconds, its peak memory in MiB, and what it prints."""
     start = time.perf_counter()
@@ -18,7 +24,7 @@ def measured(command):
     _, status, usage = os.wait4(process.pid, 0)
     wall = time.perf_counter() - start
     if status != 0:
-        sys.exit(f"{sys.argv[0]}: {command[0]} ended with status {status}: {printed}")
+        sys.exit(f"{sys.argv[0]}: {command[0]} ended with status {os.waitstatus_to_exitcode(status)}: {printed}")
     return wall * 1000, usage.ru_maxrss / 1024, printed
 
 

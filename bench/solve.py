@@ -1,12 +1,18 @@
 #!/usr/bin/python3
-"""solve.py DIR PROGRAM [--empty] [--apt] [--libsolv] [--part K/N] GOAL..: solves requests by debplan and shows what comes
-out, a row of a table for each. A GOAL is `install:NAME`, `remove:NAME`, `upgrade:NAME`, `upgrade-all`, or `random:COUNT`,
-which stands for as many names of the indices to be installed, drawn at random but the same in each run (`gone:COUNT`:
-installed names to be removed). DIR is what tools/collect-inputs wrote on this machine, PROGRAM is debplan. Each plan has to
-be judged `yes` by check-plan, and each refutation by check-refutation. With --empty nothing is installed. With --apt the
-packages that `apt-get -s` would change, without recommended ones, stand beside; with --libsolv the time of libsolv from the
-same texts. With --part every N-th goal alone is solved, from the K-th on, so that N processes can share a sample. It exits
-with 1 where an answer isn't judged yes or a request is undecided. --libsolv wants Debian's package python3-solv."""
+"""solve.py DIR PROGRAM [--empty] [--apt] [--libsolv] [--conflicts] [--part K/N] GOAL..: solves requests by debplan and shows
+what comes out, a row of a table for each. A GOAL is `install:NAME`, `remove:NAME`, `upgrade:NAME`, `upgrade-all`, or
+`random:COUNT`, which stands for as many names of the indices to be installed, drawn at random but the same in each run
+(`gone:COUNT`: installed names to be removed). DIR is what tools/collect-inputs wrote on this machine, PROGRAM is debplan.
+Each plan has to be judged `yes` by check-plan, and each refutation by check-refutation.
+
+  --empty      nothing is installed
+  --apt        beside it the packages that `apt-get -s` would change, without recommended ones
+  --libsolv    beside it the time of libsolv from the same texts; wants Debian's package python3-solv
+  --conflicts  beside it the least --limit, of 0, 1, 2, 3, 4, 6, 8, 16 and so on, doubled up to 65536, with which the request
+               is decided: that many conflicts of the search, or hardly fewer
+  --part K/N   every N-th goal alone, from the K-th on, so that N processes can share a sample
+
+Exit status: 0, 1 where an answer isn't judged yes or a request is undecided, 2 for wrong words."""
 
 import argparse
 import glob
@@ -25,6 +31,7 @@ INST = re.compile(r"^Inst (\S+) (\[\S+\] )?\(", re.MULTILINE)
 REMV = re.compile(r"^(?:Remv|Purg) (\S+)", re.MULTILINE)
 # The files in which apt keeps what it read of its lists, so that it reads them once.
 CACHES = ("pkgcache", "srcpkgcache")
+LIMITS = (0, 1, 2, 3, 4, 6, 8, *(2**power for power in range(4, 17)))
 
 
 def run(command):
@@ -118,6 +125,14 @@ class Bench:
         code, _, wall, _ = run(["/usr/bin/python3", os.path.join(HERE, "libsolv_request.py"), self.folder, name])
         return f"{wall:.0f} ms" if code == 0 else "refuses"
 
+    def conflicts(self, inputs):
+        """The least of the limits with which the request is decided."""
+        for limit in LIMITS:
+            _, said, _, _ = run([self.program, "solve", *inputs, "--limit", f"{limit}"])
+            if not said.startswith("undecided limit"):
+                return f"{limit}"
+        return f"more than {LIMITS[-1]}"
+
     def row(self, goal):
         request = os.path.join(self.room, "request")
         with open(request, "w", encoding="utf-8") as text:
@@ -142,6 +157,7 @@ class Bench:
         cells += [f"{wall:.0f} ms", f"{peak:.0f} MiB"]
         cells += [self.apt(goal)] if self.options.apt else []
         cells += [self.libsolv(goal)] if self.options.libsolv else []
+        cells += [self.conflicts(inputs)] if self.options.conflicts else []
         print("| " + " | ".join(cells) + " |", flush=True)
 
 
@@ -169,12 +185,13 @@ def part_of(goals, part):
 
 
 def main():
-    parser = argparse.ArgumentParser(usage=__doc__)
+    parser = argparse.ArgumentParser(description=__doc__, formatter_class=argparse.RawDescriptionHelpFormatter)
     parser.add_argument("folder")
     parser.add_argument("program")
     parser.add_argument("--empty", action="store_true")
     parser.add_argument("--apt", action="store_true")
     parser.add_argument("--libsolv", action="store_true")
+    parser.add_argument("--conflicts", action="store_true")
     parser.add_argument("--part", default="1/1")
     parser.add_argument("goals", nargs="+")
     options = parser.parse_args()
@@ -182,6 +199,7 @@ def main():
     columns = ["Request", "Answer", "New, upgraded, removed", "Steps", "Deconfigured", "At a time", "Time", "Peak"]
     columns += ["apt"] if options.apt else []
     columns += ["libsolv"] if options.libsolv else []
+    columns += ["Conflicts"] if options.conflicts else []
     print("| " + " | ".join(columns) + " |\n|" + "---|" * len(columns))
     for goal in part_of(goals_of(options.goals, bench.folder, bench.start), options.part):
         bench.row(goal)

@@ -9,8 +9,13 @@ const VERSION: &str = "0.1.0";
 /// The version of the program, and the toolchain that proves it (`rt version`).
 const VERSION_AND_TOOLCHAIN: &str = "0.1.0\ntoolchain: rattle-kit-13f logic dac8208d650f15bf";
 
-/// What each exit status means, as it stands below each help.
-const EXIT_STATUSES: &str = "Exit status:
+/// Of which versions an answer speaks, and what each exit status means, as it stands below each help.
+const ANSWERS: &str =
+    "A refutation shows that no choice among the admitted versions fulfils the request.
+Admitted are, of each package, the installed version, the candidate, and each version that a goal
+names, as in install hello (= 2.10-3); of a held package, the installed version alone.
+
+Exit status:
   0  yes, a plan, a candidate, or help
   1  no, a refutation, or no candidate
   2  undecided: the search gave up, or no order of steps was found
@@ -41,9 +46,7 @@ pub(crate) fn program<'a>(alloc: Global) -> Result<Command<'a>, AllocError> {
 
 // The command of this name, which does this.
 fn named<'a>(alloc: Global, name: &'a str, about: &'a str) -> Command<'a> {
-    Command::new(alloc, name)
-        .about(about)
-        .after_help(EXIT_STATUSES)
+    Command::new(alloc, name).about(about).after_help(ANSWERS)
 }
 
 fn with<'a>(
@@ -101,7 +104,7 @@ fn check_refutation<'a>(alloc: Global) -> Result<Command<'a>, AllocError> {
     let command = named(
         alloc,
         "check-refutation",
-        "Check a refutation: that no choice of versions fulfils the request",
+        "Check a refutation: that no choice among the admitted versions fulfils the request",
     );
     with_options(alloc, command)?.arg(request(alloc))?.arg(word(
         alloc,
@@ -111,7 +114,9 @@ fn check_refutation<'a>(alloc: Global) -> Result<Command<'a>, AllocError> {
 }
 
 fn request<'a>(alloc: Global) -> Arg<'a> {
-    option(alloc, "request", "FILE").help("The request, with a goal on each line: install hello")
+    option(alloc, "request", "FILE").help(
+        "Goals, one a line: install, remove, purge or upgrade NAME, upgrade-all, no-remove",
+    )
 }
 
 // The command with the options that say which packages there are, and what is preferred among them.
