@@ -1,3 +1,4 @@
+pub mod AscendingLemmas
 pub mod Changed
 pub mod PlaceLemmas
 pub mod ListedLemmas

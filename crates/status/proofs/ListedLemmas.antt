@@ -1,19 +1,20 @@
 -- The holders of names at their listed places, where records are added, changed and purged.
-use Rattle.std.proofs.Common.{◌≡◌, ℕ, zero, suc, ◌+◌, ◌<◌, ◌≤◌, Bool, true, false, true≢false, cond, ◌||◌, ◌⊎◌, inl, inr, List, [], ◌∷◌, ◌++◌, map, length, get_or, take, Option, Some, None, MatchOption, Contains, slice_get, slice_set, refl, sym, ap, subst, ◌∙◌, bytes_eq, arith}
-use Rattle.std.specs.List.{All, list_any, remove}
+use Rattle.std.proofs.Common.{◌≡◌, ◌≢◌, ◌==◌, not, ℕ, zero, suc, ◌+◌, ◌<◌, ◌≤◌, Bool, true, false, true≢false, cond, ◌||◌, ◌⊎◌, inl, inr, List, [], ◌∷◌, ◌++◌, map, length, get_or, take, Option, Some, None, MatchOption, Contains, slice_get, slice_set, refl, sym, ap, subst, ◌∙◌, bytes_eq, arith}
+use Rattle.std.specs.List.{All, filter, list_any, remove}
 use Rattle.std.specs.Option.{option_map, option_to_list}
+use Rattle.std.proofs.lemmas.Bool.{ne_eqb}
 use Rattle.std.proofs.lemmas.Bool.Decides.{nat_tests}
 use Rattle.std.proofs.lemmas.List.{take_all, take_more}
 use Rattle.std.proofs.lemmas.List.Elements.{All-contains, Contains-append_left, Contains-append_right}
 use Rattle.std.proofs.lemmas.List.Folds.{list_any-append}
 use Rattle.std.proofs.lemmas.Option.{slice_get_read, slice_get_within, get_or_from_slice_get, slice_get-map}
 use Rattle.rules.specs.Database.{Record}
-use Rattle.rules.specs.ElementLaws.{All-intro, Any-from_list_any, Contains-cons, Contains-head, Contains-map_intro, Contains-nil}
+use Rattle.rules.specs.ElementLaws.{All-intro, Any-from_list_any, Contains-cons, Contains-filter_intro, Contains-head, Contains-map_intro, Contains-nil}
 use Rattle.rules.specs.NamedLaws.{bytes_eq-true}
 use Rattle.rules.specs.Package.{Provided}
 use Rattle.rules.specs.Step.{changed, is_named, removed}
 use Rattle.index.specs.Providers.{is_item_of}
-use Rattle.status.specs.Holders.{AreHolders, AreListed, IsEntered, IsPlaceOf, KeepsPlaces, is_holder, is_named_at, moved_down, records_at}
+use Rattle.status.specs.Holders.{AreHolders, AreListed, IsEntered, IsPlaceOf, KeepsPlaces, is_holder, is_named_at, moved_down, places_left, records_at}
 
 either : (a b : Bool) → (a || b) ≡ true → (a ≡ true) ⊎ (b ≡ true)
 either true b passes = inl refl
@@ -227,15 +228,22 @@ moved-before gone place before = grind (arith, nat_tests)
 moved-behind : (gone place : ℕ) → gone ≤ place → moved_down gone (suc place) ≡ place
 moved-behind gone place behind = grind (arith, nat_tests)
 
+-- a place that isn't gone is left, where it has moved to
+left-there : (gone place : ℕ) (places : List ℕ) → place ≢ gone → Contains places place → Contains (places_left gone places) (moved_down gone place)
+left-there gone place places other within =
+    let stays = λ (p : ℕ). not (p == gone) in
+    Contains-map_intro (moved_down gone) (filter stays places) place
+    (Contains-filter_intro stays places place within (rw (ne_eqb place gone other) refl))
+
 -- where the gap is closed, the records that are left are listed
 pub listed-removed : (db : List Record) (gone : ℕ) (old places : List ℕ → List ℕ) → gone < length db
-    → ((name : List ℕ) → places name ≡ map (moved_down gone) (old name)) → AreListed old db → AreListed places (remove db gone)
+    → ((name : List ℕ) → places name ≡ places_left gone (old name)) → AreListed old db → AreListed places (remove db gone)
 listed-removed db gone old places within moved listed name k found there holds = subst (λ at. Contains at k) (sym (moved name))
     (elim (remove-get db gone k found within there) [
-      | inl before ↦ subst (λ at. Contains (map (moved_down gone) (old name)) at) (moved-before gone k before.0)
-          (Contains-map_intro (moved_down gone) (old name) k (listed name k found before.1 holds))
-      | inr behind ↦ subst (λ at. Contains (map (moved_down gone) (old name)) at) (moved-behind gone k behind.0)
-          (Contains-map_intro (moved_down gone) (old name) (suc k) (listed name (suc k) found behind.1 holds))
+      | inl before ↦ subst (λ at. Contains (places_left gone (old name)) at) (moved-before gone k before.0)
+          (left-there gone k (old name) (λ same. absurd (omega (arith, same, before.0))) (listed name k found before.1 holds))
+      | inr behind ↦ subst (λ at. Contains (places_left gone (old name)) at) (moved-behind gone k behind.0)
+          (left-there gone (suc k) (old name) (λ same. absurd (omega (arith, same, behind.0))) (listed name (suc k) found behind.1 holds))
     ])
 
 -- where a record is changed into one that holds no more names, all are listed

@@ -1,15 +1,15 @@
 -- The places that are listed for a name, where lists and names are added, and where a record is gone.
-use Rattle.std.proofs.Common.{◌≡◌, ℕ, zero, suc, ◌+◌, ◌<◌, Bool, true, false, cond, List, [], ◌∷◌, ◌++◌, map, length, get_or, take, drop, Option, Some, None, Result, Ok, Err, OnOk, OnErr, IfSome, Contains, slice_get, slice_set, unwrap_or, refl, sym, ap, subst, ◌∙◌, bytes_eq, arith, length-append}
+use Rattle.std.proofs.Common.{◌≡◌, ◌⊎◌, inl, inr, ℕ, zero, suc, ◌+◌, ◌<◌, Bool, true, false, cond, List, [], ◌∷◌, ◌++◌, map, length, get_or, take, drop, Option, Some, None, Result, Ok, Err, OnOk, IfSome, Contains, slice_get, slice_set, unwrap_or, refl, sym, ap, subst, ◌∙◌, bytes_eq, arith, length-append}
 use Rattle.std.specs.Borrow.{Bor}
-use Rattle.std.specs.List.{All, IsAmong}
+use Rattle.std.specs.List.{All, IsAmong, insert}
 use Rattle.std.specs.Map.{lookup, values_of}
 use Rattle.std.specs.Option.{option_copied, option_map}
-use Rattle.std.proofs.lemmas.List.{drop_all, map-append}
-use Rattle.std.proofs.lemmas.List.Elements.{All-push, All-weaker, Contains-append_left, Contains-append_right}
+use Rattle.std.proofs.lemmas.List.{drop_all, map-append, take-append-drop}
+use Rattle.std.proofs.lemmas.List.Elements.{All-contains, All-push, All-weaker, Contains-append_cases, Contains-append_left, Contains-append_right}
 use Rattle.std.proofs.lemmas.Option.{unwrap_or-slice_get, slice_get-map, slice_get_read}
-use Rattle.rules.specs.ElementLaws.{Contains-head, Contains-nil}
+use Rattle.rules.specs.ElementLaws.{All-intro, Contains-head, Contains-nil, Contains-rest}
 use Rattle.rules.specs.NamedLaws.{bytes_eq-same}
-use Rattle.status.specs.Holders.{KeepsPlaces, listed, places_in}
+use Rattle.status.specs.Holders.{KeepsLists, KeepsPlaces, listed, places_in, places_left}
 
 -- the number of the name
 abbrev pub number_of : List ℕ → List (Bor (List ℕ) × ℕ) → Option ℕ
@@ -42,8 +42,7 @@ places-nowhere name lists es e = places-listed name lists es ∙ ap (list_at lis
 
 -- where each list keeps its places, each name does
 pub keeps-lists : (old new : List (List ℕ)) (es : List (Bor (List ℕ) × ℕ))
-    → ((number place : ℕ) → Contains (get_or old number []) place → Contains (get_or new number []) place)
-    → KeepsPlaces (places_in (listed old es)) (places_in (listed new es))
+    → KeepsLists old new → KeepsPlaces (places_in (listed old es)) (places_in (listed new es))
 keeps-lists old new es each name place within = by (number_of name es) refl
   where
     by : (o : Option ℕ) → number_of name es ≡ o → Contains (places_in (listed new es) name) place
@@ -111,37 +110,37 @@ places-read name lists es number list e within is =
     sym (places-listed name lists es ∙ ap (list_at lists) e
     ∙ ap (λ found. unwrap_or found []) (slice_get_read lists (length lists) number list refl within is))
 
--- what is put behind a list leaves each other place where it was
-set-keeps : (lists : List (List ℕ)) (at : ℕ) (more : List ℕ) (number place : ℕ) → Contains (get_or lists number []) place
-    → Contains (get_or (slice_set lists at (unwrap_or (slice_get lists at) [] ++ more)) number []) place
-set-keeps [] at more number place within = absurd (Contains-nil place within)
-set-keeps (list ∷ lists) zero more zero place within = Contains-append_left list more place within
-set-keeps (list ∷ lists) zero more (suc number) place within = within
-set-keeps (list ∷ lists) (suc at) more zero place within = within
-set-keeps (list ∷ lists) (suc at) more (suc number) place within = set-keeps lists at more number place within
+-- where a list is put in the place of one whose places it keeps, each list keeps its places
+pub set-keeps : (lists : List (List ℕ)) (at : ℕ) (list : List ℕ) → All (Contains list) (get_or lists at [])
+    → KeepsLists lists (slice_set lists at list)
+set-keeps [] at list all number place within = absurd (Contains-nil place within)
+set-keeps (first ∷ lists) zero list all zero place within = All-contains (Contains list) first place all within
+set-keeps (first ∷ lists) zero list all (suc number) place within = within
+set-keeps (first ∷ lists) (suc at) list all zero place within = within
+set-keeps (first ∷ lists) (suc at) list all (suc number) place within = set-keeps lists at list all number place within
 
--- and is in the list
-set-has : (lists : List (List ℕ)) (at place : ℕ) → at < length lists
-    → Contains (get_or (slice_set lists at (unwrap_or (slice_get lists at) [] ++ place ∷ [])) at []) place
-set-has [] at place within = absurd (omega (arith, within))
-set-has (list ∷ lists) zero place within = Contains-append_right list (place ∷ []) place (Contains-head place [])
-set-has (list ∷ lists) (suc at) place within = set-has lists at place (omega (arith, within))
+-- and is there
+pub set-is : (lists : List (List ℕ)) (at : ℕ) (list : List ℕ) → at < length lists → get_or (slice_set lists at list) at [] ≡ list
+set-is [] at list within = absurd (omega (arith, within))
+set-is (first ∷ lists) zero list within = refl
+set-is (first ∷ lists) (suc at) list within = set-is lists at list (omega (arith, within))
 
--- a place that is put behind the list of a number is put there or nothing is changed
-pub pushed-keeps : {E : Type 0} (r : Result (Unit {0}) E) (lists new : List (List ℕ)) (es : List (Bor (List ℕ) × ℕ)) (at place : ℕ)
-    → OnOk r (new ≡ slice_set lists at (unwrap_or (slice_get lists at) [] ++ place ∷ [])) → OnErr r (new ≡ lists)
-    → KeepsPlaces (places_in (listed lists es)) (places_in (listed new es))
-pushed-keeps (Ok done) lists new es at place ok err = keeps-lists lists new es (λ number p within.
-    subst (λ found. Contains (get_or found number []) p) (sym ok) (set-keeps lists at (place ∷ []) number p within))
-pushed-keeps (Err failed) lists new es at place ok err = keeps-lists lists new es (λ number p within.
-    subst (λ found. Contains (get_or found number []) p) (sym err) within)
+-- a place that is put between others is there, and they are
+pub inserted-there : (places : List ℕ) (at place : ℕ) → Contains (insert places at place) place
+inserted-there places at place = Contains-append_right (take at places) (place ∷ drop at places) place (Contains-head place (drop at places))
 
-pub pushed-has : {E : Type 0} (r : Result (Unit {0}) E) (name : List ℕ) (lists new : List (List ℕ)) (es : List (Bor (List ℕ) × ℕ))
-    (at place : ℕ) → OnOk r (new ≡ slice_set lists at (unwrap_or (slice_get lists at) [] ++ place ∷ [])) → number_of name es ≡ Some at
-    → at < length lists → OnOk r (Contains (places_in (listed new es) name) place)
-pushed-has (Ok done) name lists new es at place ok is within = subst (λ places. Contains places place) (sym (places-at name new es at is))
-    (subst (λ found. Contains (get_or found at []) place) (sym ok) (set-has lists at place within))
-pushed-has (Err failed) name lists new es at place ok is within = tt
+pub inserted-keeps : (places : List ℕ) (at place : ℕ) → All (Contains (insert places at place)) places
+inserted-keeps places at place = All-intro (Contains (insert places at place)) places (λ other within.
+    elim (Contains-append_cases (take at places) (drop at places) other (subst (λ (xs : List ℕ). Contains xs other) (sym (take-append-drop at places)) within)) [
+      | inl before ↦ Contains-append_left (take at places) (place ∷ drop at places) other before
+      | inr behind ↦ Contains-append_right (take at places) (place ∷ drop at places) other (Contains-rest place (drop at places) other behind)
+    ])
+
+-- the list of the name's number is that of the name
+pub entered-has : {E : Type 0} (r : Result (Unit {0}) E) (name : List ℕ) (new : List (List ℕ)) (es : List (Bor (List ℕ) × ℕ)) (at place : ℕ)
+    → OnOk r (Contains (get_or new at []) place) → number_of name es ≡ Some at → OnOk r (Contains (places_in (listed new es) name) place)
+entered-has (Ok done) name new es at place ok is = subst (λ places. Contains places place) (sym (places-at name new es at is)) ok
+entered-has (Err failed) name new es at place ok is = tt
 
 -- a list of its own that is added, with a number or without, leaves each other place where it was
 pub keeps-new : (lists new : List (List ℕ)) (es : List (Bor (List ℕ) × ℕ)) (list : List ℕ) → new ≡ lists ++ list ∷ []
@@ -181,30 +180,30 @@ within-both lists new es entered list e all is entered_is numbered =
     (omega (arith, count, numbered)))
 
 -- where each list has its gap closed, each name has
-pub closed-places : (f : ℕ → ℕ) (name : List ℕ) (lists new : List (List ℕ)) (es : List (Bor (List ℕ) × ℕ)) → new ≡ map (map f) lists
-    → places_in (listed new es) name ≡ map f (places_in (listed lists es) name)
-closed-places f name lists new es is =
+pub closed-places : (gone : ℕ) (name : List ℕ) (lists new : List (List ℕ)) (es : List (Bor (List ℕ) × ℕ)) → new ≡ map (places_left gone) lists
+    → places_in (listed new es) name ≡ places_left gone (places_in (listed lists es) name)
+closed-places gone name lists new es is =
     places-listed name new es ∙ ap (λ found. list_at found (number_of name es)) is ∙ by (number_of name es)
-    ∙ ap (map f) (sym (places-listed name lists es))
+    ∙ ap (places_left gone) (sym (places-listed name lists es))
   where
-    at : (o : Option (List ℕ)) → unwrap_or (option_map (map f) o) [] ≡ map f (unwrap_or o [])
+    at : (o : Option (List ℕ)) → unwrap_or (option_map (places_left gone) o) [] ≡ places_left gone (unwrap_or o [])
     at None = refl
     at (Some list) = refl
 
-    by : (o : Option ℕ) → list_at (map (map f) lists) o ≡ map f (list_at lists o)
+    by : (o : Option ℕ) → list_at (map (places_left gone) lists) o ≡ places_left gone (list_at lists o)
     by None = refl
-    by (Some number) = ap (λ found. unwrap_or found []) (slice_get-map (map f) lists number) ∙ at (slice_get lists number)
+    by (Some number) = ap (λ found. unwrap_or found []) (slice_get-map (places_left gone) lists number) ∙ at (slice_get lists number)
 
 -- a list that is written over one of its length
-pub refilled : (items new : List (List ℕ)) (count : ℕ) → count ≡ length items → length new ≡ length items
+pub refilled : {X : Type 0} (items new : List X) (count : ℕ) → count ≡ length items → length new ≡ length items
     → take count (new ++ drop (length new) items) ≡ new
-refilled items new count counted same =
-    ap (λ n. take n (new ++ drop (length new) items)) (counted ∙ sym same) ∙ ap (λ rest. take (length new) (new ++ rest)) (none items same)
+refilled {X} items new count counted same =
+    ap (λ n. take n (new ++ drop (length new) items)) (counted ∙ sym same) ∙ ap (λ (rest : List X). take (length new) (new ++ rest)) (none items same)
     ∙ all new
   where
-    none : (items : List (List ℕ)) → length new ≡ length items → drop (length new) items ≡ []
+    none : (items : List X) → length new ≡ length items → drop (length new) items ≡ []
     none items same = drop_all (length new) items (omega (arith, same))
 
-    all : (xs : List (List ℕ)) → take (length xs) (xs ++ []) ≡ xs
+    all : (xs : List X) → take (length xs) (xs ++ []) ≡ xs
     all [] = refl
-    all (x ∷ xs) = ap (λ rest. x ∷ rest) (all xs)
+    all (x ∷ xs) = ap (λ (rest : List X). x ∷ rest) (all xs)

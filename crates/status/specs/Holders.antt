@@ -1,7 +1,7 @@
 -- Which records have or provide a name, and the places that are listed for it (Policy 7.5).
-use Rattle.std.specs.Prelude.{◌≡◌, ℕ, ◌-◌, Bool, true, false, List, [], map, nat_lt, Some, Contains, bytes_eq, slice_get, unwrap_or, if◌then◌else◌, ◌||◌}
+use Rattle.std.specs.Prelude.{◌≡◌, ℕ, ◌-◌, ◌<◌, ◌==◌, Bool, true, false, not, List, [], map, nat_lt, Some, Contains, bytes_eq, slice_get, slice_index_or, unwrap_or, if◌then◌else◌, ◌||◌}
 use Rattle.std.specs.Borrow.{Bor}
-use Rattle.std.specs.List.{All, flat_map, list_any}
+use Rattle.std.specs.List.{All, AllPairs, filter, flat_map, list_any}
 use Rattle.std.specs.Map.{lookup}
 use Rattle.std.specs.Option.{option_map_or, option_to_list}
 use Rattle.rules.specs.Database.{Record, pkg_of}
@@ -27,6 +27,10 @@ AreListed places db = (name : List ℕ) (place : ℕ) (found : Record) → slice
 abbrev pub KeepsPlaces : (List ℕ → List ℕ) → (List ℕ → List ℕ) → Type 0
 KeepsPlaces old new = (name : List ℕ) (place : ℕ) → Contains (old name) place → Contains (new name) place
 
+-- each list keeps its places
+abbrev pub KeepsLists : List (List ℕ) → List (List ℕ) → Type 0
+KeepsLists old new = (number place : ℕ) → Contains (slice_index_or old number []) place → Contains (slice_index_or new number []) place
+
 -- the place is listed for the name and for each that is provided
 abbrev pub IsEntered : List ℕ → List Provided → ℕ → (List ℕ → List ℕ) → Type 0
 IsEntered own provides place places = (name : List ℕ)
@@ -43,6 +47,14 @@ IsPlaceOf name db place = is_named_at name db place ≡ true
 -- where a place is, once the record at another is gone
 abbrev pub moved_down : ℕ → ℕ → ℕ
 moved_down gone place = if nat_lt gone place then place - 1 else place
+
+-- the places that are left once the record at one is gone
+abbrev pub places_left : ℕ → List ℕ → List ℕ
+places_left gone places = map (moved_down gone) (filter (λ place. not (place == gone)) places)
+
+-- each place is below those behind it, so that none stands twice
+abbrev pub IsAscending : List ℕ → Type 0
+IsAscending places = AllPairs (λ earlier later. earlier < later) places
 
 -- the records at the places
 abbrev pub records_at : List Record → List ℕ → List Record

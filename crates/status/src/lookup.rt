@@ -68,7 +68,7 @@ fn place_among(records: &[StateRecord<'_, '_>], places: &[usize], name: &[u8]) -
 }
 
 impl<'p, 'a> Records<'p, 'a> {
-    /// These records. Memory alone can fail. Linear in the records and what they provide.
+    /// These records. Memory alone can fail. Linear in the records and what they provide, with a look-up for each.
     pub fn new(
         alloc: Global,
         records: Vec<StateRecord<'p, 'a>>,
@@ -174,8 +174,9 @@ impl<'p, 'a> Records<'p, 'a> {
     }
 
     /// Unpacks the package: its record takes the place of the one of its name, or comes last where there is none.
-    /// Linear in what it provides and in the records that have or provide its name. Memory alone can fail, and then
-    /// nothing is changed.
+    /// Linear in what it provides and in the records that have or provide its name; for a name that this record is the
+    /// first time listed for, in the records that are listed for that name. Memory alone can fail, and then nothing is
+    /// changed.
     pub fn unpack(&mut self, listed: &'p IndexPackage<'a>) -> Result<(), AllocError>
         requires { HasDistinctNames self.old }
         ensures ok { OnOk result (self.new ≡ after_unpack listed.now self.old) }
@@ -187,7 +188,7 @@ impl<'p, 'a> Records<'p, 'a> {
         }
     }
 
-    /// Purges the name: its record is gone. Linear in the records and in what they provide.
+    /// Purges the name: its record is gone. Linear in the records and in what they provide or provided.
     pub fn purge(&mut self, name: &[u8])
         requires { HasDistinctNames self.old }
         ensures { self.new ≡ filter (λ found. not (is_named name.now found)) self.old }

@@ -1,11 +1,12 @@
-//! A list of places.
-ghost use Rattle.std.specs.Prelude.{◌≡◌, ◌++◌, ◌∷◌, [], map, IfOk, OnErr, OnOk};
-ghost use Rattle.status.specs.Holders.{moved_down};
+//! A list of places, each of which stands there once.
+ghost use Rattle.std.specs.Prelude.{◌≡◌, ◌∷◌, [], map, Contains, IfOk, OnOk};
+ghost use Rattle.std.specs.List.{All};
+ghost use Rattle.status.specs.Holders.{moved_down, places_left};
 
 use std::alloc::{AllocError, Global};
 use std::marker::Model;
 
-/// Places in a list of records, counted from 0.
+/// Places in a list of records, counted from 0. They ascend, so one is found by halving.
 #[derive(Drop)]
 pub struct PlaceList {
     places: Vec<usize>,
@@ -13,10 +14,13 @@ pub struct PlaceList {
 
 impl Model for PlaceList {
     ghost use Rattle.std.specs.Prelude.{ℕ, List};
+    ghost use Rattle.status.specs.Holders.{IsAscending};
 
     ghost Value = { List ℕ };
 
     ghost view = { λ l. l.places.items };
+
+    ghost invariant = { λ l. IsAscending l.places.items };
 }
 
 // The places behind the one that is gone move down.
@@ -47,19 +51,26 @@ impl PlaceList {
         self.places.as_slice()
     }
 
-    /// Puts a place behind the others. Memory alone can fail, and then all stays as it was.
-    pub fn push(&mut self, place: usize) -> Result<(), AllocError>
-        ensures ok { OnOk result (self.new ≡ self.old ++ place ∷ []) }
-        ensures err { OnErr result (self.new ≡ self.old) }
+    /// Puts the place among the others in their order, unless it's one of them: it's looked for by halving, and the
+    /// places behind it move up. Memory alone can fail, and then all stays as it was.
+    pub fn enter(&mut self, place: usize) -> Result<(), AllocError>
+        ensures kept { All (Contains self.new) self.old }
+        ensures entered { OnOk result (Contains self.new place) }
     {
-        self.places.push(place)?;
-        Ok(())
+        match self.places.as_slice().binary_search(&place) {
+            Ok(_) => Ok(()),
+            Err(at) => {
+                self.places.insert(at, place)?;
+                Ok(())
+            }
+        }
     }
 
-    /// Moves the places behind the one that is gone down by one. Linear in them.
+    /// Takes out the place that is gone, and moves those behind it down by one. Linear in the places.
     pub fn close_gap(&mut self, gone: usize)
-        ensures { self.new ≡ map (moved_down gone) self.old }
+        ensures { self.new ≡ places_left gone self.old }
     {
+        self.places.retain(|place| *place != gone);
         move_down(self.places.as_mut_slice(), gone);
     }
 }

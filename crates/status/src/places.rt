@@ -1,7 +1,7 @@
 //! The places of records, by the names that they have or provide.
-ghost use Rattle.std.specs.Prelude.{◌≡◌, ◌<◌, ◌++◌, ◌∷◌, [], ℕ, List, true, length, map, slice_get, unwrap_or, slice_set, Contains, OnErr, OnOk};
+ghost use Rattle.std.specs.Prelude.{◌≡◌, ◌<◌, [], ℕ, List, true, length, map, slice_index_or, Contains, OnOk};
 ghost use Rattle.index.specs.Providers.{is_item_of};
-ghost use Rattle.status.specs.Holders.{IsEntered, KeepsPlaces, moved_down, places_in};
+ghost use Rattle.status.specs.Holders.{IsEntered, KeepsLists, KeepsPlaces, places_in, places_left};
 
 use crate::place_list::PlaceList;
 use indexmap::IndexMap;
@@ -30,24 +30,23 @@ impl<'a> Model for Places<'a> {
     ghost invariant = { λ p. All (λ number. number < length p.lists.items) (values p.numbers) };
 }
 
-// The places behind the one that is gone move down.
+// The place that is gone is taken out of each list, and those behind it move down.
 fn close_gaps(lists: &mut [PlaceList], gone: usize)
-    ensures { lists.new ≡ map (map (moved_down gone)) lists.old }
+    ensures { lists.new ≡ map (places_left gone) lists.old }
 {
     for list in lists.iter_mut() {
         list.close_gap(gone);
     }
 }
 
-// Puts the place behind the others of the list of this number.
-fn push_to(lists: &mut Vec<PlaceList>, number: usize, place: usize) -> Result<(), AllocError>
+// Enters the place in the list of this number.
+fn enter_in(lists: &mut Vec<PlaceList>, number: usize, place: usize) -> Result<(), AllocError>
     requires { number < length lists.old.items }
-    ensures ok { OnOk result (lists.new.items
-        ≡ slice_set lists.old.items number (unwrap_or (slice_get lists.old.items number) [] ++ place ∷ [])) }
-    ensures err { OnErr result (lists.new.items ≡ lists.old.items) }
+    ensures kept { KeepsLists lists.old.items lists.new.items }
+    ensures entered { OnOk result (Contains (slice_index_or lists.new.items number []) place) }
     ensures len { length lists.new.items ≡ length lists.old.items }
 {
-    lists[number].push(place)?;
+    lists[number].enter(place)?;
     Ok(())
 }
 
@@ -77,7 +76,7 @@ impl<'a> Places<'a> {
         ensures added { OnOk result (Contains (places_in self.new name.now) place) }
     {
         match self.numbers.get(name).copied() {
-            Some(number) => push_to(&mut self.lists, number, place),
+            Some(number) => enter_in(&mut self.lists, number, place),
             None => {
                 let number = self.lists.len();
                 self.lists.push(PlaceList::of(self.alloc, place)?)?;
@@ -99,7 +98,8 @@ impl<'a> Places<'a> {
         }
     }
 
-    /// Enters the place for the name and for what is provided. Memory alone can fail; places that were entered stay.
+    /// Enters the place for the name and for what is provided. It stands once in the list of a name, however many items
+    /// are of that name. Memory alone can fail; places that were entered stay.
     pub fn enter(
         &mut self,
         name: &'a [u8],
@@ -116,9 +116,9 @@ impl<'a> Places<'a> {
         Ok(())
     }
 
-    /// Moves the places behind the one that is gone down by one. Linear in the places.
+    /// Takes out the place that is gone, and moves those behind it down by one. Linear in the places.
     pub fn close_gap(&mut self, gone: usize)
-        ensures { (name : List ℕ) → places_in self.new name ≡ map (moved_down gone) (places_in self.old name) }
+        ensures { (name : List ℕ) → places_in self.new name ≡ places_left gone (places_in self.old name) }
     {
         close_gaps(self.lists.as_mut_slice(), gone);
     }

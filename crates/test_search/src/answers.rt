@@ -46,6 +46,9 @@ const ROWS: &str = "\
 4 5, 1 3 -2, 2 6, -6, -3→→→→0→set 1 2 4→a clause that a later one leaves to its first literal
 1, -1 2, -2 -1→→→→0→refuted 3 1→clauses without a choice never reach the limit
 5, -5 4, -4 3, -3 2, -2 1, -1→→→→0→refuted 6 1→a chain backwards
+1 1, -1 -1→→→→0→refuted 2 1→a number that stands in a clause twice leaves no choice
+2, -2 -2 -2 1 1, -1 -3, 3 3→→→→0→refuted 4 1→units of clauses in which literals stand twice
+2 2, -2 -2 1 3→→→→0→set 1 2→a choice behind a literal that stands twice
 ";
 
 // Whether a list of numbers is the one that the words spell.

@@ -22,7 +22,7 @@ fn take(
     let open = open_in(alloc, clause, false_ones)?;
     match open.as_slice() {
         [] => Ok((true, true)),
-        [only] => {
+        [only, others @ ..] if others.iter().all(|other| *other == *only) => {
             false_ones.push(only.wrapping_neg())?;
             Ok((true, false))
         }

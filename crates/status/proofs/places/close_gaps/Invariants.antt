@@ -1,10 +1,10 @@
 -- The lists before the index have their gaps closed, and the others are as they were.
-use Rattle.std.proofs.Common.{◌≡◌, ℕ, ◌<◌, ◌≤◌, [], map, get_or}
-use Rattle.status.specs.Holders.{moved_down}
+use Rattle.std.proofs.Common.{◌≡◌, ℕ, ◌<◌, ◌≤◌, [], get_or}
+use Rattle.status.specs.Holders.{places_left}
 use Rattle.status.proofs.places.close_gaps.Given as goal
 
 abbrev pub invariant-loop-list : goal.invariant-loop-list
 invariant-loop-list l = record {
-  below : (k : ℕ) → k < l.list-index → get_or l.lists k [] ≡ map (moved_down l.gone) (get_or l.initial.lists k []);
+  below : (k : ℕ) → k < l.list-index → get_or l.lists k [] ≡ places_left l.gone (get_or l.initial.lists k []);
   above : (k : ℕ) → l.list-index ≤ k → get_or l.lists k [] ≡ get_or l.initial.lists k [];
 }

@@ -1,8 +1,8 @@
--- What is put behind a list, or is a list of its own, leaves each other place where it was.
+-- What is entered in a list, or is a list of its own, leaves each other place where it was.
 use Rattle.std.proofs.Common.{◌≡◌, ◌∙◌, None, Contains, refl, subst, sym}
 use Rattle.indexmap.proofs.CallerLemmas.{insert_entry-new}
 use Rattle.status.specs.Holders.{listed, places_in}
-use Rattle.status.proofs.PlaceLemmas.{both-has, keeps-both, keeps-new, number-within, number_of, pushed-has, pushed-keeps, within-both}
+use Rattle.status.proofs.PlaceLemmas.{both-has, entered-has, keeps-both, keeps-lists, keeps-new, number_of, within-both}
 use Rattle.status.proofs.places.Places.add.Goals as goal
 
 pub returns-in_err-insert-in-None-clause-kept : goal.returns-in_err-insert-in-None-clause-kept
@@ -14,16 +14,14 @@ returns-in_err-insert-in-None-clause-kept c name place within =
 
 pub returns-in-Some-clause-kept : goal.returns-in-Some-clause-kept
 returns-in-Some-clause-kept c name place within =
-    pushed-keeps c.push_to.result c.self.inside.lists.items c.push_to.new.lists.items c.self.inside.numbers.entries c.in-Some.number
-    c.args.place c.push_to.ensures.ok c.push_to.ensures.err name place
+    keeps-lists c.self.inside.lists.items c.enter_in.new.lists.items c.self.inside.numbers.entries c.enter_in.ensures.kept name place
     (subst (λ table. Contains (places_in table name) place) (sym c.self.view_is) within)
 
 pub returns-in-Some-clause-added : goal.returns-in-Some-clause-added
 returns-in-Some-clause-added c =
     let copied = sym c.copied.ensures ∙ c.in-Some.is in
-    pushed-has c.push_to.result c.args.name.now c.self.inside.lists.items c.push_to.new.lists.items c.self.inside.numbers.entries
-    c.in-Some.number c.args.place c.push_to.ensures.ok (sym c.get.ensures.value ∙ copied)
-    (number-within c.get.result _ _ c.in-Some.number c.self.invariant c.get.ensures.member copied)
+    entered-has c.enter_in.result c.args.name.now c.enter_in.new.lists.items c.self.inside.numbers.entries c.in-Some.number c.args.place
+    c.enter_in.ensures.entered (sym c.get.ensures.value ∙ copied)
 
 pub invariant_of-self-in-None : goal.invariant_of-self-in-None
 invariant_of-self-in-None c =
