@@ -1,16 +1,15 @@
 -- What is found among the offers of packages, in order: who matches, and how many versions are looked among.
-use Rattle.std.proofs.Common.{◌≡◌, ◌↔◌, ℕ, ◌+◌, ◌≤◌, Bool, true, false, List, [], ◌∷◌, ◌++◌, None, Bor, Contains, Result, Ok, Err, IfOk, length, map, take, get_or, is_some, refl, sym, ap, subst, ◌∙◌, arith}
+use Rattle.std.proofs.Common.{◌≡◌, ◌↔◌, ℕ, ◌≤◌, false, List, Contains, Result, Ok, Err, IfOk, length, map, is_some, refl, sym, ap, subst, ◌∙◌}
 use Rattle.std.specs.List.{filter}
 use Rattle.std.specs.List.Sorted.{IsStrictlyIncreasing, IsStrictlySortedBy}
 use Rattle.std.specs.Ordering.{nat_cmp}
 use Rattle.std.proofs.lemmas.Cmp.{nat_cmp_total}
-use Rattle.std.proofs.lemmas.List.{take_more}
 use Rattle.std.proofs.lemmas.Map.Keys.{sorted_from_strictly_increasing}
 use Rattle.index.proofs.ProviderLemmas.{providers-ascend, providers-match}
 use Rattle.index.specs.Providers.{IsProviderAt, plain_atom, providers_of}
 use Rattle.rules.proofs.Rising.{AllPairs-rising, same_rising}
 use Rattle.rules.specs.Package.{Atom, Pkg}
-use Rattle.providers.proofs.OfferLemmas.{places_fitting, places_match}
+use Rattle.providers.proofs.OfferLemmas.{places_match}
 use Rattle.providers.proofs.RunLemmas.{IsRun-of_name, all_meet, fitting_is, versioned_fewer}
 use Rattle.providers.specs.Matching.{IsMatchAt, fits, meets}
 use Rattle.providers.specs.Offers.{AreOrdered, Offer, is_offer_of, offer_cmp, offers_of, versioned_of}

@@ -4,4 +4,5 @@ pub mod OrderLemmas
 pub mod OfferLemmas
 pub mod RunLemmas
 pub mod DraftLemmas
+pub mod SpanLemmas
 pub mod FoundLemmas

@@ -1,5 +1,5 @@
 -- What packages of a list offer: one package more, and whose the offers that fit an atom are.
-use Rattle.std.proofs.Common.{◌≡◌, ◌↔◌, ℕ, zero, suc, ◌+◌, Bool, true, false, ◌&&◌, ◌⊎◌, List, [], ◌∷◌, ◌++◌, Option, Some, None, length, map, Contains, slice_get, IsTrue, refl, sym, ap, subst, ◌∙◌, arith, append_assoc, inl, inr, bytes_eq}
+use Rattle.std.proofs.Common.{◌≡◌, ◌↔◌, ℕ, zero, suc, ◌+◌, Bool, true, false, ◌&&◌, ◌⊎◌, List, [], ◌∷◌, ◌++◌, Option, Some, None, length, map, Contains, slice_get, refl, sym, ap, subst, ◌∙◌, arith, append_assoc, inl, inr, bytes_eq}
 use Rattle.std.specs.List.{Any, filter, flat_map}
 use Rattle.std.proofs.lemmas.Bool.{cases_Bool}
 use Rattle.std.proofs.lemmas.List.{append-nil}
@@ -8,8 +8,8 @@ use Rattle.rules.specs.ElementLaws.{Any-elim, Any-intro, Contains-cons, Contains
 use Rattle.rules.specs.NamedLaws.{bytes_eq-same, bytes_eq-true}
 use Rattle.rules.specs.Package.{Atom, FitsByName, FitsByProvides, FitsProvided, Matches, Meets, MeetsAsProvided, Pkg, Provided}
 use Rattle.rules.specs.declared.goal.Restriction.{Restriction}
-use Rattle.providers.specs.Matching.{IsMatchAt, fits, is_meeting, meets}
-use Rattle.providers.specs.Offers.{Offer, is_offer_of, offers_at, offers_by, offers_from, offers_of, own_offer, provided_offer}
+use Rattle.providers.specs.Matching.{IsMatchAt, fits, is_meeting}
+use Rattle.providers.specs.Offers.{Offer, offers_at, offers_by, offers_from, offers_of, own_offer, provided_offer}
 
 -- One package more
 
@@ -134,7 +134,7 @@ pkg_from atom place pkg (inr some) = Any-elim (λ item. FitsProvided item atom) 
     (λ item there holds. (
       provided_offer place item,
       Contains-rest (own_offer place pkg) (flat_map (offers_by place) pkg.relations.provides) (provided_offer place item)
-        (of_item place pkg.relations.provides item there holds.0),
+          (of_item place pkg.relations.provides item there holds.0),
       rw (bytes_eq-same item.name atom.name holds.1) (passes_met item.version atom.restriction holds.2),
       refl,
     )) some

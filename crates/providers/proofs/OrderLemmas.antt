@@ -1,7 +1,7 @@
 -- Offers that are sorted and freed of repetitions: the same ones, and no more than there were.
-use Rattle.std.proofs.Common.{◌≡◌, ℕ, ◌+◌, ◌≤◌, Bool, true, false, cond, List, [], ◌∷◌, Option, Some, None, length, eqb, ltb, refl, sym, ap, subst, ◌∙◌, arith}
+use Rattle.std.proofs.Common.{◌≡◌, ℕ, ◌≤◌, Bool, true, false, cond, List, [], ◌∷◌, Option, Some, None, length, eqb, ltb, refl, sym, ap, subst, ◌∙◌, arith}
 use Rattle.std.specs.Cmp.{eq_by_cmp_equiv}
-use Rattle.std.specs.List.{dedup, dedup_from, filter, sum_by}
+use Rattle.std.specs.List.{dedup, dedup_from, filter}
 use Rattle.std.specs.List.Sorted.{IsPermutation, IsSorted}
 use Rattle.std.specs.Option.{option_cmp}
 use Rattle.std.specs.Ordering.{eq_by_cmp, is_eq, nat_cmp, ordering_then}
@@ -50,10 +50,10 @@ offered name version place = record { name = name; version = version; place = pl
 same_offer : (a b : Offer) → eq_by_cmp offer_cmp a b ≡ true → a ≡ b
 same_offer a b tied =
     let by_name = tied_then (name_cmp a.name b.name)
-        (ordering_then (option_cmp version_cmp a.version b.version)
-        (ordering_then (nat_cmp a.place b.place) (option_cmp name_cmp a.version b.version))) tied in
+    (ordering_then (option_cmp version_cmp a.version b.version)
+    (ordering_then (nat_cmp a.place b.place) (option_cmp name_cmp a.version b.version))) tied in
     let by_version = tied_then (option_cmp version_cmp a.version b.version)
-        (ordering_then (nat_cmp a.place b.place) (option_cmp name_cmp a.version b.version)) by_name.1 in
+    (ordering_then (nat_cmp a.place b.place) (option_cmp name_cmp a.version b.version)) by_name.1 in
     let by_place = tied_then (nat_cmp a.place b.place) (option_cmp name_cmp a.version b.version) by_version.1 in
     let name : a.name ≡ b.name = text_tied a.name b.name by_name.0 in
     let place : a.place ≡ b.place = nat_tied a.place b.place by_place.0 in

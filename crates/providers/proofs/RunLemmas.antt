@@ -1,14 +1,13 @@
 -- The offers of a name among offers in order, those of them that have a version, and the range that meets a restriction.
-use Rattle.std.proofs.Common.{◌≡◌, ℕ, ◌+◌, ◌<◌, ◌≤◌, ◌^◌, Bool, true, false, not, ◌&&◌, ◌⊎◌, List, [], ◌∷◌, Option, Some, None, length, get_or, is_some, refl, sym, ap, subst, ◌∙◌, arith, bytes_eq}
+use Rattle.std.proofs.Common.{◌≡◌, ℕ, ◌≤◌, Bool, true, false, not, ◌&&◌, ◌⊎◌, List, [], ◌∷◌, Option, Some, None, length, get_or, is_some, refl, sym, ap, subst, ◌∙◌, arith}
 use Rattle.std.specs.Cmp.{Equal-is}
 use Rattle.std.specs.Cmp.Lexicographic.{nat_list_cmp_total, options_total}
-use Rattle.std.specs.List.{All, AllPairs, filter}
+use Rattle.std.specs.List.{All, filter}
 use Rattle.std.specs.List.Sorted.{IsPartitionedBy, IsStrictlySortedBy}
 use Rattle.std.specs.Option.{option_cmp}
-use Rattle.std.specs.Ordering.{is_eq, is_ge, is_gt, is_le, is_lt, nat_cmp, ordering_then}
+use Rattle.std.specs.Ordering.{is_eq, is_le, is_lt, nat_cmp, ordering_then}
 use Rattle.std.specs.declared.cmp.Ordering.{Ordering}
 use Rattle.std.specs.declared.cmp.Ordering.TheVariants.{Less, Equal, Greater}
-use Rattle.std.proofs.lemmas.Bool.{cases_Bool}
 use Rattle.std.proofs.lemmas.List.Elements.{filter_passes}
 use Rattle.std.proofs.lemmas.List.Kept.{AllPairs-filter, IsStrictlySortedBy-filter}
 use Rattle.std.proofs.lemmas.Map.Text.{is_eq-slice_cmp}
@@ -56,7 +55,7 @@ pub run_is : (name : List ℕ) (offers : List Offer)
 run_is name offers =
     filter_twice (λ (offer : Offer). is_le (name_cmp offer.name name)) (λ (offer : Offer). not (is_lt (name_cmp offer.name name))) offers
     ∙ filter_alike (λ (offer : Offer). is_le (name_cmp offer.name name) && not (is_lt (name_cmp offer.name name))) (is_offer_of name)
-        (λ offer. tied (name_cmp offer.name name) ∙ is_eq-slice_cmp offer.name name) offers
+    (λ offer. tied (name_cmp offer.name name) ∙ is_eq-slice_cmp offer.name name) offers
   where
     tied : (o : Ordering) → (is_le o && not (is_lt o)) ≡ is_eq o
     tied Less = refl
@@ -154,9 +153,9 @@ range_is restriction offers =
     ap (filter (offered_late_enough restriction.op restriction.version))
     (filter_twice (λ (offer : Offer). is_some offer.version) (offered_early_enough restriction.op restriction.version) offers)
     ∙ filter_twice (λ (offer : Offer). is_some offer.version && offered_early_enough restriction.op restriction.version offer)
-        (offered_late_enough restriction.op restriction.version) offers
+    (offered_late_enough restriction.op restriction.version) offers
     ∙ filter_alike (λ (offer : Offer). (is_some offer.version && offered_early_enough restriction.op restriction.version offer)
-        && offered_late_enough restriction.op restriction.version offer) (meets (Some restriction)) (λ offer. in_range restriction offer.version) offers
+    && offered_late_enough restriction.op restriction.version offer) (meets (Some restriction)) (λ offer. in_range restriction offer.version) offers
 
 -- what meets no restriction is all
 pub all_meet : (offers : List Offer) → filter (meets None) offers ≡ offers
@@ -184,5 +183,5 @@ pub versioned_fewer : (name : List ℕ) (packages : List Pkg) (ordered : List Of
     → length (filter (λ offer. is_some offer.version) (filter (is_offer_of name) ordered)) ≤ length (versioned_of name packages)
 versioned_fewer name packages ordered are =
     let twice : length (filter (λ (offer : Offer). is_some offer.version) (filter (is_offer_of name) ordered)) ≡ length (filter (is_versioned_of name) ordered)
-        = ap length (filter_twice (is_offer_of name) (λ (offer : Offer). is_some offer.version) ordered) in
+    = ap length (filter_twice (is_offer_of name) (λ (offer : Offer). is_some offer.version) ordered) in
     omega (arith, twice, are.fewer (is_versioned_of name))

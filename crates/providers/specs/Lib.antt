@@ -2,3 +2,4 @@ pub mod Offers
 pub mod OfferLaws
 pub mod Matching
 pub mod Range
+pub mod Spans

@@ -1,6 +1,6 @@
 -- What the packages of a list offer: names, each in a version or in none, and the places of the packages, counted from 0
 -- (Policy 7.1 and 7.5). A package offers its own name in its own version, and each item of Provides that isn't foreign.
-use Rattle.std.specs.Prelude.{ℕ, Bool, ◌+◌, ◌&&◌, ◌↔◌, List, [], ◌∷◌, ◌++◌, Option, Some, None, bytes_eq, is_some, length, ◌≤◌, if◌then◌else◌}
+use Rattle.std.specs.Prelude.{ℕ, Bool, ◌+◌, ◌&&◌, ◌↔◌, List, [], ◌∷◌, ◌++◌, Option, Some, bytes_eq, is_some, length, ◌≤◌, if◌then◌else◌}
 use Rattle.std.specs.List.{Contains, filter, flat_map}
 use Rattle.std.specs.List.Sorted.{IsStrictlySortedBy}
 use Rattle.std.specs.Option.{option_cmp}

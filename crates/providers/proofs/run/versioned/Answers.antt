@@ -18,4 +18,4 @@ returns c =
     (c.partition_point-start.ensures.partitioned none (always_returns_same _ _ _ (λ a r f k. search rules))
     (parted_unversioned c.args.run.now c.requires))
     ∙ filter_alike (λ (offer : Offer). not (not (is_some offer.version))) (λ (offer : Offer). is_some offer.version)
-        (λ offer. not_not (is_some offer.version)) c.args.run.now
+    (λ offer. not_not (is_some offer.version)) c.args.run.now
