@@ -1,0 +1,16 @@
+-- What follows the point at which offers are no longer before the name.
+use Rattle.std.proofs.Common.{rules}
+use Rattle.std.proofs.lemmas.Fn.{always_returns_same}
+use Rattle.std.specs.Ordering.{is_lt}
+use Rattle.rules.specs.Name.{name_cmp}
+use Rattle.providers.specs.Offers.{Offer}
+use Rattle.providers.proofs.CutLemmas.{back_passes}
+use Rattle.providers.proofs.RunLemmas.{parted_before}
+use Rattle.providers.proofs.spans.start_of.Goals as goal
+
+pub returns-clause-back : goal.returns-clause-back
+returns-clause-back c =
+    let before = λ (offer : Offer). is_lt (name_cmp offer.name c.args.name.now) in
+    back_passes before c.args.offers.now c.partition_point.result
+    (c.partition_point.ensures.partitioned before (always_returns_same _ _ _ (λ a r f k. search rules))
+    (parted_before c.args.offers.now c.args.name.now c.requires))

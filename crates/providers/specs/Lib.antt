@@ -1,0 +1,5 @@
+pub mod Offers
+pub mod OfferLaws
+pub mod Matching
+pub mod Range
+pub mod Spans
