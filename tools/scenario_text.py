@@ -66,13 +66,12 @@ class Wanted:
 
 @dataclass
 class Command:
-    """A command: the number of its line, its kind with the words behind that, its block, the text of its plan or refutation,
-    what is wanted of it, and what is said behind that, by the words that it begins with."""
+    """A command: the number of its line, its kind with the words behind that, the text of its plan or refutation, what is
+    wanted of it, and what is said behind that, by the words that it begins with."""
 
     line: int
     kind: str
     rest: str
-    block: list = field(default_factory=list)
     text: bytes = None
     wanted: Wanted = None
     behind: dict = field(default_factory=dict)
@@ -296,7 +295,7 @@ def add_command(scenario, item):
     """Adds a command. Its faults go into the scenario."""
     if not re.fullmatch(COMMANDS[item.word], item.rest):
         scenario.faults.append((item.line, "other words than the command takes"))
-    command = Command(item.line, item.word, item.rest, item.block)
+    command = Command(item.line, item.word, item.rest)
     if item.word in HEADS and (item.block or item.word != "run"):
         command.text = text_of(scenario, item.block, plain_line, HEADS[item.word])
     elif item.block:
