@@ -174,7 +174,7 @@ def whole_line(line):
 
 def escaped(rest):
     """The byte of an escape, and what stands behind it in the line."""
-    need(rest not in (b"", b"x"), "an escape that isn't ended")
+    need(rest, "an escape that isn't ended")
     if rest[:1] != b"x":
         need(rest[:1] in (b"\\", b"t"), "an unknown escape")
         return (b"\t" if rest[:1] == b"t" else b"\\"), rest[1:]
