@@ -1,5 +1,5 @@
 #!/usr/bin/env python3
-"""apt_candidates.py FILE..: asks `apt-cache policy` for the candidates in files of scenarios (crates/scenarios/data)
+"""apt_candidates.py FILE..: asks `apt-cache policy` for the candidates in files of scenarios (scenarios/*.txt)
 whose `candidate` says how apt answers, and compares its answers with these: `apt agrees` is debplan's own answer, and
 another answer names the decision in docs/DECISIONS.md that says why. Other commands are passed over. It prints each
 difference and the counts, and exits with 1 where there is one. apt reads files of a temporary folder alone, and
@@ -11,7 +11,7 @@ import subprocess
 import sys
 import tempfile
 
-from scenarios import decisions, scenarios_in
+from scenarios import commands_in, texts_of
 
 # The keys that apt reads in a Release file, and those that it takes from the address of an index.
 RELEASE_FIELDS = ("Suite", "Codename", "Version", "Origin", "Label", "NotAutomatic", "ButAutomaticUpgrades")
@@ -68,8 +68,8 @@ def add_files(root, scenario):
     """Writes what apt reads: its configuration, the status file, the preferences and the lists of the indices."""
     for folder in FOLDERS:
         os.makedirs(os.path.join(root, folder))
-    texts = scenario.texts
-    write(root, "apt.conf", CONFIGURATION.format(root=root, target=scenario.options["target"]))
+    texts = texts_of(scenario)
+    write(root, "apt.conf", CONFIGURATION.format(root=root, target=scenario.options.get("target", "")))
     write(root, "status", texts["status"])
     write(root, "etc/preferences", texts.get("preferences", ""))
     stanzas = [fields_of(stanza) for stanza in texts["sources"].split("\n\n") if stanza]
@@ -93,15 +93,10 @@ def answer_in(name, printed):
     return f"{name} {candidate} {' or '.join(priorities)}"
 
 
-def asked_in(scenarios):
-    """The commands that say how apt answers, each with its scenario."""
-    return [(scenario, command) for scenario in scenarios for command in scenario.commands if "apt" in command.behind]
-
-
 def wanted_of(command):
     """apt's answer, as the command says it."""
-    answer = command.behind["apt"]
-    return command.behind["wants"].partition(" ")[2] if answer == "agrees" else answer
+    answer = command.said("apt")
+    return command.answer().rstrip("\n") if answer == "agrees" else answer
 
 
 def ask_apt(scenario, name):
@@ -120,16 +115,14 @@ def ask_apt(scenario, name):
 def main():
     if len(sys.argv) < 2:
         sys.exit("usage: apt_candidates.py FILE..")
-    asked = asked_in(scenarios_in(sys.argv[1:]))
-    known = decisions()
+    asked = commands_in(sys.argv[1:], "apt")
     differences = 0
-    for scenario, command in asked:
-        answer = ask_apt(scenario, command.words.partition(" ")[2])
-        is_known = command.behind.get("decision") in known
-        if answer != wanted_of(command) or not is_known:
+    for place, scenario, command in asked:
+        answer = ask_apt(scenario, command.rest)
+        if answer != wanted_of(command):
             differences += 1
-            print(f"{command.place}: {scenario.heading}")
-            print(f"    apt: {answer}{'' if is_known else ', and no such decision'}")
+            print(f"{place}: {scenario.heading}")
+            print(f"    apt: {answer}")
     print(f"apt {len(asked)} candidates, {differences} differences")
     sys.exit(1 if differences or not asked else 0)
 

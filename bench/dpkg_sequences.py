@@ -1,17 +1,16 @@
 #!/usr/bin/env python3
-"""dpkg_sequences.py FILE..: has dpkg carry out the steps of the plans in files of scenarios (crates/scenarios/data)
+"""dpkg_sequences.py FILE..: has dpkg carry out the steps of the plans in files of scenarios (scenarios/*.txt)
 whose `check-plan` says how dpkg answers, and compares its answers with these. Of a scenario it reads the status file,
-the indices, and of the command the steps, dpkg's answer, what dpkg leaves, and the decision in docs/DECISIONS.md that
-it names. Other commands are passed over. It prints each difference and the counts, and exits with 1 where there is
-one. dpkg works in a temporary folder alone, on packages that dpkg-deb makes of the indices there. It has to be run by
-root."""
+the indices, and of the command the steps, dpkg's answer and what dpkg leaves. Other commands are passed over. It prints
+each difference and the counts, and exits with 1 where there is one. dpkg works in a temporary folder alone, on packages
+that dpkg-deb makes of the indices there. It has to be run by root."""
 
 import os
 import subprocess
 import sys
 import tempfile
 
-from scenarios import decisions, scenarios_in
+from scenarios import commands_in, texts_of
 
 FOLDERS = ("info", "updates", "triggers")
 ENVIRONMENT = {"PATH": "/usr/sbin:/usr/bin:/sbin:/bin", "LC_ALL": "C"}
@@ -114,37 +113,30 @@ def left_in(root):
     return ", ".join(left) or "nothing"
 
 
-def asked_in(scenarios):
-    """The commands that say how dpkg answers, each with its scenario."""
-    return [(scenario, command) for scenario in scenarios for command in scenario.commands if "dpkg" in command.behind]
-
-
 def ask_dpkg(scenario, command):
     """dpkg's answer to the steps of a command, and what it leaves."""
     with tempfile.TemporaryDirectory() as folder:
         root = os.path.join(folder, "root")
-        add_start(root, scenario.texts["status"])
-        for index in scenario.index_texts():
-            for fields in stanzas_in(index):
+        texts = texts_of(scenario)
+        add_start(root, texts["status"])
+        for name in scenario.index_names():
+            for fields in stanzas_in(texts[name]):
                 add_package(folder, fields)
-        answer = answer_to(root, folder, command.block)
+        answer = answer_to(root, folder, command.text.decode().splitlines()[1:])
         return [answer, left_in(root)]
 
 
 def main():
     if len(sys.argv) < 2:
         sys.exit("usage: dpkg_sequences.py FILE..")
-    asked = asked_in(scenarios_in(sys.argv[1:]))
-    known = decisions()
+    asked = commands_in(sys.argv[1:], "dpkg")
     differences = 0
-    for scenario, command in asked:
+    for place, scenario, command in asked:
         answer = ask_dpkg(scenario, command)
-        behind = command.behind
-        is_known = behind.get("decision") in known
-        if answer != [behind["dpkg"], behind.get("dpkg leaves")] or not is_known:
+        if answer != [command.said("dpkg"), command.said("dpkg leaves")]:
             differences += 1
-            print(f"{command.place}: {scenario.heading}")
-            print(f"    dpkg: {'; '.join(answer)}{'' if is_known else ', and no such decision'}")
+            print(f"{place}: {scenario.heading}")
+            print(f"    dpkg: {'; '.join(answer)}")
     print(f"dpkg {len(asked)} plans, {differences} differences")
     sys.exit(1 if differences or not asked else 0)
 

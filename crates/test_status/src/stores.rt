@@ -129,6 +129,55 @@ fn steps_leave_these_texts_which_are_read_again(rt: HostRuntime) -> Result<(), F
     Ok(())
 }
 
+// The same of plans that dpkg carried out (`bench/dpkg_sequences.py`), with each kind of step on each kind of record from
+// which a scenario takes it. The states, versions and config versions are those that dpkg left; where a step isn't
+// applicable, dpkg left all as it was.
+const LEFT_BY_DPKG: &str = "\
+Package: a$Status: install ok unpacked$Version: 1$Architecture: all$$→Package: a$Status: install ok unpacked$Version: 2$Architecture: all$$→unpack a 2$→Package: a$Version: 2$Architecture: all$
+Package: a$Status: install ok unpacked$Version: 2$Architecture: all$Config-Version: 1$$→Package: a$Status: install ok unpacked$Version: 3$Config-Version: 1$Architecture: all$$→unpack a 3$→Package: a$Version: 3$Architecture: all$
+Package: a$Status: install ok half-installed$Version: 1$Architecture: all$$→Package: a$Status: install ok unpacked$Version: 1$Architecture: all$$→unpack a 1$→Package: a$Version: 1$Architecture: all$
+Package: a$Status: install reinstreq installed$Version: 1$Architecture: all$$→Package: a$Status: install ok installed$Version: 1$Architecture: all$$→unpack a 1$→Package: a$Version: 1$Architecture: all$→configure a$→
+Package: a$Status: install reinstreq half-installed$Version: 1$Architecture: all$$→Package: a$Status: install ok installed$Version: 1$Architecture: all$$→unpack a 1$→Package: a$Version: 1$Architecture: all$→configure a$→
+Package: a$Status: deinstall ok config-files$Version: 1$Architecture: all$Config-Version: 1$Conffiles:$ /etc/a 0$→Package: a$Status: install ok installed$Version: 2$Architecture: all$Conffiles:$ /etc/a 0$$→unpack a 2$→Package: a$Version: 2$Architecture: all$→configure a$→
+Package: a$Status: install ok half-installed$Version: 2$Architecture: all$Config-Version: 1$$→Package: a$Status: install ok unpacked$Version: 3$Architecture: all$$→unpack a 3$→Package: a$Version: 3$Architecture: all$
+Package: a$Status: hold ok installed$Version: 1$Architecture: all$$→Package: a$Status: install ok unpacked$Version: 2$Config-Version: 1$Architecture: all$$→unpack a 2$→Package: a$Version: 2$Architecture: all$
+Package: a$Status: hold ok not-installed$Version: 1$Architecture: all$$→Package: a$Status: install ok unpacked$Version: 1$Architecture: all$$→unpack a 1$→Package: a$Version: 1$Architecture: all$
+Package: a$Status: hold ok unpacked$Version: 1$Architecture: all$$→Package: a$Status: install ok unpacked$Version: 1$Architecture: all$$→unpack a 1$→Package: a$Version: 1$Architecture: all$
+Package: a$Status: install ok half-configured$Version: 1$Architecture: all$Config-Version: 0$$→Package: a$Status: install ok installed$Version: 1$Architecture: all$$→configure a$→
+Package: a$Status: hold ok unpacked$Version: 1$Architecture: all$$→Package: a$Status: hold ok installed$Version: 1$Architecture: all$$→configure a$→
+Package: a$Status: deinstall ok unpacked$Version: 1$Architecture: all$$→Package: a$Status: deinstall ok installed$Version: 1$Architecture: all$$→configure a$→
+Package: p$Status: install ok installed$Version: 1$Architecture: all$$Package: q$Status: install ok installed$Version: 1$Architecture: all$$→Package: p$Status: install ok installed$Version: 2$Architecture: all$Breaks: q (<< 2)$$Package: q$Status: install ok installed$Version: 2$Architecture: all$$→deconfigure q$→→unpack p 2$→Package: p$Version: 2$Architecture: all$Breaks: q (<< 2)$→unpack q 2$→Package: q$Version: 2$Architecture: all$→configure p$→→configure q$→
+Package: p$Status: install ok installed$Version: 1$Architecture: all$$Package: q$Status: hold ok installed$Version: 1$Architecture: all$$→Package: p$Status: install ok unpacked$Version: 2$Config-Version: 1$Architecture: all$Breaks: q (<< 2)$$Package: q$Status: hold ok half-configured$Version: 1$Config-Version: 1$Architecture: all$$→deconfigure q$→→unpack p 2$→Package: p$Version: 2$Architecture: all$Breaks: q (<< 2)$
+Package: p$Status: install ok installed$Version: 1$Architecture: all$$Package: q$Status: install ok installed$Version: 1$Architecture: all$Essential: yes$$→Package: p$Status: install ok installed$Version: 2$Architecture: all$Breaks: q (<< 2)$$Package: q$Status: install ok installed$Version: 2$Architecture: all$$→deconfigure q$→→unpack p 2$→Package: p$Version: 2$Architecture: all$Breaks: q (<< 2)$→unpack q 2$→Package: q$Version: 2$Architecture: all$→configure p$→→configure q$→
+→Package: b$Status: install ok unpacked$Version: 1$Architecture: all$$Package: a$Status: install ok unpacked$Version: 1$Architecture: all$Pre-Depends: b$$→unpack b 1$→Package: b$Version: 1$Architecture: all$Conffiles:$ /etc/b 0$→configure b$→→remove b$→→unpack b 1$→Package: b$Version: 1$Architecture: all$Conffiles:$ /etc/b 0$→unpack a 1$→Package: a$Version: 1$Architecture: all$Pre-Depends: b$
+→Package: a$Status: install ok installed$Version: 1$Architecture: all$Depends: b$$Package: b$Status: install ok installed$Version: 1$Architecture: all$Depends: c$$Package: c$Status: install ok installed$Version: 1$Architecture: all$Depends: a$$→unpack a 1$→Package: a$Version: 1$Architecture: all$Depends: b$→unpack b 1$→Package: b$Version: 1$Architecture: all$Depends: c$→unpack c 1$→Package: c$Version: 1$Architecture: all$Depends: a$→configure a b c$→
+Package: a$Status: install ok installed$Version: 1$Architecture: all$$Package: b$Status: install ok installed$Version: 1$Architecture: all$$→Package: a$Status: install ok installed$Version: 2$Architecture: all$Pre-Depends: b (>= 1)$$Package: b$Status: install ok installed$Version: 2$Architecture: all$Depends: a (>= 2)$$→unpack b 2$→Package: b$Version: 2$Architecture: all$Depends: a (>= 2)$→unpack a 2$→Package: a$Version: 2$Architecture: all$Pre-Depends: b (>= 1)$→configure a b$→
+Package: a$Status: install ok unpacked$Version: 1$Architecture: all$Pre-Depends: b$$Package: b$Status: install ok half-configured$Version: 1$Architecture: all$Config-Version: 1$$→Package: a$Status: install ok installed$Version: 1$Architecture: all$Pre-Depends: b$$Package: b$Status: install ok installed$Version: 1$Architecture: all$$→configure a b$→
+Package: a$Status: install ok installed$Version: 1$Architecture: all$Conffiles:$ /etc/a 0$→Package: a$Status: deinstall ok config-files$Version: 1$Config-Version: 1$Architecture: all$Conffiles:$ /etc/a 0$$→remove a$→
+Package: a$Status: install ok unpacked$Version: 1$Architecture: all$Conffiles:$ /etc/a 0$→Package: a$Status: deinstall ok config-files$Version: 1$Architecture: all$Conffiles:$ /etc/a 0$$→remove a$→
+Package: a$Status: install ok unpacked$Version: 2$Architecture: all$Config-Version: 1$Conffiles:$ /etc/a 0$→Package: a$Status: deinstall ok config-files$Version: 2$Config-Version: 1$Architecture: all$Conffiles:$ /etc/a 0$$→remove a$→
+Package: a$Status: install ok half-configured$Version: 2$Architecture: all$Config-Version: 1$Conffiles:$ /etc/a 0$→Package: a$Status: deinstall ok config-files$Version: 2$Config-Version: 1$Architecture: all$Conffiles:$ /etc/a 0$$→remove a$→
+Package: a$Status: install ok half-installed$Version: 1$Architecture: all$Conffiles:$ /etc/a 0$→Package: a$Status: deinstall ok config-files$Version: 1$Architecture: all$Conffiles:$ /etc/a 0$$→remove a$→
+Package: a$Status: install ok half-installed$Version: 1$Architecture: all$Config-Version: 0$Conffiles:$ /etc/a 0$→Package: a$Status: deinstall ok config-files$Version: 1$Config-Version: 0$Architecture: all$Conffiles:$ /etc/a 0$$→remove a$→
+Package: a$Status: hold ok installed$Version: 1$Architecture: all$Conffiles:$ /etc/a 0$→Package: a$Status: deinstall ok config-files$Version: 1$Config-Version: 1$Architecture: all$Conffiles:$ /etc/a 0$$→remove a$→
+→→unpack a 1$→Package: a$Version: 1$Architecture: all$Conffiles:$ /etc/a 0$→configure a$→→remove a$→→purge a$→
+Package: a$Status: deinstall ok config-files$Version: 1$Architecture: all$Config-Version: 1$Conffiles:$ /etc/a 0$→→purge a$→
+Package: a$Status: deinstall ok config-files$Version: 1$Architecture: all$Essential: yes$Conffiles:$ /etc/a 0$→→purge a$→
+Package: a$Status: deinstall ok config-files$Version: 1$Architecture: all$Protected: yes$Conffiles:$ /etc/a 0$→→purge a$→
+Package: a$Status: hold ok config-files$Version: 1$Architecture: all$Config-Version: 1$Conffiles:$ /etc/a 0$→→purge a$→
+Package: a$Status: deinstall ok config-files$Version: 1$Architecture: all$Config-Version: 1$Conffiles:$ /etc/a 0$→E24 NotApplicable a→remove a$→
+→E24 NotApplicable a→remove a$→
+Package: p$Status: install ok installed$Version: 1$Architecture: all$$Package: q$Status: install ok installed$Version: 1$Architecture: all$$→Package: p$Status: install ok installed$Version: 1$Architecture: all$$Package: q$Status: install ok installed$Version: 1$Architecture: all$$→
+";
+
+#[test]
+fn steps_leave_the_states_that_dpkg_leaves(rt: HostRuntime) -> Result<(), Fail> {
+    for row in LEFT_BY_DPKG.lines() {
+        assert!(rt; holds(rt.alloc(), row)?, "{row}");
+    }
+    Ok(())
+}
+
 // Names that are recorded, and one of another architecture.
 const NAMED: &[u8] =
     b"Package: b\nStatus: install ok installed\nArchitecture: all\nVersion: 1\n\nPackage: x\nStatus: unknown ok not-installed\nArchitecture: i386\n\nPackage: a\nStatus: hold ok not-installed\n";
