@@ -112,7 +112,7 @@ left-ascends gone places up i j d earlier inside =
     other k inside same = elim (eqb_tells (get_or (filter (λ (place : ℕ). not (place == gone)) places) k 0) gone) [
       | inl (is, told) ↦ absurd (
           let passes = All-get_or (λ (place : ℕ). not (place == gone) ≡ true) (filter (λ (place : ℕ). not (place == gone)) places) k 0 inside
-              (filter_passes (λ (place : ℕ). not (place == gone)) places) in
+          (filter_passes (λ (place : ℕ). not (place == gone)) places) in
           let fails = is in cc)
       | inr (is, differ) ↦ differ same
     ]
