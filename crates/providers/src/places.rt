@@ -22,9 +22,10 @@ pub(crate) fn meeting<'k, 'a>(
     ensures meeting { result.now ≡ filter (meets atom.now.restriction) run.now }
     ensures counted { (d : ℕ) → length (filter (λ offer. is_some offer.version) run.now) < 2 ^ d → ticks.new ≤ ticks.old + 2 * d }
 {
+    let with_versions = versioned(run);
     match atom.restriction() {
         None => run,
-        Some((op, version)) => range_of(versioned(run), op, version, ticks),
+        Some((op, version)) => range_of(with_versions, op, version, ticks),
     }
 }
 
