@@ -16,7 +16,7 @@ use Rattle.rules.specs.VersionOrderLaws.{SameVersion-refl}
 use Rattle.rules.specs.declared.goal.Goal.{Goal}
 use Rattle.rules.specs.declared.goal.Goal.TheVariants as goal
 use Rattle.refutation.specs.Clause.{HasAt, IsTrueOf, IsClauseTrue, item_at}
-use Rattle.refutation.specs.Laws.{HasNeededPairs, AllPremisesTrue, AcceptableWherePremisesAreTrue}
+use Rattle.refutation.specs.Laws.{CandidateHasPair, HasNeededPairs, AllPremisesTrue, AcceptableWherePremisesAreTrue}
 use Rattle.refutation.specs.Premise.{PairHas, Selects, IsEitherOut, IsAskedBy, IsUpgradeFrom, IsSaidBy}
 use Rattle.refutation.specs.declared.line.Premise.TheVariants as premise
 use Rattle.refutation.specs.declared.literal.Literal.{Literal}
@@ -190,8 +190,9 @@ module _ (u : Universe) (selection : ℕ → Bool) (needed : HasNeededPairs u) (
       )) in
       versioned place.0 pair place.1 start.name candidate of one.0 one.1 one.2)
       (of_some (candidate_of u start.name) ⊤ (HasPair u start.name) candidate is_candidate
-      (All-contains (λ (start : Start). (start.is_held ≡ false) → MatchOption (candidate_of u start.name) ⊤ (HasPair u start.name))
-      u.starts start needed.candidates within unheld))
+      (of_some start.standing ⊤ (λ _. CandidateHasPair u start.name) standing stands
+      (All-contains (λ (start : Start). (start.is_held ≡ false) → MatchOption start.standing ⊤ (λ _. CandidateHasPair u start.name))
+      u.starts start needed.candidates within unheld)))
 
   kept : Contains u.goals goal.NoRemove → (start : Start) → Contains u.starts start → IsKept members start
   unfolding IsKept

@@ -10,11 +10,11 @@ use Rattle.rules.specs.Database.{Record, HasDistinctNames, HasRecord, IsHeld, St
 use Rattle.rules.specs.ElementLaws.{All-intro, Any-elim, Contains-head, Contains-map, Contains-rest}
 use Rattle.rules.specs.NamedLaws.{bytes_eq-true}
 use Rattle.rules.specs.State.{is_hold}
-use Rattle.rules.specs.Universe.{Candidate, IsAdmitted, IsKeptCandidate, IsOffered, IsACandidate, IsUniverse, Start, Universe, candidate_of, start_of, starts_of}
+use Rattle.rules.specs.Universe.{Candidate, IsAdmitted, IsKeptCandidate, IsOffered, IsACandidate, IsUniverse, Start, Universe, start_of, starts_of}
 use Rattle.rules.specs.Verdict.{HasPair}
 use Rattle.rules.proofs.QuietLemmas.{one_record}
 use Rattle.rules.proofs.VerdictLemmas.{universe_is_built}
-use Rattle.refutation.specs.Laws.{HasAscendingPairs, UniverseHasNeededPairs}
+use Rattle.refutation.specs.Laws.{CandidateHasPair, HasAscendingPairs, UniverseHasNeededPairs}
 use mathlib.Core.Logic.{inl, inr}
 
 -- what is found is an element that passes
@@ -28,6 +28,11 @@ find_some {X} p (y ∷ ys) x found = at (p y) refl found (find_some p ys x)
         let e : y ≡ x = same_Some y x same in
         (subst (Contains (y ∷ ys)) e (Contains-head y ys), subst (λ z. p z ≡ true) e is)
     at false is same later = let rest = later same in (Contains-rest y ys x rest.0, rest.1)
+
+-- what holds by itself holds of a value that is there
+if_some : {X : Type 0} (o : Option X) (P : Type 0) → P → MatchOption o ⊤ (λ _. P)
+if_some None P holds = tt
+if_some (Some x) P holds = holds
 
 module _ (inputs : Inputs) (u : Universe) (distinct : HasDistinctNames inputs.start) (is : IsUniverse inputs u) where
   -- what holds of the facts of each record at the start holds of each start
@@ -70,8 +75,9 @@ universe_has_needed_pairs inputs u distinct is = (
     held = each_start inputs u distinct is (λ start. IsTrue start.is_held → MatchOption start.standing ⊤ (HasPair u start.name))
         (λ found within held. standing inputs u distinct is found within (stands found) refl);
     candidates = each_start inputs u distinct is
-        (λ start. (start.is_held ≡ false) → MatchOption (candidate_of u start.name) ⊤ (HasPair u start.name))
-        (λ found within free. has_candidate inputs u distinct is found within free
-        (find (λ (candidate : Candidate). bytes_eq candidate.name found.name) u.candidates) refl);
+        (λ start. (start.is_held ≡ false) → MatchOption start.standing ⊤ (λ _. CandidateHasPair u start.name))
+        (λ found within free. if_some (start_of found).standing (CandidateHasPair u found.name)
+        (has_candidate inputs u distinct is found within free
+        (find (λ (candidate : Candidate). bytes_eq candidate.name found.name) u.candidates) refl));
   },
 )

@@ -48,10 +48,14 @@ abbrev pub NoneIsAcceptable : Type 0
 NoneIsAcceptable = (u : Universe) (lines : List Line) → HasAscendingPairs u → IsAccepted u lines
     → (selection : ℕ → Bool) → ¬ IsAcceptable u selection
 
--- what must be selected has a pair: the version that stands of a held name, and the candidate of a name that isn't held
+-- the candidate of the name, if it has one, has a pair
+abbrev pub CandidateHasPair : Universe → List ℕ → Type 0
+CandidateHasPair u name = MatchOption (candidate_of u name) ⊤ (HasPair u name)
+
+-- what must be selected has a pair: the version that stands of a held name, and the candidate of a name that stands and isn't held
 pub record HasNeededPairs (u : Universe) : Type 0 where
   pub held : All (λ start. IsTrue start.is_held → MatchOption start.standing ⊤ (HasPair u start.name)) u.starts
-  pub candidates : All (λ start. (start.is_held ≡ false) → MatchOption (candidate_of u start.name) ⊤ (HasPair u start.name)) u.starts
+  pub candidates : All (λ start. (start.is_held ≡ false) → MatchOption start.standing ⊤ (λ _. CandidateHasPair u start.name)) u.starts
 
 -- a selection is acceptable exactly where the clause of every premise is true of it
 abbrev pub AcceptableWherePremisesAreTrue : Type 0

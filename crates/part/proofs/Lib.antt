@@ -1,0 +1,13 @@
+pub mod ClauseLemmas
+pub mod FittingLemmas
+pub mod ListLemmas
+pub mod MemberLemmas
+pub mod MinimalLemmas
+pub mod NeededLemmas
+pub mod OverLemmas
+pub mod PartRows
+pub mod PkgLemmas
+pub mod PlaceLemmas
+pub mod PremiseLemmas
+pub mod SelectedLemmas
+pub mod WantedLemmas

@@ -1,0 +1,3 @@
+pub mod Laws
+pub mod Part
+pub mod Premises

@@ -1,0 +1,188 @@
+-- The offers of a name among offers in order, those of them that have a version, and the range that meets a restriction.
+use Rattle.std.proofs.Common.{◌≡◌, ℕ, ◌+◌, ◌<◌, ◌≤◌, ◌^◌, Bool, true, false, not, ◌&&◌, ◌⊎◌, List, [], ◌∷◌, Option, Some, None, length, get_or, is_some, refl, sym, ap, subst, ◌∙◌, arith, bytes_eq}
+use Rattle.std.specs.Cmp.{Equal-is}
+use Rattle.std.specs.Cmp.Lexicographic.{nat_list_cmp_total, options_total}
+use Rattle.std.specs.List.{All, AllPairs, filter}
+use Rattle.std.specs.List.Sorted.{IsPartitionedBy, IsStrictlySortedBy}
+use Rattle.std.specs.Option.{option_cmp}
+use Rattle.std.specs.Ordering.{is_eq, is_ge, is_gt, is_le, is_lt, nat_cmp, ordering_then}
+use Rattle.std.specs.declared.cmp.Ordering.{Ordering}
+use Rattle.std.specs.declared.cmp.Ordering.TheVariants.{Less, Equal, Greater}
+use Rattle.std.proofs.lemmas.Bool.{cases_Bool}
+use Rattle.std.proofs.lemmas.List.Elements.{filter_passes}
+use Rattle.std.proofs.lemmas.List.Kept.{AllPairs-filter, IsStrictlySortedBy-filter}
+use Rattle.std.proofs.lemmas.Map.Text.{is_eq-slice_cmp}
+use Rattle.rules.specs.Name.{name_cmp}
+use Rattle.rules.specs.NamedLaws.{bytes_eq-same, bytes_eq-true}
+use Rattle.rules.specs.Package.{Atom, Pkg}
+use Rattle.rules.specs.Version.{is_met, version_cmp}
+use Rattle.rules.specs.VersionOrderLaws.{version_cmp_total}
+use Rattle.rules.specs.declared.goal.Restriction.{Restriction}
+use Rattle.rules.specs.declared.op.Op.{Op}
+use Rattle.rules.specs.declared.op.Op.TheVariants.{StrictlyEarlier, EarlierOrEqual, ExactlyEqual, LaterOrEqual, StrictlyLater}
+use Rattle.providers.proofs.CutLemmas.{before_keeps, filter_alike, filter_all, filter_twice, first_not_greater, pairs_sorted, parted, up_to_keeps}
+use Rattle.providers.specs.Matching.{fits, is_meeting, meets}
+use Rattle.providers.specs.Offers.{AreOrdered, Offer, is_offer_of, is_versioned_of, offer_cmp, offers_of, versioned_of}
+use Rattle.providers.specs.Range.{IsRun, is_early_enough, is_in_front, is_late_enough, offered_early_enough, offered_late_enough, stands_in_front}
+use Rattle.providers.specs.declared.range.Cut.{Cut}
+use Rattle.providers.specs.declared.range.Cut.TheVariants.{Before, Behind}
+use mathlib.Core.Logic.{inl, inr}
+
+-- Names
+
+-- the order of two offers behind their names
+abbrev rest_cmp : Offer → Offer → Ordering
+rest_cmp a b = ordering_then (option_cmp version_cmp a.version b.version)
+    (ordering_then (nat_cmp a.place b.place) (option_cmp name_cmp a.version b.version))
+
+name_not_greater : (a b : Offer) → offer_cmp a b ≡ Less → is_le (name_cmp a.name b.name) ≡ true
+name_not_greater a b below = first_not_greater (name_cmp a.name b.name) (rest_cmp a b) below
+
+pub parted_up_to : (offers : List Offer) (name : List ℕ) → IsStrictlySortedBy offer_cmp offers
+    → IsPartitionedBy (λ offer. is_le (name_cmp offer.name name)) offers
+parted_up_to offers name up = parted (λ (a b : Offer). offer_cmp a b ≡ Less) (λ (offer : Offer). is_le (name_cmp offer.name name)) offers
+    (pairs_sorted offer_cmp offers up)
+    (λ a b below passes. up_to_keeps name_cmp nat_list_cmp_total a.name b.name name (name_not_greater a b below) passes)
+
+pub parted_before : (offers : List Offer) (name : List ℕ) → IsStrictlySortedBy offer_cmp offers
+    → IsPartitionedBy (λ offer. is_lt (name_cmp offer.name name)) offers
+parted_before offers name up = parted (λ (a b : Offer). offer_cmp a b ≡ Less) (λ (offer : Offer). is_lt (name_cmp offer.name name)) offers
+    (pairs_sorted offer_cmp offers up)
+    (λ a b below passes. before_keeps name_cmp nat_list_cmp_total a.name b.name name (name_not_greater a b below) passes)
+
+-- those up to the name that aren't before it are those of the name
+pub run_is : (name : List ℕ) (offers : List Offer)
+    → filter (λ offer. not (is_lt (name_cmp offer.name name))) (filter (λ offer. is_le (name_cmp offer.name name)) offers) ≡ filter (is_offer_of name) offers
+run_is name offers =
+    filter_twice (λ (offer : Offer). is_le (name_cmp offer.name name)) (λ (offer : Offer). not (is_lt (name_cmp offer.name name))) offers
+    ∙ filter_alike (λ (offer : Offer). is_le (name_cmp offer.name name) && not (is_lt (name_cmp offer.name name))) (is_offer_of name)
+        (λ offer. tied (name_cmp offer.name name) ∙ is_eq-slice_cmp offer.name name) offers
+  where
+    tied : (o : Ordering) → (is_le o && not (is_lt o)) ≡ is_eq o
+    tied Less = refl
+    tied Equal = refl
+    tied Greater = refl
+
+-- Versions
+
+-- what is less in two steps, and ties in the first, is less in the second
+second_less : (o w : Ordering) → ordering_then o w ≡ Less → o ≡ Equal → w ≡ Less
+second_less o w below tied = sym (ap (λ (first : Ordering). ordering_then first w) tied) ∙ below
+
+same_names : (a b : Offer) (name : List ℕ) → is_offer_of name a ≡ true → is_offer_of name b ≡ true → name_cmp a.name b.name ≡ Equal
+same_names a b name here there = (Equal-is (name_cmp a.name b.name)).0
+    (is_eq-slice_cmp a.name b.name ∙ bytes_eq-same a.name b.name (bytes_eq-true a.name name here ∙ sym (bytes_eq-true b.name name there)))
+
+-- the offers of a name are a run
+pub IsRun-of_name : (name : List ℕ) (offers : List Offer) → IsStrictlySortedBy offer_cmp offers → IsRun (filter (is_offer_of name) offers)
+IsRun-of_name name offers up i j d before within =
+    let run : List Offer = filter (is_offer_of name) offers in
+    let named : All (λ offer. is_offer_of name offer ≡ true) run = filter_passes (is_offer_of name) offers in
+    let a : Offer = get_or run i d in
+    let b : Offer = get_or run j d in
+    let below : offer_cmp a b ≡ Less = pairs_sorted offer_cmp run (IsStrictlySortedBy-filter offer_cmp (is_offer_of name) offers up) i j d before within in
+    first_not_greater (option_cmp version_cmp a.version b.version)
+    (ordering_then (nat_cmp a.place b.place) (option_cmp name_cmp a.version b.version))
+    (second_less (name_cmp a.name b.name) (rest_cmp a b) below
+    (same_names a b name (named i d (omega (arith, before, within))) (named j d within)))
+
+pub IsRun-filter : (p : Offer → Bool) (offers : List Offer) → IsRun offers → IsRun (filter p offers)
+IsRun-filter p offers run = AllPairs-filter (λ earlier later. is_le (option_cmp version_cmp earlier.version later.version) ≡ true) p offers run
+
+none_first : (a b : Option (List ℕ)) → is_le (option_cmp version_cmp a b) ≡ true → not (is_some b) ≡ true → not (is_some a) ≡ true
+none_first None b h none = refl
+none_first (Some a) None h none = absurd (let e : false ≡ true = h in cc)
+none_first (Some a) (Some b) h none = none
+
+pub parted_unversioned : (offers : List Offer) → IsRun offers → IsPartitionedBy (λ offer. not (is_some offer.version)) offers
+parted_unversioned offers run = parted (λ (a b : Offer). is_le (option_cmp version_cmp a.version b.version) ≡ true)
+    (λ (offer : Offer). not (is_some offer.version)) offers run
+    (λ a b up none. none_first a.version b.version up none)
+
+front_keeps : (cut : Cut) (version a b : Option (List ℕ)) → is_le (option_cmp version_cmp a b) ≡ true
+    → is_in_front cut (option_cmp version_cmp b version) ≡ true → is_in_front cut (option_cmp version_cmp a version) ≡ true
+front_keeps Before version a b up passes = before_keeps (option_cmp version_cmp) (options_total version_cmp_total) a b version up passes
+front_keeps Behind version a b up passes = up_to_keeps (option_cmp version_cmp) (options_total version_cmp_total) a b version up passes
+
+pub parted_cut : (cut : Cut) (version : List ℕ) (offers : List Offer) → IsRun offers → IsPartitionedBy (stands_in_front cut version) offers
+parted_cut cut version offers run = parted (λ (a b : Offer). is_le (option_cmp version_cmp a.version b.version) ≡ true)
+    (stands_in_front cut version) offers run
+    (λ a b up passes. front_keeps cut (Some version) a.version b.version up passes)
+
+-- Ranges
+
+met_between : (op : Op) (ordering : Ordering) → (is_early_enough op ordering && is_late_enough op ordering) ≡ is_met op ordering
+met_between StrictlyEarlier Less = refl
+met_between StrictlyEarlier Equal = refl
+met_between StrictlyEarlier Greater = refl
+met_between EarlierOrEqual Less = refl
+met_between EarlierOrEqual Equal = refl
+met_between EarlierOrEqual Greater = refl
+met_between ExactlyEqual Less = refl
+met_between ExactlyEqual Equal = refl
+met_between ExactlyEqual Greater = refl
+met_between LaterOrEqual Less = refl
+met_between LaterOrEqual Equal = refl
+met_between LaterOrEqual Greater = refl
+met_between StrictlyLater Less = refl
+met_between StrictlyLater Equal = refl
+met_between StrictlyLater Greater = refl
+
+in_range : (restriction : Restriction) (version : Option (List ℕ))
+    → ((is_some version && is_early_enough restriction.op (option_cmp version_cmp version (Some restriction.version)))
+    && is_late_enough restriction.op (option_cmp version_cmp version (Some restriction.version)))
+    ≡ is_meeting (Some restriction) version
+in_range restriction None = refl
+in_range restriction (Some version) = met_between restriction.op (version_cmp version restriction.version)
+
+-- the last two operators find no version too late, and the first two none too early
+pub none_too_late : (op : Op) → (op ≡ LaterOrEqual) ⊎ (op ≡ StrictlyLater) → (version : List ℕ) (offers : List Offer)
+    → offers ≡ filter (offered_early_enough op version) offers
+none_too_late op (inl is) version offers = sym (filter_all (offered_early_enough op version) (λ offer. rw is refl) offers)
+none_too_late op (inr is) version offers = sym (filter_all (offered_early_enough op version) (λ offer. rw is refl) offers)
+
+pub none_too_early : (op : Op) → (op ≡ StrictlyEarlier) ⊎ (op ≡ EarlierOrEqual) → (version : List ℕ) (offers : List Offer)
+    → offers ≡ filter (offered_late_enough op version) offers
+none_too_early op (inl is) version offers = sym (filter_all (offered_late_enough op version) (λ offer. rw is refl) offers)
+none_too_early op (inr is) version offers = sym (filter_all (offered_late_enough op version) (λ offer. rw is refl) offers)
+
+-- of the versioned offers those that are neither too late nor too early meet the restriction
+pub range_is : (restriction : Restriction) (offers : List Offer)
+    → filter (offered_late_enough restriction.op restriction.version) (filter (offered_early_enough restriction.op restriction.version)
+    (filter (λ offer. is_some offer.version) offers)) ≡ filter (meets (Some restriction)) offers
+range_is restriction offers =
+    ap (filter (offered_late_enough restriction.op restriction.version))
+    (filter_twice (λ (offer : Offer). is_some offer.version) (offered_early_enough restriction.op restriction.version) offers)
+    ∙ filter_twice (λ (offer : Offer). is_some offer.version && offered_early_enough restriction.op restriction.version offer)
+        (offered_late_enough restriction.op restriction.version) offers
+    ∙ filter_alike (λ (offer : Offer). (is_some offer.version && offered_early_enough restriction.op restriction.version offer)
+        && offered_late_enough restriction.op restriction.version offer) (meets (Some restriction)) (λ offer. in_range restriction offer.version) offers
+
+-- what meets no restriction is all
+pub all_meet : (offers : List Offer) → filter (meets None) offers ≡ offers
+all_meet [] = refl
+all_meet (offer ∷ offers) = ap (λ rest. offer ∷ rest) (all_meet offers)
+
+-- the same, where it is known which restriction there is
+pub meeting_none : (restriction : Option Restriction) (run : List Offer) → None ≡ restriction → run ≡ filter (meets restriction) run
+meeting_none restriction run is = subst (λ (r : Option Restriction). run ≡ filter (meets r) run) is (sym (all_meet run))
+
+pub meeting_some : (op : Op) (version : List ℕ) (restriction : Option Restriction) (run versioned range : List Offer)
+    → Some (record { op = op; version = version }) ≡ restriction → versioned ≡ filter (λ offer. is_some offer.version) run
+    → range ≡ filter (offered_late_enough op version) (filter (offered_early_enough op version) versioned) → range ≡ filter (meets restriction) run
+meeting_some op version restriction run versioned range is cut kept =
+    kept ∙ ap (λ (offers : List Offer). filter (offered_late_enough op version) (filter (offered_early_enough op version) offers)) cut
+    ∙ range_is (record { op = op; version = version }) run
+    ∙ ap (λ (r : Option Restriction). filter (meets r) run) is
+
+-- those of the name that meet the restriction are those that fit
+pub fitting_is : (atom : Atom) (offers : List Offer) → filter (meets atom.restriction) (filter (is_offer_of atom.name) offers) ≡ filter (fits atom) offers
+fitting_is atom offers = filter_twice (is_offer_of atom.name) (meets atom.restriction) offers
+
+-- among offers in order no more have the name and a version than the packages have
+pub versioned_fewer : (name : List ℕ) (packages : List Pkg) (ordered : List Offer) → AreOrdered (offers_of packages) ordered
+    → length (filter (λ offer. is_some offer.version) (filter (is_offer_of name) ordered)) ≤ length (versioned_of name packages)
+versioned_fewer name packages ordered are =
+    let twice : length (filter (λ (offer : Offer). is_some offer.version) (filter (is_offer_of name) ordered)) ≡ length (filter (is_versioned_of name) ordered)
+        = ap length (filter_twice (is_offer_of name) (λ (offer : Offer). is_some offer.version) ordered) in
+    omega (arith, twice, are.fewer (is_versioned_of name))

@@ -1,0 +1,4 @@
+pub mod Offers
+pub mod OfferLaws
+pub mod Matching
+pub mod Range

@@ -1,0 +1,132 @@
+//! Who has or provides a name, and who matches an atom.
+ghost use Rattle.std.specs.Prelude.{◌≡◌, ◌↔◌, ◌+◌, ◌*◌, ◌^◌, ◌<◌, ◌≤◌, ℕ, Contains, IfOk, length, map};
+ghost use Rattle.std.specs.List.Sorted.{IsStrictlyIncreasing};
+ghost use Rattle.index.specs.Providers.{IsProviderAt, providers_of};
+ghost use Rattle.universe.specs.Universe.{packages_of};
+ghost use Rattle.providers.specs.Matching.{IsMatchAt};
+ghost use Rattle.providers.specs.Offers.{AreOrdered, offers_of, versioned_of};
+
+use crate::draft::Draft;
+use crate::offer::Offer;
+use crate::places::{meeting, ordered_places};
+use crate::run::run_of;
+use crate::ticks::Ticks;
+use relation::{Atom, Pkg};
+use std::alloc::{AllocError, Global};
+use std::marker::Model;
+use std::snapshot::Snapshot;
+use universe::{CountingPkg, Universe};
+
+/// Packages, of which contracts alone know, and what they offer. It borrows their texts.
+#[derive(Drop)]
+pub struct Providers<'a> {
+    packages: Vec<Snapshot<Pkg<'a>>>,
+    offers: Vec<Offer<'a>>,
+}
+
+impl<'a> Model for Providers<'a> {
+    ghost use Rattle.std.specs.Prelude.{List, map};
+    ghost use Rattle.rules.specs.Package.{Pkg as PkgValue};
+    ghost use Rattle.providers.specs.Offers.{AreOrdered, offers_of};
+
+    ghost Value = { List PkgValue };
+
+    ghost view = { λ p. map (λ seen. seen.value) p.packages.items };
+
+    ghost invariant = { λ p. AreOrdered (offers_of (map (λ seen. seen.value) p.packages.items)) p.offers.items };
+}
+
+// The packages of the list, and what they offer.
+fn draft_of<'a>(alloc: Global, packages: &[&Pkg<'a>]) -> Result<Draft<'a>, AllocError>
+    ensures packages { IfOk result (λ draft. draft.0 ≡ map (λ pkg. pkg.now) packages.now) }
+    ensures offers { IfOk result (λ draft. draft.1 ≡ offers_of draft.0) }
+{
+    let mut draft = Draft::new(alloc);
+    for pkg in packages {
+        draft.push(pkg)?;
+    }
+    Ok(draft)
+}
+
+// The packages of the pairs, and what they offer. A package that is read for it is let go before the next one.
+fn draft_of_universe<'a>(alloc: Global, universe: &Universe<'_, 'a>) -> Result<Draft<'a>, AllocError>
+    ensures packages { IfOk result (λ draft. draft.0 ≡ packages_of universe.now.pairs) }
+    ensures offers { IfOk result (λ draft. draft.1 ≡ offers_of draft.0) }
+{
+    let mut draft = Draft::new(alloc);
+    for pair in universe.pairs() {
+        let pkg = CountingPkg::of_pair(alloc, pair)?;
+        draft.push(pkg.pkg())?;
+    }
+    Ok(draft)
+}
+
+// The offers in order, and none twice.
+fn in_order<'a>(offers: Vec<Offer<'a>>) -> Result<Vec<Offer<'a>>, AllocError>
+    ensures { IfOk result (λ ordered. AreOrdered offers.entry.items ordered.items) }
+{
+    let mut ordered = offers;
+    ordered.sort()?;
+    // A package may provide a name twice in one version, or without.
+    ordered.dedup();
+    Ok(ordered)
+}
+
+impl<'a> Providers<'a> {
+    // The packages of the draft.
+    fn of_draft(draft: Draft<'a>) -> Result<Providers<'a>, AllocError>
+        requires { draft.1 ≡ offers_of draft.0 }
+        ensures { IfOk result (λ providers. providers ≡ draft.entry.0) }
+    {
+        let Draft { packages, offers } = draft;
+        let offers = in_order(offers)?;
+        Ok(Providers { packages, offers })
+    }
+
+    /// The packages of this list, which may be let go then. Memory alone can fail. About n log n comparisons of the n names
+    /// that they have and provide.
+    pub fn of_packages(alloc: Global, packages: &[&Pkg<'a>]) -> Result<Providers<'a>, AllocError>
+        ensures { IfOk result (λ providers. providers ≡ map (λ pkg. pkg.now) packages.now) }
+    {
+        Providers::of_draft(draft_of(alloc, packages)?)
+    }
+
+    /// The packages of the pairs of the universe, in their order: the one at place 0 is that of the pair with the number 1.
+    /// Each is read once and let go before the next. Memory alone can fail. It costs what `of_packages` does, and reading.
+    pub fn of_universe(alloc: Global, universe: &Universe<'_, 'a>) -> Result<Providers<'a>, AllocError>
+        ensures { IfOk result (λ providers. providers ≡ packages_of universe.now.pairs) }
+    {
+        Providers::of_draft(draft_of_universe(alloc, universe)?)
+    }
+
+    /// The positions in the list, counted from 0 and ascending, of the packages that match the name without a restriction:
+    /// by their own name, or by an item of Provides that isn't foreign, whatever its version (Policy 7.5). Memory alone can
+    /// fail. Two binary searches, and n log n in the answer.
+    pub fn of(&self, alloc: Global, name: &[u8]) -> Result<Vec<usize>, AllocError>
+        ensures exact { IfOk result (λ places. places.items ≡ providers_of name.now self.now) }
+        ensures matching { IfOk result (λ places. (place : ℕ) → Contains places.items place ↔ IsProviderAt name.now self.now place) }
+        ensures ascending { IfOk result (λ places. IsStrictlyIncreasing places.items) }
+    {
+        ordered_places(alloc, run_of(self.offers.as_slice(), name))
+    }
+
+    /// The positions in the list, counted from 0 and ascending, of the packages that match the atom: by their own name and
+    /// version, or by an item of Provides that isn't foreign (Policy 7.1, 7.5). Memory alone can fail. The versions that
+    /// are compared are counted.
+    pub fn matching(
+        &self,
+        alloc: Global,
+        atom: &Atom<'_>,
+        ticks: &mut Ticks,
+    ) -> Result<Vec<usize>, AllocError>
+        ensures matching { IfOk result (λ places. (place : ℕ) → Contains places.items place ↔ IsMatchAt self.now atom.now place) }
+        ensures ascending { IfOk result (λ places. IsStrictlyIncreasing places.items) }
+        ensures counted { (d : ℕ) → length (versioned_of atom.now.name self.now) < 2 ^ d → ticks.new ≤ ticks.old + 2 * d }
+    {
+        if atom.is_foreign() {
+            return Ok(Vec::new(alloc));
+        }
+        let run = run_of(self.offers.as_slice(), atom.name());
+        ordered_places(alloc, meeting(run, atom, ticks))
+    }
+}

@@ -1,0 +1,3 @@
+pub mod LentLemmas
+pub mod MarkLemmas
+pub mod NumberLemmas
