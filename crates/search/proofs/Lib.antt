@@ -1,1 +1,2 @@
+pub mod ChoiceLemmas
 pub mod SetLemmas

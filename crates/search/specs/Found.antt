@@ -2,8 +2,9 @@
 -- since a checker judges it.
 use Rattle.std.specs.Prelude.{◌≡◌, ℕ, ◌<◌, ◌≤◌, List, ⊤}
 use Rattle.std.specs.List.{All, AllPairs, Any}
-use Rattle.clauses.specs.Clause.{LeavesChoice, MakesAllTrue}
+use Rattle.clauses.specs.Clause.{MakesAllTrue}
 use Rattle.clauses.specs.Clauses.{Clauses}
+use Rattle.search.specs.Choice.{HasTwo}
 use Rattle.search.specs.declared.found.Found.{Found}
 use Rattle.search.specs.declared.found.Found.TheVariants.{Selection, Refutation, Limit}
 
@@ -12,9 +13,10 @@ abbrev pub IsSelection : ℕ → List ℕ → Type 0
 IsSelection greatest numbers = AllPairs (λ earlier later. earlier < later) numbers
     × All (λ number. (1 ≤ number) × (number ≤ greatest)) numbers
 
--- a selection makes every clause true, and a limit is the one handed in and comes only where some clause leaves a choice
+-- a selection makes every clause true, and a limit is the one handed in and comes only where some clause says of
+-- two numbers that one is selected
 abbrev pub IsAnswer : Clauses → ℕ → Found → Type 0
 IsAnswer clauses limit (Selection numbers) = IsSelection clauses.numbers numbers.items
     × MakesAllTrue numbers.items clauses.clauses
 IsAnswer clauses limit (Refutation refutation) = ⊤
-IsAnswer clauses limit (Limit reached) = (reached ≡ limit) × Any LeavesChoice clauses.clauses
+IsAnswer clauses limit (Limit reached) = (reached ≡ limit) × Any HasTwo clauses.clauses

@@ -1,11 +1,13 @@
 // The answer, and what decides it. Whatever was found elsewhere (`improve`), a selection is answered only where one pass
-// over all clauses says that it makes every one true, and a limit only where some clause leaves a choice (`pass`).
+// over all clauses says that it makes every one true (`pass`), and a limit only where some clause leaves a choice
+// (`choice`).
 
 ghost use Rattle.std.specs.Prelude.{IfOk};
 ghost use Rattle.search.specs.Found.{IsAnswer};
 
+use crate::choice::some_has_two;
 use crate::improve::{Outcome, find};
-use crate::pass::{fits, makes_all_true, members, some_leaves_choice};
+use crate::pass::{fits, makes_all_true, members};
 use crate::trim::Refutation;
 use clauses::Clauses;
 use std::alloc::{AllocError, Global};
@@ -27,7 +29,7 @@ pub enum Found {
 fn without_set(alloc: Global, given: &Clauses, limit: u32) -> Found
     ensures { IsAnswer given.now limit result }
 {
-    if some_leaves_choice(given) {
+    if some_has_two(given) {
         Found::Limit(limit)
     } else {
         Found::Refutation(Refutation::new(alloc))

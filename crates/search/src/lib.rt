@@ -4,6 +4,7 @@
 // contract speaks of the answer alone (`found`), and nothing that finds an answer is trusted with it.
 #![tactic(auto)]
 
+mod choice;
 mod found;
 mod improve;
 mod pass;

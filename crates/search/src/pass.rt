@@ -1,8 +1,6 @@
-// The passes over all clauses that decide an answer: whether a set makes each true, and whether one leaves a choice.
+// The pass over all clauses that decides an answer: whether a set makes each true.
 
 ghost use Rattle.std.specs.Prelude.{◌≡◌, ◌↔◌, ◌+◌, ◌++◌, ◌∷◌, [], false, IfOk, IsTrue, OnOk, length};
-ghost use Rattle.std.specs.List.{Any, filter};
-ghost use Rattle.clauses.specs.Clause.{LeavesChoice, is_unnegated};
 ghost use Rattle.search.specs.Set.{AreMadeTrue, IsMadeTrue, holds, is_true_in, numbers_from};
 
 use clauses::Clauses;
@@ -65,39 +63,4 @@ fn push_number(numbers: &mut Vec<u32>, number: usize) -> Result<(), AllocError>
     };
     numbers.push(number)?;
     Ok(())
-}
-
-fn is_unnegated(literal: i32) -> bool
-    ensures { result ≡ is_unnegated literal }
-{
-    literal >= 0
-}
-
-// How many literals aren't negated.
-fn unnegated_in(clause: &[i32]) -> usize
-    ensures { result ≡ length (filter is_unnegated clause.now) }
-{
-    clause
-        .iter()
-        .filter(|literal| is_unnegated(**literal))
-        .count()
-}
-
-// Whether a clause holds two literals or more that aren't negated.
-fn leaves_choice(clause: &[i32]) -> bool
-    ensures { IsTrue result ↔ LeavesChoice clause.now }
-{
-    unnegated_in(clause) > 1
-}
-
-/// Whether some clause leaves a choice. Linear in the literals.
-pub(crate) fn some_leaves_choice(given: &Clauses) -> bool
-    ensures { IsTrue result ↔ Any LeavesChoice given.now.clauses }
-{
-    for place in 0..given.len() {
-        if leaves_choice(given.clause(place)) {
-            return true;
-        }
-    }
-    false
 }

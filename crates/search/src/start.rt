@@ -1,5 +1,5 @@
-// The state before the first decision: the clauses of the wishes, two watches for each clause of two literals or more,
-// and what clauses of one literal make true.
+// The state before the first decision: the clauses of the wishes, two watches for each clause of two different literals
+// or more, and what clauses of one literal make true.
 
 use clauses::Clauses;
 use search_state::literal::{negated, selects};
@@ -50,17 +50,23 @@ fn meets_itself(first: i32, others: &[i32]) -> bool {
     others.contains(&negated(first))
 }
 
-// Watches the first two literals of a clause, unless it is always true.
+// The first literal that isn't this one, which may stand in a clause many times.
+fn another(first: i32, others: &[i32]) -> Option<i32> {
+    others.iter().copied().find(|literal| *literal != first)
+}
+
+// Watches the first literal of a clause and the first that is another, unless the clause is always true.
 fn watch(
     watches: &mut Watches,
     clause: usize,
     first: i32,
+    second: i32,
     others: &[i32],
 ) -> Result<(), AllocError> {
-    match others {
-        [second, ..] if !meets_itself(first, others) => watches.attach(clause, first, *second),
-        _ => Ok(()),
+    if meets_itself(first, others) {
+        return Ok(());
     }
+    watches.attach(clause, first, second)
 }
 
 // Takes a clause up, and answers its number where it is false.
@@ -73,14 +79,14 @@ fn take_up(
     let Ok(reason) = u32::try_from(number) else {
         return Err(AllocError);
     };
-    match clause {
-        [] => Ok(Some(reason)),
-        [only] => Ok(make_true(trail, *only, reason)),
-        [first, others @ ..] => {
-            watch(watches, number, *first, others)?;
-            Ok(None)
-        }
-    }
+    let [first, others @ ..] = clause else {
+        return Ok(Some(reason));
+    };
+    let Some(second) = another(*first, others) else {
+        return Ok(make_true(trail, *first, reason));
+    };
+    watch(watches, number, *first, second, others)?;
+    Ok(None)
 }
 
 // Makes the literal of a clause of one true, and answers the clause where it is false.
