@@ -1,4 +1,6 @@
 -- Why a clause holds, as a premise.
+use Rattle.std.specs.Prelude.{◌≡◌, false}
+use Rattle.rules.specs.Name.{is_name}
 use Rattle.refutation.specs.declared.line.Premise.{Premise}
 use Rattle.refutation.specs.declared.line.Premise.TheVariants as premise
 use Rattle.encode.specs.declared.basis.Basis.{Basis}
@@ -16,3 +18,16 @@ premise_of (basis.GoalOn number pair) = premise.GoalOn number pair
 premise_of (basis.Hold number) = premise.Hold number
 premise_of (basis.Essential name) = premise.Essential name.now
 premise_of (basis.Keep name) = premise.Keep name.now
+
+-- it speaks of bytes that are no package name (Policy 5.6.1), so no line of a refutation says it
+abbrev pub IsNameless : Basis → Type 0
+IsNameless (basis.Same number other) = ⊥
+IsNameless (basis.PreDepends number clause) = ⊥
+IsNameless (basis.Depends number clause) = ⊥
+IsNameless (basis.Conflicts number other) = ⊥
+IsNameless (basis.Breaks number other) = ⊥
+IsNameless (basis.Goal number) = ⊥
+IsNameless (basis.GoalOn number pair) = ⊥
+IsNameless (basis.Hold number) = ⊥
+IsNameless (basis.Essential name) = is_name name.now ≡ false
+IsNameless (basis.Keep name) = is_name name.now ≡ false

@@ -38,7 +38,7 @@ fn basis_of<'a>(against: Against, number: u32, other: u32) -> Basis<'a>
 
 // That the one pair isn't selected, or that the other isn't.
 fn add_one<'a>(
-    facts: &Facts<'_, '_, 'a>,
+    facts: &Facts<'_, '_, '_, 'a>,
     encoding: &mut Encoding<'a>,
     against: Against,
     number: u32,
@@ -54,7 +54,7 @@ fn add_one<'a>(
 
 // The same with each of the others.
 fn add_each<'a>(
-    facts: &Facts<'_, '_, 'a>,
+    facts: &Facts<'_, '_, '_, 'a>,
     encoding: &mut Encoding<'a>,
     against: Against,
     number: u32,
@@ -80,7 +80,7 @@ fn those_behind(alloc: Global, numbers: &[u32], number: u32) -> Result<Vec<u32>,
 }
 
 // The numbers behind a number of pairs of the name.
-fn behind(facts: &Facts<'_, '_, '_>, number: u32, name: &[u8]) -> Result<Vec<u32>, AllocError>
+fn behind(facts: &Facts<'_, '_, '_, '_>, number: u32, name: &[u8]) -> Result<Vec<u32>, AllocError>
     ensures { IfOk result (λ others. (other : ℕ) → Contains others.items other
         ↔ ((number < other) × PairHas facts.now other (λ pkg. pkg.name ≡ name.now))) }
 {
@@ -91,7 +91,7 @@ fn behind(facts: &Facts<'_, '_, '_>, number: u32, name: &[u8]) -> Result<Vec<u32
 
 // The numbers of the pairs that a package of a pair is against.
 fn others_of(
-    facts: &Facts<'_, '_, '_>,
+    facts: &Facts<'_, '_, '_, '_>,
     against: Against,
     number: u32,
     pkg: &Pkg<'_>,
@@ -117,7 +117,7 @@ fn others_of(
 }
 
 fn add_against<'a>(
-    facts: &Facts<'_, '_, 'a>,
+    facts: &Facts<'_, '_, '_, 'a>,
     encoding: &mut Encoding<'a>,
     against: Against,
     number: u32,
@@ -133,7 +133,7 @@ fn add_against<'a>(
 
 // What the pair of a number is against whose package this is.
 fn add_against_of<'a>(
-    facts: &Facts<'_, '_, 'a>,
+    facts: &Facts<'_, '_, '_, 'a>,
     encoding: &mut Encoding<'a>,
     number: u32,
     pkg: &Pkg<'a>,
@@ -149,7 +149,7 @@ fn add_against_of<'a>(
 
 // What the pair at a place is against, if there is one.
 fn add_against_at<'a>(
-    facts: &Facts<'_, '_, 'a>,
+    facts: &Facts<'_, '_, '_, 'a>,
     encoding: &mut Encoding<'a>,
     place: usize,
 ) -> Result<(), AllocError>
@@ -168,13 +168,12 @@ fn add_against_at<'a>(
 /// What each pair is against, pair by pair. Memory alone can fail. For each atom linear in the packages that have or
 /// provide its name.
 pub(crate) fn add_all_against<'a>(
-    facts: &Facts<'_, '_, 'a>,
+    facts: &Facts<'_, '_, '_, 'a>,
     encoding: &mut Encoding<'a>,
 ) -> Result<(), AllocError>
     ensures { OnOk result (Grows facts.now encoding.old encoding.new (λ found. IsPremise facts.now found × IsAgainst found)) }
 {
-    let pairs = facts.universe().pairs();
-    for place in 0..pairs.len() {
+    for place in 0..facts.count() {
         add_against_at(facts, encoding, place)?;
     }
     Ok(())

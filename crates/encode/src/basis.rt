@@ -1,7 +1,8 @@
 // Why a clause holds without others.
 
-ghost use Rattle.std.specs.Prelude.{◌≡◌, IfOk, IfSome};
-ghost use Rattle.encode.specs.Basis.{premise_of};
+ghost use Rattle.std.specs.Prelude.{◌≡◌, false, IfOk, MatchOption};
+ghost use Rattle.rules.specs.Name.{is_name};
+ghost use Rattle.encode.specs.Basis.{IsNameless, premise_of};
 
 use refutation::Premise;
 use rules::{Name, is_name};
@@ -35,7 +36,7 @@ pub enum Basis<'a> {
 
 // A copy of a name; none of bytes that are no name.
 fn name_of(alloc: Global, bytes: &[u8]) -> Result<Option<Name>, AllocError>
-    ensures { IfOk result (λ found. IfSome found (λ name. name ≡ bytes.now)) }
+    ensures { IfOk result (λ found. MatchOption found (is_name bytes.now ≡ false) (λ name. name ≡ bytes.now)) }
 {
     if is_name(bytes) {
         Ok(Some(Name::copied_from(alloc, bytes)?))
@@ -45,10 +46,10 @@ fn name_of(alloc: Global, bytes: &[u8]) -> Result<Option<Name>, AllocError>
 }
 
 impl Basis<'_> {
-    /// The premise of a refutation; none where it speaks of a name that is none (Policy 5.6.1), which no status file has.
-    /// Memory alone can fail.
+    /// The premise of a refutation; none exactly where it speaks of a name that is none (Policy 5.6.1), which no status file
+    /// has. Memory alone can fail.
     pub fn premise(&self, alloc: Global) -> Result<Option<Premise>, AllocError>
-        ensures { IfOk result (λ found. IfSome found (λ premise. premise ≡ premise_of self.now)) }
+        ensures { IfOk result (λ found. MatchOption found (IsNameless self.now) (λ premise. premise ≡ premise_of self.now)) }
     {
         match self {
             Basis::Same(number, other) => Ok(Some(Premise::Same(*number, *other))),

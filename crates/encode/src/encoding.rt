@@ -116,7 +116,7 @@ impl<'a> Encoding<'a> {
     /// Puts a premise with its clause behind the others. Memory alone can fail.
     pub(crate) fn add(
         &mut self,
-        facts: &Facts<'_, '_, 'a>,
+        facts: &Facts<'_, '_, '_, 'a>,
         basis: Basis<'a>,
         literals: &[Literal],
     ) -> Result<(), AllocError>

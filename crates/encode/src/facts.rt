@@ -1,6 +1,6 @@
-// What clauses are made from: a universe with its packages, and who has or provides a name.
+// What clauses are made from: a part of a universe with its packages, and who has or provides a name.
 
-ghost use Rattle.std.specs.Prelude.{◌≡◌, ◌≢◌, ◌↔◌, ◌⊎◌, ◌+◌, ℕ, IfOk, OnOk, map};
+ghost use Rattle.std.specs.Prelude.{◌≡◌, ◌≢◌, ◌↔◌, ◌⊎◌, ◌+◌, ℕ, IfOk, OnOk, length, map};
 ghost use Rattle.std.specs.List.{Any, Contains, slice_get};
 ghost use Rattle.std.specs.Option.{option_copied};
 ghost use Rattle.rules.specs.Package.{MatchesSome};
@@ -10,21 +10,21 @@ ghost use Rattle.encode.specs.Numbers.{AreNumbersOf, IsAsked, IsNumberAt};
 
 use crate::known::{Known, lent_at};
 use crate::query::Query;
+use reach::Part;
 use relation::{Atom, Pkg};
 use std::alloc::{AllocError, Global};
 use std::marker::Model;
-use universe::Universe;
 
-/// A universe, with its packages and who has or provides a name.
+/// A part of a universe, with its packages and who has or provides a name.
 #[derive(Drop)]
-pub(crate) struct Facts<'u, 'p, 'a> {
+pub(crate) struct Facts<'u, 'w, 'p, 'a> {
     alloc: Global,
-    universe: &'u Universe<'p, 'a>,
+    part: &'u Part<'w, 'p, 'a>,
     packages: &'u [&'u Pkg<'a>],
     known: Known<'a>,
 }
 
-impl<'u, 'p, 'a> Model for Facts<'u, 'p, 'a> {
+impl<'u, 'w, 'p, 'a> Model for Facts<'u, 'w, 'p, 'a> {
     ghost use Rattle.std.specs.Prelude.{◌≡◌, map};
     ghost use Rattle.rules.specs.Universe.{Universe as UniverseValue};
     ghost use Rattle.universe.specs.Universe.{packages_of};
@@ -32,10 +32,10 @@ impl<'u, 'p, 'a> Model for Facts<'u, 'p, 'a> {
 
     ghost Value = { UniverseValue };
 
-    ghost view = { λ f. f.universe.now };
+    ghost view = { λ f. f.part.now };
 
-    ghost invariant = { λ f. (map (λ pkg. pkg.now) f.packages.now ≡ packages_of f.universe.now.pairs)
-        × AreListed (places_in f.known) (packages_of f.universe.now.pairs) };
+    ghost invariant = { λ f. (map (λ pkg. pkg.now) f.packages.now ≡ packages_of f.part.now.pairs)
+        × AreListed (places_in f.known) (packages_of f.part.now.pairs) };
 }
 
 /// The number of what is at a place; an error where it is above 4,294,967,295.
@@ -59,20 +59,20 @@ fn push_new(numbers: &mut Vec<u32>, new: u32) -> Result<(), AllocError>
     Ok(())
 }
 
-impl<'u, 'p, 'a> Facts<'u, 'p, 'a> {
-    /// The facts of the universe, whose packages these are. Memory alone can fail. Costs what `Known::of_packages` says.
+impl<'u, 'w, 'p, 'a> Facts<'u, 'w, 'p, 'a> {
+    /// The facts of the part, whose packages these are. Memory alone can fail. Costs what `Known::of_packages` says.
     pub(crate) fn new(
         alloc: Global,
-        universe: &'u Universe<'p, 'a>,
+        part: &'u Part<'w, 'p, 'a>,
         packages: &'u [&'u Pkg<'a>],
-    ) -> Result<Facts<'u, 'p, 'a>, AllocError>
-        requires { map (λ pkg. pkg.now) packages.now ≡ packages_of universe.now.pairs }
-        ensures { IfOk result (λ facts. facts ≡ universe.now) }
+    ) -> Result<Facts<'u, 'w, 'p, 'a>, AllocError>
+        requires { map (λ pkg. pkg.now) packages.now ≡ packages_of part.now.pairs }
+        ensures { IfOk result (λ facts. facts ≡ part.now) }
     {
-        let known = Known::of_packages(alloc, universe, packages)?;
+        let known = Known::of_packages(alloc, part, packages)?;
         Ok(Facts {
             alloc,
-            universe,
+            part,
             packages,
             known,
         })
@@ -83,11 +83,18 @@ impl<'u, 'p, 'a> Facts<'u, 'p, 'a> {
         self.alloc
     }
 
-    /// The universe.
-    pub(crate) fn universe(&self) -> &'u Universe<'p, 'a>
+    /// The part of a universe.
+    pub(crate) fn part(&self) -> &'u Part<'w, 'p, 'a>
         ensures { result.now ≡ self.now }
     {
-        self.universe
+        self.part
+    }
+
+    /// How many pairs there are.
+    pub(crate) fn count(&self) -> usize
+        ensures { result ≡ length self.now.pairs }
+    {
+        self.part.pairs().len()
     }
 
     /// The package of the pair at this place.

@@ -38,7 +38,7 @@ fn literal_of(is_selected: bool, pair: u32) -> Literal
 
 // What a goal says of one pair.
 fn add_on<'a>(
-    facts: &Facts<'_, '_, 'a>,
+    facts: &Facts<'_, '_, '_, 'a>,
     encoding: &mut Encoding<'a>,
     number: u32,
     pair: u32,
@@ -53,7 +53,7 @@ fn add_on<'a>(
 
 // What a goal says of each of these pairs.
 fn add_on_each<'a>(
-    facts: &Facts<'_, '_, 'a>,
+    facts: &Facts<'_, '_, '_, 'a>,
     encoding: &mut Encoding<'a>,
     number: u32,
     pairs: &[u32],
@@ -69,11 +69,11 @@ fn add_on_each<'a>(
 }
 
 // The literals that the candidate of the name is selected, if it is admitted.
-fn candidate_selected(facts: &Facts<'_, '_, '_>, name: &[u8]) -> Result<Vec<Literal>, AllocError>
+fn candidate_selected(facts: &Facts<'_, '_, '_, '_>, name: &[u8]) -> Result<Vec<Literal>, AllocError>
     ensures { IfOk result (λ literals. IsListOf (Selects facts.now
         (λ pkg. MatchOption (candidate_of facts.now name.now) ⊥ (λ candidate. IsOf name.now candidate pkg))) literals.items) }
 {
-    match facts.universe().candidate(name) {
+    match facts.part().candidate(name) {
         None => Ok(Vec::new(facts.alloc())),
         Some(version) => {
             let literals = some_asked(facts, Query::InVersion(name, version))?;
@@ -100,13 +100,13 @@ fn higher<'k, 'a>(
 }
 
 // The pairs that an upgrade of all asks for in place of what the start says of a name.
-fn upgrades_of(facts: &Facts<'_, '_, '_>, start: &Start<'_>) -> Result<Vec<u32>, AllocError>
+fn upgrades_of(facts: &Facts<'_, '_, '_, '_>, start: &Start<'_>) -> Result<Vec<u32>, AllocError>
     ensures { IfOk result (λ pairs. (pair : ℕ) → Contains pairs.items pair ↔ IsUpgradeOf facts.now start.now pair) }
 {
     if start.is_held() {
         return Ok(Vec::new(facts.alloc()));
     }
-    match higher(start.standing(), facts.universe().candidate(start.name())) {
+    match higher(start.standing(), facts.part().candidate(start.name())) {
         None => Ok(Vec::new(facts.alloc())),
         Some(version) => {
             let pairs = facts.asked(Query::InVersion(start.name(), version))?;
@@ -117,7 +117,7 @@ fn upgrades_of(facts: &Facts<'_, '_, '_>, start: &Start<'_>) -> Result<Vec<u32>,
 
 // What an upgrade of all asks for in place of what the start says of one name.
 fn add_upgrades_of<'a>(
-    facts: &Facts<'_, '_, 'a>,
+    facts: &Facts<'_, '_, '_, 'a>,
     encoding: &mut Encoding<'a>,
     number: u32,
     start: &Start<'a>,
@@ -132,14 +132,14 @@ fn add_upgrades_of<'a>(
 
 // What an upgrade of all asks for.
 fn add_upgrades<'a>(
-    facts: &Facts<'_, '_, 'a>,
+    facts: &Facts<'_, '_, '_, 'a>,
     encoding: &mut Encoding<'a>,
     number: u32,
 ) -> Result<(), AllocError>
     requires { item_at facts.now.goals number ≡ Some Goal.UpgradeAll }
     ensures { OnOk result (Grows facts.now encoding.old encoding.new (λ found. IsPremise facts.now found × IsOfGoal number found)) }
 {
-    let starts = facts.universe().starts();
+    let starts = facts.part().starts();
     for start in starts {
         add_upgrades_of(facts, encoding, number, start)?;
     }
@@ -148,7 +148,7 @@ fn add_upgrades<'a>(
 
 // That no pair of the name is selected.
 fn add_removal<'a>(
-    facts: &Facts<'_, '_, 'a>,
+    facts: &Facts<'_, '_, '_, 'a>,
     encoding: &mut Encoding<'a>,
     number: u32,
     name: &[u8],
@@ -163,7 +163,7 @@ fn add_removal<'a>(
 
 // That one of these pairs is selected.
 fn add_asked<'a>(
-    facts: &Facts<'_, '_, 'a>,
+    facts: &Facts<'_, '_, '_, 'a>,
     encoding: &mut Encoding<'a>,
     number: u32,
     literals: &[Literal],
@@ -178,7 +178,7 @@ fn add_asked<'a>(
 
 // What the goal of a number asks for.
 fn add_goal<'a>(
-    facts: &Facts<'_, '_, 'a>,
+    facts: &Facts<'_, '_, '_, 'a>,
     encoding: &mut Encoding<'a>,
     number: u32,
     goal: &Goal,
@@ -205,12 +205,12 @@ fn add_goal<'a>(
 /// What each goal asks for, goal by goal. Memory alone can fail. Linear in the packages that have or provide a name that
 /// is asked for, and for an upgrade of all in the start.
 pub(crate) fn add_goals<'a>(
-    facts: &Facts<'_, '_, 'a>,
+    facts: &Facts<'_, '_, '_, 'a>,
     encoding: &mut Encoding<'a>,
 ) -> Result<(), AllocError>
     ensures { OnOk result (Grows facts.now encoding.old encoding.new (λ found. IsPremise facts.now found × IsGoalAsked found)) }
 {
-    let goals = facts.universe().goals();
+    let goals = facts.part().goals();
     for (place, goal) in goals.iter().enumerate() {
         let number = number_at(place)?;
         add_goal(facts, encoding, number, goal)?;

@@ -6,10 +6,10 @@ ghost use Rattle.encode.specs.Known.{AreItemsListed, AreListed, AtEach, IsAt, Is
 
 use crate::place_list::PlaceList;
 use indexmap::IndexMap;
+use reach::Part;
 use relation::{Pkg, Provided};
 use std::alloc::{AllocError, Global};
 use std::marker::Model;
-use universe::Universe;
 
 /// For each name the places of all packages that have or provide it, in the order in which they are preferred.
 /// `numbers` has the number of the list of each name.
@@ -44,9 +44,9 @@ pub(crate) fn lent_at<'u, 'a>(packages: &'u [&'u Pkg<'a>], place: usize) -> Opti
 }
 
 // Whether the package provides something, and its name was present at the start.
-fn provides_as_present(universe: &Universe<'_, '_>, pkg: &Pkg<'_>) -> bool {
+fn provides_as_present(part: &Part<'_, '_, '_>, pkg: &Pkg<'_>) -> bool {
     !pkg.provides().is_empty()
-        && universe
+        && part
             .start(pkg.name())
             .is_some_and(|start| start.is_present())
 }
@@ -125,8 +125,8 @@ impl<'a> Known<'a> {
     }
 
     // Enters what stands.
-    fn enter_standing(&mut self, universe: &Universe<'_, 'a>) -> Result<(), AllocError> {
-        for (place, pair) in universe.pairs().iter().enumerate() {
+    fn enter_standing(&mut self, part: &Part<'_, '_, 'a>) -> Result<(), AllocError> {
+        for (place, pair) in part.pairs().iter().enumerate() {
             if let Some(pkg) = pair.standing_pkg() {
                 self.add(pkg.name(), place)?;
                 self.add_items(pkg.provides(), place)?;
@@ -162,13 +162,13 @@ impl<'a> Known<'a> {
     // Enters the place for what the package provides, if its name was present.
     fn enter_if_present(
         &mut self,
-        universe: &Universe<'_, 'a>,
+        part: &Part<'_, '_, 'a>,
         pkg: &Pkg<'a>,
         place: usize,
     ) -> Result<(), AllocError>
         ensures { KeepsPlaces (places_in self.old) (places_in self.new) }
     {
-        if !provides_as_present(universe, pkg) {
+        if !provides_as_present(part, pkg) {
             return Ok(());
         }
         self.add_items(pkg.provides(), place)
@@ -177,13 +177,13 @@ impl<'a> Known<'a> {
     // Enters what packages provide whose name was present.
     fn enter_present(
         &mut self,
-        universe: &Universe<'_, 'a>,
+        part: &Part<'_, '_, 'a>,
         packages: &[&Pkg<'a>],
     ) -> Result<(), AllocError>
         ensures { KeepsPlaces (places_in self.old) (places_in self.new) }
     {
         for (place, pkg) in packages.iter().enumerate() {
-            self.enter_if_present(universe, pkg, place)?;
+            self.enter_if_present(part, pkg, place)?;
         }
         Ok(())
     }
@@ -213,19 +213,19 @@ impl<'a> Known<'a> {
         Ok(())
     }
 
-    /// The packages, which are those of the universe, by the names that they have or provide. Memory alone can fail. Linear in
+    /// The packages, which are those of the part, by the names that they have or provide. Memory alone can fail. Linear in
     /// these names.
     pub(crate) fn of_packages(
         alloc: Global,
-        universe: &Universe<'_, 'a>,
+        part: &Part<'_, '_, 'a>,
         packages: &[&Pkg<'a>],
     ) -> Result<Known<'a>, AllocError>
         ensures { IfOk result (λ known. AreListed (places_in known) (map (λ pkg. pkg.now) packages.now)) }
     {
         let mut known = Known::new(alloc);
-        known.enter_standing(universe)?;
+        known.enter_standing(part)?;
         known.add_names(packages)?;
-        known.enter_present(universe, packages)?;
+        known.enter_present(part, packages)?;
         known.add_provided(packages)?;
         Ok(known)
     }

@@ -26,7 +26,7 @@ fn push_selected(literals: &mut Vec<Literal>, numbers: &[u32]) -> Result<(), All
 
 /// That one of the pairs is selected whose packages are asked for. Memory alone can fail.
 pub(crate) fn some_asked(
-    facts: &Facts<'_, '_, '_>,
+    facts: &Facts<'_, '_, '_, '_>,
     query: Query<'_, '_>,
 ) -> Result<Vec<Literal>, AllocError>
     ensures { IfOk result (λ literals. IsListOf (Selects facts.now (IsAsked query.entry)) literals.items) }
@@ -39,7 +39,7 @@ pub(crate) fn some_asked(
 
 /// That the pair isn't selected, or one is that matches one of the atoms. Memory alone can fail.
 pub(crate) fn out_or_matching(
-    facts: &Facts<'_, '_, '_>,
+    facts: &Facts<'_, '_, '_, '_>,
     number: u32,
     atoms: &[Atom<'_>],
 ) -> Result<Vec<Literal>, AllocError>

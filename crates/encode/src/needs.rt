@@ -16,7 +16,7 @@ use std::alloc::AllocError;
 
 // The clause of Pre-Depends at a place, of the pair of a number whose package this is.
 fn add_pre_depends_at<'a>(
-    facts: &Facts<'_, '_, 'a>,
+    facts: &Facts<'_, '_, '_, 'a>,
     encoding: &mut Encoding<'a>,
     number: u32,
     pkg: &Pkg<'a>,
@@ -38,7 +38,7 @@ fn add_pre_depends_at<'a>(
 
 // The clause of Depends at a place, of the pair of a number whose package this is.
 fn add_depends_at<'a>(
-    facts: &Facts<'_, '_, 'a>,
+    facts: &Facts<'_, '_, '_, 'a>,
     encoding: &mut Encoding<'a>,
     number: u32,
     pkg: &Pkg<'a>,
@@ -59,7 +59,7 @@ fn add_depends_at<'a>(
 }
 
 fn add_pre_depends<'a>(
-    facts: &Facts<'_, '_, 'a>,
+    facts: &Facts<'_, '_, '_, 'a>,
     encoding: &mut Encoding<'a>,
     number: u32,
     pkg: &Pkg<'a>,
@@ -74,7 +74,7 @@ fn add_pre_depends<'a>(
 }
 
 fn add_depends<'a>(
-    facts: &Facts<'_, '_, 'a>,
+    facts: &Facts<'_, '_, '_, 'a>,
     encoding: &mut Encoding<'a>,
     number: u32,
     pkg: &Pkg<'a>,
@@ -90,7 +90,7 @@ fn add_depends<'a>(
 
 // What the pair of a number needs whose package this is.
 fn add_needs_of<'a>(
-    facts: &Facts<'_, '_, 'a>,
+    facts: &Facts<'_, '_, '_, 'a>,
     encoding: &mut Encoding<'a>,
     number: u32,
     pkg: &Pkg<'a>,
@@ -107,7 +107,7 @@ fn add_needs_of<'a>(
 
 // What the pair at a place needs, if there is one.
 fn add_needs_at<'a>(
-    facts: &Facts<'_, '_, 'a>,
+    facts: &Facts<'_, '_, '_, 'a>,
     encoding: &mut Encoding<'a>,
     place: usize,
 ) -> Result<(), AllocError>
@@ -126,13 +126,12 @@ fn add_needs_at<'a>(
 /// What each pair needs, pair by pair. Memory alone can fail. For each atom linear in the packages that have or provide
 /// its name.
 pub(crate) fn add_needs<'a>(
-    facts: &Facts<'_, '_, 'a>,
+    facts: &Facts<'_, '_, '_, 'a>,
     encoding: &mut Encoding<'a>,
 ) -> Result<(), AllocError>
     ensures { OnOk result (Grows facts.now encoding.old encoding.new (λ found. IsPremise facts.now found × IsNeed found)) }
 {
-    let pairs = facts.universe().pairs();
-    for place in 0..pairs.len() {
+    for place in 0..facts.count() {
         add_needs_at(facts, encoding, place)?;
     }
     Ok(())

@@ -14,14 +14,15 @@ use crate::goals::add_goals;
 use crate::needs::add_needs;
 use crate::starts::add_starts;
 use crate::wishes::add_wishes;
+use reach::Part;
 use std::alloc::{AllocError, Global};
 use universe::{Universe, lend_packages};
 
 // How many pairs there are.
-fn count_of(facts: &Facts<'_, '_, '_>) -> Result<u32, AllocError>
+fn count_of(facts: &Facts<'_, '_, '_, '_>) -> Result<u32, AllocError>
     ensures { IfOk result (λ count. count ≡ length facts.now.pairs) }
 {
-    match u32::try_from(facts.universe().pairs().len()) {
+    match u32::try_from(facts.count()) {
         Ok(count) => Ok(count),
         Err(_) => Err(AllocError),
     }
@@ -29,7 +30,7 @@ fn count_of(facts: &Facts<'_, '_, '_>) -> Result<u32, AllocError>
 
 // Every premise, each with its clause.
 fn add_premises<'a>(
-    facts: &Facts<'_, '_, 'a>,
+    facts: &Facts<'_, '_, '_, 'a>,
     encoding: &mut Encoding<'a>,
 ) -> Result<(), AllocError>
     ensures { OnOk result (Grows facts.now encoding.old encoding.new (IsPremise facts.now)) }
@@ -43,7 +44,7 @@ fn add_premises<'a>(
 }
 
 // Every premise, and what is wished.
-fn gathered<'a>(facts: &Facts<'_, '_, 'a>) -> Result<Encoding<'a>, AllocError>
+fn gathered<'a>(facts: &Facts<'_, '_, '_, 'a>) -> Result<Encoding<'a>, AllocError>
     ensures { IfOk result (λ encoding. IsEncoding facts.now encoding) }
 {
     let count = count_of(facts)?;
@@ -53,15 +54,25 @@ fn gathered<'a>(facts: &Facts<'_, '_, 'a>) -> Result<Encoding<'a>, AllocError>
     Ok(encoding)
 }
 
+/// The clauses of a part of a universe, which is a universe by itself: every premise, each with its clause over the numbers of
+/// the part's pairs. For each atom the cost is that of the packages that have or provide its name; n pairs that conflict with
+/// each other have n * n clauses. Memory alone can fail; more than 2,147,483,647 pairs, or 4,294,967,295 goals or clauses of a
+/// field, are answered as want of it.
+pub fn encode_part<'a>(alloc: Global, part: &Part<'_, '_, 'a>) -> Result<Encoding<'a>, AllocError>
+    ensures { IfOk result (λ encoding. IsEncoding part.now encoding) }
+{
+    let lent = lend_packages(alloc, part.packages())?;
+    let facts = Facts::new(alloc, part, lent.as_slice())?;
+    let encoding = gathered(&facts)?;
+    Ok(encoding)
+}
+
 /// The clauses of the universe: every premise, each with its clause over the numbers of the pairs. The packages of all
-/// pairs are read once; for each atom the cost is that of the packages that have or provide its name. Memory alone can
-/// fail; more than 2,147,483,647 pairs, or 4,294,967,295 goals or clauses of a field, are answered as want of it.
+/// pairs are read once, and then it costs what `encode_part` says. Memory alone can fail.
 pub fn encode<'a>(alloc: Global, universe: &Universe<'_, 'a>) -> Result<Encoding<'a>, AllocError>
     ensures { IfOk result (λ encoding. IsEncoding universe.now encoding) }
 {
-    let packages = universe.packages(alloc)?;
-    let lent = lend_packages(alloc, packages.as_slice())?;
-    let facts = Facts::new(alloc, universe, lent.as_slice())?;
-    let encoding = gathered(&facts)?;
+    let part = Part::whole(alloc, universe)?;
+    let encoding = encode_part(alloc, &part)?;
     Ok(encoding)
 }

@@ -22,7 +22,7 @@ use universe::Start;
 
 // That each of these pairs is selected, which are versions that stand of held names.
 fn add_holds<'a>(
-    facts: &Facts<'_, '_, 'a>,
+    facts: &Facts<'_, '_, '_, 'a>,
     encoding: &mut Encoding<'a>,
     pairs: &[u32],
 ) -> Result<(), AllocError>
@@ -36,7 +36,7 @@ fn add_holds<'a>(
 }
 
 // The pairs of the version that stands, where the name is held.
-fn held_pairs(facts: &Facts<'_, '_, '_>, start: &Start<'_>) -> Result<Vec<u32>, AllocError>
+fn held_pairs(facts: &Facts<'_, '_, '_, '_>, start: &Start<'_>) -> Result<Vec<u32>, AllocError>
     ensures { IfOk result (λ pairs. (pair : ℕ) → Contains pairs.items pair ↔ PairHas facts.now pair (IsHeldBy start.now)) }
 {
     match start.standing() {
@@ -50,7 +50,7 @@ fn held_pairs(facts: &Facts<'_, '_, '_>, start: &Start<'_>) -> Result<Vec<u32>, 
 
 // That a held name keeps its version.
 fn add_hold<'a>(
-    facts: &Facts<'_, '_, 'a>,
+    facts: &Facts<'_, '_, '_, 'a>,
     encoding: &mut Encoding<'a>,
     start: &Start<'a>,
 ) -> Result<(), AllocError>
@@ -63,7 +63,7 @@ fn add_hold<'a>(
 
 // That the essential name has a member.
 fn add_needed<'a>(
-    facts: &Facts<'_, '_, 'a>,
+    facts: &Facts<'_, '_, '_, 'a>,
     encoding: &mut Encoding<'a>,
     name: &'a [u8],
 ) -> Result<(), AllocError>
@@ -82,7 +82,7 @@ fn is_needed(start: &Start<'_>) -> bool
 
 // That an essential name which was present has a member.
 fn add_essential<'a>(
-    facts: &Facts<'_, '_, 'a>,
+    facts: &Facts<'_, '_, '_, 'a>,
     encoding: &mut Encoding<'a>,
     start: &Start<'a>,
 ) -> Result<(), AllocError>
@@ -97,7 +97,7 @@ fn add_essential<'a>(
 
 // That the name has a member.
 fn add_kept<'a>(
-    facts: &Facts<'_, '_, 'a>,
+    facts: &Facts<'_, '_, '_, 'a>,
     encoding: &mut Encoding<'a>,
     name: &'a [u8],
 ) -> Result<(), AllocError>
@@ -116,7 +116,7 @@ fn stands(start: &Start<'_>) -> bool
 
 // That a name which stands has a member, where nothing is to be removed.
 fn add_keep<'a>(
-    facts: &Facts<'_, '_, 'a>,
+    facts: &Facts<'_, '_, '_, 'a>,
     encoding: &mut Encoding<'a>,
     keeps: bool,
     start: &Start<'a>,
@@ -136,7 +136,7 @@ fn add_keep<'a>(
 
 // What the start says of one name.
 fn add_start<'a>(
-    facts: &Facts<'_, '_, 'a>,
+    facts: &Facts<'_, '_, '_, 'a>,
     encoding: &mut Encoding<'a>,
     keeps: bool,
     start: &Start<'a>,
@@ -164,13 +164,13 @@ fn has_no_remove(goals: &[Goal]) -> bool
 
 /// What the start asks for, name by name. Memory alone can fail. Linear in the start.
 pub(crate) fn add_starts<'a>(
-    facts: &Facts<'_, '_, 'a>,
+    facts: &Facts<'_, '_, '_, 'a>,
     encoding: &mut Encoding<'a>,
 ) -> Result<(), AllocError>
     ensures { OnOk result (Grows facts.now encoding.old encoding.new (λ found. IsPremise facts.now found × IsOfStart found)) }
 {
-    let keeps = has_no_remove(facts.universe().goals());
-    let starts = facts.universe().starts();
+    let keeps = has_no_remove(facts.part().goals());
+    let starts = facts.part().starts();
     for start in starts {
         add_start(facts, encoding, keeps, start)?;
     }

@@ -6,22 +6,23 @@ use crate::encoding::Encoding;
 use crate::facts::Facts;
 use crate::query::Query;
 use debversion::Version;
+use reach::Part;
 use std::alloc::{AllocError, Global};
-use universe::{Start, Universe};
+use universe::Start;
 
 // Whether the pair of this number is of this version.
-fn is_in_version(universe: &Universe<'_, '_>, number: u32, version: Option<&Version<'_>>) -> bool {
-    match (universe.pair(number), version) {
+fn is_in_version(part: &Part<'_, '_, '_>, number: u32, version: Option<&Version<'_>>) -> bool {
+    match (part.pair(number), version) {
         (Some(pair), Some(version)) => pair.version() == version,
         _ => false,
     }
 }
 
 // How well a pair fits the wish: what stood is best, then the candidate, then higher versions.
-fn rank_of(universe: &Universe<'_, '_>, start: &Start<'_>, number: u32) -> u8 {
-    if is_in_version(universe, number, start.standing()) {
+fn rank_of(part: &Part<'_, '_, '_>, start: &Start<'_>, number: u32) -> u8 {
+    if is_in_version(part, number, start.standing()) {
         0
-    } else if is_in_version(universe, number, universe.candidate(start.name())) {
+    } else if is_in_version(part, number, part.candidate(start.name())) {
         1
     } else {
         2
@@ -29,25 +30,25 @@ fn rank_of(universe: &Universe<'_, '_>, start: &Start<'_>, number: u32) -> u8 {
 }
 
 // The numbers of the pairs of the name, the best first.
-fn best_first(facts: &Facts<'_, '_, '_>, start: &Start<'_>) -> Result<Vec<u32>, AllocError> {
+fn best_first(facts: &Facts<'_, '_, '_, '_>, start: &Start<'_>) -> Result<Vec<u32>, AllocError> {
     let mut numbers = facts.asked(Query::Named(start.name()))?;
     numbers.reverse();
     numbers.as_mut_slice().sort_by_key(
         facts.alloc(),
-        |number| rank_of(facts.universe(), start, *number),
+        |number| rank_of(facts.part(), start, *number),
     )?;
     Ok(numbers)
 }
 
 // The wishes of the names that were present and have one pair, or of those that have several.
 fn add_wishes_of(
-    facts: &Facts<'_, '_, '_>,
+    facts: &Facts<'_, '_, '_, '_>,
     encoding: &mut Encoding<'_>,
     alone: bool,
 ) -> Result<(), AllocError>
     ensures { OnOk result (encoding.new ≡ encoding.old) }
 {
-    for start in facts.universe().starts() {
+    for start in facts.part().starts() {
         if start.is_present() {
             let numbers = best_first(facts, start)?;
             if !numbers.is_empty() && (numbers.len() == 1) == alone {
@@ -60,7 +61,7 @@ fn add_wishes_of(
 
 /// The wishes, those first that leave no choice. They change no clause. Memory alone can fail. Linear in the start.
 pub(crate) fn add_wishes(
-    facts: &Facts<'_, '_, '_>,
+    facts: &Facts<'_, '_, '_, '_>,
     encoding: &mut Encoding<'_>,
 ) -> Result<(), AllocError>
     ensures { OnOk result (encoding.new ≡ encoding.old) }

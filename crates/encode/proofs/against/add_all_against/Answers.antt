@@ -1,6 +1,5 @@
 -- One pair more.
-use Rattle.std.proofs.Common.{◌≡◌, ◌∙◌, ◌+◌, ℕ, ap, length, subst, arith}
-use Rattle.rules.specs.Universe.{Universe}
+use Rattle.std.proofs.Common.{◌≡◌, ◌+◌, ℕ, length, subst, arith}
 use Rattle.refutation.specs.Premise.{IsPremise}
 use Rattle.refutation.specs.declared.line.Premise.{Premise}
 use Rattle.encode.specs.Growing.{Grows, IsAgainst, IsAgainstOf, IsOfFirst}
@@ -21,6 +20,5 @@ returns c =
     let Over : ℕ → Type 0 = λ count. Grows c.args.facts.now c.args.encoding.now c.loop-place.encoding (IsOfFirst Kind count) in
     in_words c.args.facts.now c.args.encoding.now c.loop-place.encoding (IsOfFirst Kind (length c.args.facts.now.pairs))
     (λ found. IsPremise c.args.facts.now found × IsAgainst found) (all_pairs_against c.args.facts.now)
-    (let end : c.loop-place.place ≡ length c.pairs-pairs.result.now = omega arith in
-    let same : c.pairs-pairs.result.now ≡ c.args.facts.now.pairs = c.pairs-pairs.ensures.items ∙ ap (λ (u : Universe). u.pairs) c.universe.ensures in
-    let count : c.loop-place.place ≡ length c.args.facts.now.pairs = end ∙ ap length same in subst Over count c.loop-place.invariant)
+    (let count : c.loop-place.place ≡ length c.args.facts.now.pairs = omega (arith, c.count.ensures) in
+    subst Over count c.loop-place.invariant)

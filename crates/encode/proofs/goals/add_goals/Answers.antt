@@ -18,7 +18,7 @@ loop-place-init c = by_first_none c.args.facts.now c.args.encoding.now (λ place
 pub add_goal-requires : goal.add_goal-requires
 add_goal-requires c =
     let There : List Goal → Type 0 = λ xs. slice_get xs c.loop-place.place ≡ Some c.index-goals-place.result in
-    let same : c.goals-goals.result.now ≡ c.args.facts.now.goals = c.goals-goals.ensures ∙ ap (λ (u : Universe). u.goals) c.universe.ensures in
+    let same : c.goals-goals.result.now ≡ c.args.facts.now.goals = c.goals-goals.ensures ∙ ap (λ (u : Universe). u.goals) c.part.ensures in
     at_place c.args.facts.now.goals c.in_ok-number.number c.loop-place.place c.index-goals-place.result c.in_ok-number.ensures
     (subst There same (there_at c.goals-goals.result.now c.loop-place.place c.index-goals-place.result c.loop-place-test.true c.index-goals-place.is))
 
@@ -36,5 +36,5 @@ returns c =
     in_words c.args.facts.now c.args.encoding.now c.loop-place.encoding (IsOfFirst Kind (length c.args.facts.now.goals))
     (λ found. IsPremise c.args.facts.now found × IsGoalAsked found) (all_goals c.args.facts.now)
     (let end : c.loop-place.place ≡ length c.goals-goals.result.now = omega arith in
-    let same : c.goals-goals.result.now ≡ c.args.facts.now.goals = c.goals-goals.ensures ∙ ap (λ (u : Universe). u.goals) c.universe.ensures in
+    let same : c.goals-goals.result.now ≡ c.args.facts.now.goals = c.goals-goals.ensures ∙ ap (λ (u : Universe). u.goals) c.part.ensures in
     let count : c.loop-place.place ≡ length c.args.facts.now.goals = end ∙ ap length same in subst Over count c.loop-place.invariant)

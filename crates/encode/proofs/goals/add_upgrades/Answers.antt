@@ -26,7 +26,7 @@ pub returns : goal.returns
 returns c =
     let Kind : List Start → Premise → Type 0 = λ xs found. Any (λ start. IsUpgradeBy c.args.facts.now c.args.number start found) xs in
     let Over : List Start → Type 0 = λ xs. Grows c.args.facts.now c.args.encoding.now c.loop-start.encoding (Kind xs) in
-    let same : c.starts-starts.result.now ≡ c.args.facts.now.starts = c.starts-starts.ensures ∙ ap (λ (u : Universe). u.starts) c.universe.ensures in
+    let same : c.starts-starts.result.now ≡ c.args.facts.now.starts = c.starts-starts.ensures ∙ ap (λ (u : Universe). u.starts) c.part.ensures in
     in_words c.args.facts.now c.args.encoding.now c.loop-start.encoding (Kind c.args.facts.now.starts) (λ found. IsPremise c.args.facts.now found × IsOfGoal c.args.number found)
     (upgrade_premises c.args.facts.now c.args.number c.requires)
     (subst Over same (subst Over (take_all c.loop-start.start-index c.starts-starts.result.now c.loop-start-test.false) c.loop-start.invariant))
