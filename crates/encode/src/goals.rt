@@ -69,7 +69,10 @@ fn add_on_each<'a>(
 }
 
 // The literals that the candidate of the name is selected, if it is admitted.
-fn candidate_selected(facts: &Facts<'_, '_, '_, '_>, name: &[u8]) -> Result<Vec<Literal>, AllocError>
+fn candidate_selected(
+    facts: &Facts<'_, '_, '_, '_>,
+    name: &[u8],
+) -> Result<Vec<Literal>, AllocError>
     ensures { IfOk result (λ literals. IsListOf (Selects facts.now
         (λ pkg. MatchOption (candidate_of facts.now name.now) ⊥ (λ candidate. IsOf name.now candidate pkg))) literals.items) }
 {

@@ -14,12 +14,14 @@ pub extends_one : (marks others : List Bool) (order longer : List ℕ) (place : 
     → longer ≡ order ++ place ∷ []
     → Extends (record { marks = marks; order = order }) (record { marks = others; order = longer })
 extends_one marks others order longer place same marked long grown = record {
-  ordered = λ is. record { each = λ other there. elim (eqb_tells other place) [
-    | inl one ↦ subst (λ (xs : List ℕ). Contains xs other) (sym grown) (Contains-append_right order (place ∷ []) other
-        (subst (λ (n : ℕ). Contains (n ∷ []) other) one.1 (Contains-head other [])))
-    | inr differs ↦ subst (λ (xs : List ℕ). Contains xs other) (sym grown) (Contains-append_left order (place ∷ []) other
-        (is.each other (sym (same other differs.1) ∙ there)))
-  ] };
+  ordered = λ is. record {
+    each = λ other there. elim (eqb_tells other place) [
+      | inl one ↦ subst (λ (xs : List ℕ). Contains xs other) (sym grown) (Contains-append_right order (place ∷ []) other
+          (subst (λ (n : ℕ). Contains (n ∷ []) other) one.1 (Contains-head other [])))
+      | inr differs ↦ subst (λ (xs : List ℕ). Contains xs other) (sym grown) (Contains-append_left order (place ∷ []) other
+          (is.each other (sym (same other differs.1) ∙ there)))
+    ];
+  };
   kept = λ other is. elim (eqb_tells other place) [
     | inl one ↦ ap (has others) one.1 ∙ marked
     | inr differs ↦ same other differs.1 ∙ is
