@@ -20,5 +20,5 @@ returns c =
     let Over : ℕ → Type 0 = λ count. Grows c.args.facts.now c.args.encoding.now c.loop-place.encoding (IsOfFirst Kind count) in
     in_words c.args.facts.now c.args.encoding.now c.loop-place.encoding (IsOfFirst Kind (length c.args.facts.now.pairs))
     (λ found. IsPremise c.args.facts.now found × IsAgainst found) (all_pairs_against c.args.facts.now)
-    (let count : c.loop-place.place ≡ length c.args.facts.now.pairs = omega (arith, c.count.ensures) in
+    (let count : c.loop-place.place ≡ length c.args.facts.now.pairs = omega (arith, c.count-place-end.ensures) in
     subst Over count c.loop-place.invariant)
