@@ -30,8 +30,16 @@ two_by_first clause at first is there = let found = position-Some is_positive cl
     by : (b : Bool) → (one : ℤ) → int_eq one first ≡ b → Contains clause one → IsTrue (is_positive one) → Any (IsOtherThan one) clause
         → Any (IsOtherThan first) clause
     by true one same within selected others = subst (λ literal. Any (IsOtherThan literal) clause) ((Decides-int_eq one first).0 same) others
-    by false one differs within selected others = (within.0, one, within.1, within.2, (selected,
-        λ same. absurd (let h = (Decides-int_eq one first).1 same in cc)))
+    by false one differs within selected others = (
+      within.0,
+      one,
+      within.1,
+      within.2,
+      (
+        selected,
+        λ same. absurd (let h = (Decides-int_eq one first).1 same in cc),
+      ),
+    )
 
 -- with none it leaves no choice
 pub none_by_first : (clause : List ℤ) → position is_positive clause ≡ None → ¬ HasTwo clause
