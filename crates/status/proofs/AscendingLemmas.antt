@@ -1,5 +1,5 @@
 -- Places that ascend still do where one is put among them, and where one is taken out and those behind it move down.
-use Rattle.std.proofs.Common.{◌≡◌, ◌≢◌, ◌==◌, ℕ, zero, suc, ◌+◌, ◌<◌, ◌≤◌, true, not, ◌⊎◌, inl, inr, List, [], ◌∷◌, map, length, get_or, refl, sym, ap, subst, ◌∙◌, arith}
+use Rattle.std.proofs.Common.{◌≡◌, ◌≢◌, ◌==◌, ℕ, zero, suc, ◌+◌, ◌<◌, ◌≤◌, true, not, ◌⊎◌, inl, inr, List, [], ◌∷◌, map, length, get_or, sym, ap, subst, ◌∙◌, arith}
 use Rattle.std.proofs.Math.ListN.{length-map}
 use Rattle.std.specs.List.{filter, insert}
 use Rattle.std.proofs.lemmas.Bool.{cases_order}
@@ -112,7 +112,7 @@ left-ascends gone places up i j d earlier inside =
     other k inside same = elim (eqb_tells (get_or (filter (λ (place : ℕ). not (place == gone)) places) k 0) gone) [
       | inl (is, told) ↦ absurd (
           let passes = All-get_or (λ (place : ℕ). not (place == gone) ≡ true) (filter (λ (place : ℕ). not (place == gone)) places) k 0 inside
-              (filter_passes (λ (place : ℕ). not (place == gone)) places) in
+          (filter_passes (λ (place : ℕ). not (place == gone)) places) in
           let fails = is in cc)
       | inr (is, differ) ↦ differ same
     ]
