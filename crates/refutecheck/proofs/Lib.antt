@@ -7,3 +7,4 @@ pub mod StartLemmas
 pub mod GoalLemmas
 pub mod AnswerLemmas
 pub mod LineLemmas
+pub mod KeptLemmas

@@ -1,9 +1,10 @@
 -- Lines with the lists of their clauses, one after another, and the verdict on them.
-use Rattle.std.proofs.Common.{◌≡◌, ℕ, ◌+◌, ◌<◌, ◌≤◌, List, [], ◌∷◌, ◌++◌, length, take, drop, get_or, refl, sym, ap, subst, ◌∙◌, length-append}
+use Rattle.std.proofs.Common.{◌≡◌, ℕ, zero, suc, ◌+◌, ◌<◌, ◌≤◌, List, [], ◌∷◌, ◌++◌, Some, length, take, drop, get_or, slice_get, refl, sym, ap, subst, ◌∙◌, arith, length-append}
 use Rattle.std.specs.Prelude.{◌↔◌}
 use Rattle.std.specs.List.{AllZip, Contains}
 use Rattle.std.specs.List.Sorted.{IsStrictlySortedBy}
-use Rattle.std.proofs.lemmas.List.{drop_more, take-append-drop, take_all, take_more}
+use Rattle.std.proofs.lemmas.List.{drop_more, length-take-le, take-append-drop, take_all}
+use Rattle.std.proofs.lemmas.Option.{get_or_from_slice_get, slice_get_within}
 use Rattle.rules.specs.ElementLaws.{Contains-head, Contains-nil}
 use Rattle.rules.specs.Universe.{Universe, pair_cmp}
 use Rattle.rules.proofs.Rising.{AllPairs-rising}
@@ -11,7 +12,7 @@ use Rattle.refutation.specs.Laws.{GoodLinesGrow, HasAscendingPairs, NoneIsAccept
 use Rattle.refutation.specs.Refutation.{AreGoodLines, EndsEmpty, IsAccepted, IsFirstBad, IsGoodLine}
 use Rattle.refutation.specs.declared.line.Line.{Line}
 use Rattle.refutation.specs.declared.literal.Literal.{Literal}
-use Rattle.refutecheck.specs.Answer.{EndsWithNone, IsClauseOf, IsVerdict, Refutes}
+use Rattle.refutecheck.specs.Answer.{AreJudged, EndsWithNone, IsClauseOf, IsRepeatedAt, IsVerdict, Refutes}
 use Rattle.refutecheck.specs.declared.verdict.Verdict.{Verdict}
 use Rattle.refutecheck.specs.declared.verdict.Verdict.TheVariants as verdict
 use mathlib.Core.Logic.{inl, inr}
@@ -82,29 +83,42 @@ ends_alike u lines clauses all = (to, from)
         let none : last.last ≡ [] = nothing_in last.last (λ found within. ends.empty found ((last.holds found).0 within)) in
         (last.earlier, last.place ∙ ap (λ (c : List Literal). last.earlier ++ c ∷ []) none)
 
--- lines with the lists of their clauses
-pub record AreJudged (u : Universe) (lines : List Line) (clauses : List (List Literal)) : Type 0 where
-  pub zip : AllZip (IsClauseOf u) lines clauses
-  pub good : AreGoodLines u lines
-  pub many : length clauses ≡ length lines
-
 -- one line more, which is good, with its clause
-pub one_line_more : (u : Universe) (lines : List Line) (clauses after : List (List Literal)) (index : ℕ) (d : Line) (clause : List Literal)
-    → GoodLinesGrow → index < length lines → AreJudged u (take index lines) clauses
-    → IsGoodLine u (take index lines) (get_or lines index d) → IsClauseOf u (get_or lines index d) clause
-    → after ≡ clauses ++ clause ∷ [] → AreJudged u (take (index + 1) lines) after
-one_line_more u lines clauses after index d clause grow within judged good list is =
-    let Over : List Line → Type 0 = λ done. AreJudged u done after in
-    subst Over (sym (take_more lines index d within)) (record {
-      zip = subst (AllZip (IsClauseOf u) (take index lines ++ last ∷ [])) (sym is)
-          (zip_push (IsClauseOf u) (take index lines) clauses last clause judged.zip list);
-      good = grow u (take index lines) last judged.good good;
-      many = ap length is ∙ length-append clauses (clause ∷ []) ∙ ap (λ n. n + 1) judged.many
-          ∙ sym (length-append (take index lines) (last ∷ []));
-    })
+pub one_line_more : (u : Universe) (lines : List Line) (clauses after : List (List Literal)) (line : Line) (clause : List Literal)
+    → GoodLinesGrow → AreJudged u lines clauses → IsGoodLine u lines line → IsClauseOf u line clause
+    → after ≡ clauses ++ clause ∷ [] → AreJudged u (lines ++ line ∷ []) after
+one_line_more u lines clauses after line clause grow judged good list is = record {
+  zip = subst (AllZip (IsClauseOf u) (lines ++ line ∷ [])) (sym is) (zip_push (IsClauseOf u) lines clauses line clause judged.zip list);
+  good = grow u lines line judged.good good;
+  many = ap length is ∙ length-append clauses (clause ∷ []) ∙ ap (λ n. n + 1) judged.many ∙ sym (length-append lines (line ∷ []));
+}
+
+-- the list of the line at a place
+zip_at : {X Y : Type 0} (R : X → Y → Type 0) (xs : List X) (ys : List Y) (place : ℕ) (x : X) (d : Y) → AllZip R xs ys
+    → slice_get xs place ≡ Some x → R x (get_or ys place d)
+zip_at R [] ys place x d all is = absurd (let h = is in cc)
+zip_at R (z ∷ zs) [] place x d all is = absurd all
+zip_at R (z ∷ zs) (w ∷ ws) zero x d all is = subst (λ v. R v w) (let h = is in cc) all.0
+zip_at R (z ∷ zs) (w ∷ ws) (suc place) x d all is = zip_at R zs ws place x d all.1 is
+
+-- a premise that was a line before is good once more, and has the clause of that line
+pub repeated_line : (u : Universe) (lines : List Line) (clauses : List (List Literal)) (place : ℕ) (found : Line)
+    → AreJudged u lines clauses → IsRepeatedAt lines place found
+    → (place < length clauses) × IsGoodLine u lines found × IsClauseOf u found (get_or clauses place [])
+unfolding AreGoodLines
+repeated_line u lines clauses place found judged ((premise, is), there) = (
+  omega (arith, within, judged.many),
+  subst (IsGoodLine u lines) (sym is) (subst (IsGoodLine u (take place lines)) is good),
+  zip_at (IsClauseOf u) lines clauses place found [] judged.zip there,
+)
   where
-    last : Line
-    last = get_or lines index d
+    within : place < length lines
+    within = slice_get_within lines place found there
+
+    good : IsGoodLine u (take place lines) found
+    good = judged.good (take place lines) (drop (place + 1) lines) found
+        (sym (take-append-drop place lines) ∙ ap (λ (rest : List Line). take place lines ++ rest)
+        (drop_more lines place found within ∙ ap (λ (line : Line). line ∷ drop (place + 1) lines) (get_or_from_slice_get lines place found found there)))
 
 -- no line is left
 pub all_judged : (u : Universe) (lines : List Line) (clauses : List (List Literal)) (index : ℕ) → length lines ≤ index
@@ -113,16 +127,15 @@ all_judged u lines clauses index past judged =
     let Over : List Line → Type 0 = λ done. AreJudged u done clauses in subst Over (take_all index lines past) judged
 
 -- the first line that isn't good
-pub first_bad : (u : Universe) (lines : List Line) (clauses : List (List Literal)) (index : ℕ) (d : Line) (count : ℕ) → index < length lines
-    → AreJudged u (take index lines) clauses → ¬ IsGoodLine u (take index lines) (get_or lines index d) → count ≡ length clauses
-    → IsFirstBad u lines (count + 1)
+pub first_bad : (u : Universe) (lines : List Line) (clauses : List (List Literal)) (index : ℕ) (d : Line) → index < length lines
+    → AreJudged u (take index lines) clauses → ¬ IsGoodLine u (take index lines) (get_or lines index d) → IsFirstBad u lines (index + 1)
 unfolding IsFirstBad
-first_bad u lines clauses index d count within judged bad is = inl (record {
+first_bad u lines clauses index d within judged bad = inl (record {
   earlier = take index lines;
   found = get_or lines index d;
   rest = drop (index + 1) lines;
   place = sym (take-append-drop index lines) ∙ ap (λ (rest : List Line). take index lines ++ rest) (drop_more lines index d within);
-  number_is = ap (λ n. n + 1) (is ∙ judged.many);
+  number_is = ap (λ n. n + 1) (sym (length-take-le index lines (omega (arith, within))));
   good = judged.good;
   bad = bad;
 })
@@ -136,13 +149,13 @@ accepted u lines clauses judged ends = record {
 }
 
 -- all lines are good, but the last one's clause isn't empty
-pub unfinished : (u : Universe) (lines : List Line) (clauses : List (List Literal)) (count : ℕ) → AreJudged u lines clauses
-    → ¬ EndsWithNone clauses → count ≡ length clauses → IsFirstBad u lines (count + 1)
+pub unfinished : (u : Universe) (lines : List Line) (clauses : List (List Literal)) → AreJudged u lines clauses → ¬ EndsWithNone clauses
+    → IsFirstBad u lines (length lines + 1)
 unfolding IsFirstBad
-unfinished u lines clauses count judged isnt is = inr (record {
+unfinished u lines clauses judged isnt = inr (record {
   good = judged.good;
   unfinished = λ ends. isnt ((ends_alike u lines clauses judged.zip).1 ends);
-  number_is = ap (λ n. n + 1) (is ∙ judged.many);
+  number_is = refl;
 })
 
 -- pairs that are strictly in order ascend

@@ -1,5 +1,6 @@
 -- The clause of a premise and of a line, as a list of its literals.
-use Rattle.std.specs.Prelude.{◌≡◌, ℕ, List, [], ◌∷◌, ◌++◌, ◌⊎◌, ⊤, Option, Bool, MatchOption}
+use Rattle.std.specs.Prelude.{◌≡◌, ℕ, List, [], ◌∷◌, ◌++◌, ◌⊎◌, ⊤, Option, Some, Bool, MatchOption, length, slice_get}
+use Rattle.std.specs.List.{AllZip}
 use Rattle.std.specs.declared.cmp.Ordering.TheVariants.{Less}
 use Rattle.rules.specs.Package.{Atom, MatchesSome}
 use Rattle.rules.specs.Sound.{IsAcceptable}
@@ -7,8 +8,9 @@ use Rattle.rules.specs.Universe.{Universe}
 use Rattle.rules.specs.Version.{SameVersion, version_cmp}
 use Rattle.refutation.specs.Clause.{IsListOf}
 use Rattle.refutation.specs.Premise.{IsInPremise, IsPremise, Selects}
-use Rattle.refutation.specs.Refutation.{IsAccepted, IsFirstBad, IsGoodLine, IsInLine}
+use Rattle.refutation.specs.Refutation.{AreGoodLines, IsAccepted, IsFirstBad, IsGoodLine, IsInLine}
 use Rattle.refutation.specs.declared.line.Line.{Line}
+use Rattle.refutation.specs.declared.line.Line.TheVariants as line
 use Rattle.refutation.specs.declared.line.Premise.{Premise}
 use Rattle.refutation.specs.declared.literal.Literal.{Literal}
 use Rattle.refutation.specs.declared.literal.Literal.TheVariants as literal
@@ -50,6 +52,17 @@ Refutes u (verdict.No number) = ⊤
 abbrev pub IsLowerThanCandidate : Option (List ℕ) → Option (List ℕ) → List ℕ → Type 0
 IsLowerThanCandidate standing candidate version = MatchOption standing ⊥ (λ lower. MatchOption candidate ⊥
     (λ higher. (version_cmp lower higher ≡ Less) × SameVersion version higher))
+
+-- the lines are good, and these are the lists of their clauses
+pub record AreJudged (u : Universe) (lines : List Line) (clauses : List (List Literal)) : Type 0 where
+  pub zip : AllZip (IsClauseOf u) lines clauses
+  pub good : AreGoodLines u lines
+  pub many : length clauses ≡ length lines
+
+-- the line is a premise, and the one at this place of the list is the same
+abbrev pub IsRepeatedAt : List Line → ℕ → Line → Type 0
+IsRepeatedAt lines place found =
+    ((premise : Premise) × (found ≡ line.Premise premise)) × (slice_get lines place ≡ Some found)
 
 -- there is a last clause, and it has no literal
 abbrev pub EndsWithNone : List (List Literal) → Type 0

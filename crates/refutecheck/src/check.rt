@@ -1,15 +1,19 @@
 // Whether a refutation is accepted, line by line.
 
-ghost use Rattle.std.specs.Prelude.{◌≡◌, ◌↔◌, ◌^◌, ◌<◌, List, IfOk, IsTrue, length};
+ghost use Rattle.std.specs.Prelude.{◌≡◌, ◌^◌, ◌<◌, ◌++◌, ◌∷◌, [], List, false, IfOk, IsTrue, length};
 ghost use Rattle.std.specs.List.{AllZip, Contains};
 ghost use Rattle.refutation.specs.Following.{EndsFalse};
+ghost use Rattle.refutation.specs.Refutation.{IsGoodLine};
 ghost use Rattle.refutation.specs.declared.line.Line.{Line as LineValue};
 ghost use Rattle.universe.specs.Universe.{HaveDistinctNames};
-ghost use Rattle.refutecheck.specs.Answer.{EndsWithNone, IsClauseOf, IsClauseWhere, IsLineAnswer, IsVerdict, Refutes};
+ghost use Rattle.refutecheck.specs.Answer.{AreJudged, IsClauseOf, IsClauseWhere, IsLineAnswer, IsVerdict, Refutes};
 
 use crate::follow::follows;
+use crate::kept::Kept;
 use crate::premise::clause_of;
 use crate::premises::Premises;
+use crate::repeated::repeated;
+use crate::seen::Seen;
 use crate::verdict::Verdict;
 use refutation::{
     Line, Literal, Refutation, empty_list_is_good, follows_from_lists, good_lines_grow,
@@ -33,7 +37,7 @@ fn copy_of(alloc: Global, literals: &[Literal]) -> Result<Items<Literal>, AllocE
 // The clause of a derived line, if it follows from these clauses.
 fn derived_clause(
     alloc: Global,
-    clauses: &[Items<Literal>],
+    clauses: &Kept,
     literals: &[Literal],
     hints: &[u32],
 ) -> Result<Option<Items<Literal>>, AllocError>
@@ -49,7 +53,7 @@ fn derived_clause(
 // The clause of a line, if it is good behind the lines of these clauses.
 fn clause_of_line(
     premises: &Premises<'_, '_, '_>,
-    clauses: &[Items<Literal>],
+    clauses: &Kept,
     line: &Line,
 ) -> Result<Option<Items<Literal>>, AllocError>
     ensures { IfOk result (λ found. (earlier : List LineValue) → AllZip (IsClauseOf premises.now) earlier clauses.now
@@ -73,13 +77,31 @@ fn clause_of_line(
     }
 }
 
-// Whether there is a last clause, and it is empty.
-fn ends_with_none(clauses: &[Items<Literal>]) -> bool
-    ensures { IsTrue result ↔ EndsWithNone clauses.now }
+// Keeps the clause of a line behind the lines of these clauses, and answers whether it is good. The clause of a premise
+// that was a line before is shared with it.
+fn keep_line<'l>(
+    premises: &Premises<'_, '_, '_>,
+    earlier: &[Line],
+    line: &'l Line,
+    kept: &mut Kept,
+    seen: &mut Seen<'l>,
+) -> Result<bool, AllocError>
+    requires { AreJudged premises.now earlier.now kept.old }
+    ensures good { IfOk result (λ is_good. IsTrue is_good → AreJudged premises.now (earlier.now ++ line.now ∷ []) kept.new) }
+    ensures bad { IfOk result (λ is_good. is_good ≡ false → ¬ IsGoodLine premises.now earlier.now line.now) }
 {
-    match clauses.split_last() {
-        None => false,
-        Some((last, _)) => last.as_slice().is_empty(),
+    good_lines_grow();
+    if let Some(place) = repeated(seen, earlier, line) {
+        kept.push_again(place)?;
+        return Ok(true);
+    }
+    match clause_of_line(premises, kept, line)? {
+        None => Ok(false),
+        Some(clause) => {
+            kept.push(clause)?;
+            seen.note(line, earlier.len())?;
+            Ok(true)
+        }
     }
 }
 
@@ -88,25 +110,25 @@ fn judge(premises: &Premises<'_, '_, '_>, lines: &[Line]) -> Result<Verdict, All
     ensures { IfOk result (IsVerdict premises.now lines.now) }
 {
     empty_list_is_good();
-    good_lines_grow();
-    let mut clauses = Vec::new(premises.alloc());
-    for line in lines {
-        match clause_of_line(premises, clauses.as_slice(), line)? {
-            None => return Ok(Verdict::No(clauses.len() + 1)),
-            Some(clause) => clauses.push(clause)?,
+    let mut kept = Kept::new(premises.alloc());
+    let mut seen = Seen::new(premises.alloc());
+    for (place, line) in lines.iter().enumerate() {
+        if !keep_line(premises, &lines[..place], line, &mut kept, &mut seen)? {
+            return Ok(Verdict::No(place + 1));
         }
     }
-    if ends_with_none(clauses.as_slice()) {
+    if kept.ends_with_none() {
         Ok(Verdict::Yes)
     } else {
-        Ok(Verdict::No(clauses.len() + 1))
+        Ok(Verdict::No(lines.len() + 1))
     }
 }
 
 /// The verdict on the refutation: yes exactly where every line is a premise of the universe or follows from the earlier
 /// lines that it hints at, and the last one's clause is empty (docs/FORMATS.md). A yes means that no selection of the
 /// pairs is acceptable. The packages of all pairs are read once; each line then costs what its clause, or the clauses of
-/// its hints, have, and for a premise the packages that have or provide its names. Memory alone can fail.
+/// its hints, have, and for a premise the packages that have or provide its names, or a look-up where it was a line
+/// before. Memory alone can fail.
 pub fn check_refutation(
     alloc: Global,
     universe: &Universe<'_, '_>,

@@ -2,16 +2,15 @@
 
 ghost use Rattle.std.specs.Prelude.{◌≡◌, ◌↔◌, ℕ, IfOk, IsTrue};
 ghost use Rattle.std.specs.List.{Contains};
-ghost use Rattle.std.specs.Option.{option_copied};
-ghost use Rattle.refutation.specs.Clause.{item_at, negation};
+ghost use Rattle.refutation.specs.Clause.{negation};
 ghost use Rattle.refutation.specs.Following.{EndsFalse};
 ghost use Rattle.refutecheck.specs.Falses.{IsFalse};
 ghost use Rattle.refutecheck.specs.Following.{GoesOn, GoesThrough, IsFalseAt, Narrows};
 
 use crate::falses::Falses;
+use crate::kept::Kept;
 use crate::open::{Open, open_of};
 use refutation::Literal;
-use rules::Items;
 use std::alloc::{AllocError, Global};
 
 // The literal that says the contrary.
@@ -22,14 +21,6 @@ fn negation(literal: Literal) -> Literal
         Literal::Selected(number) => Literal::Unselected(number),
         Literal::Unselected(number) => Literal::Selected(number),
     }
-}
-
-// The clause of this number, counted from 1.
-fn clause_at(clauses: &[Items<Literal>], number: u32) -> Option<&Items<Literal>>
-    ensures { option_copied result ≡ item_at clauses.now number }
-{
-    let place = number.checked_sub(1)?;
-    clauses.get(place as usize)
 }
 
 // Makes the negation of the one literal that isn't false yet false. Answers whether there is at most one.
@@ -47,10 +38,10 @@ fn narrow(falses: &mut Falses, clause: &[Literal]) -> Result<bool, AllocError>
 }
 
 // Goes on to this hint, which is not the last. Answers whether it is a clause with at most one literal that isn't false.
-fn go_on(falses: &mut Falses, clauses: &[Items<Literal>], hint: u32) -> Result<bool, AllocError>
+fn go_on(falses: &mut Falses, clauses: &Kept, hint: u32) -> Result<bool, AllocError>
     ensures { IfOk result (λ went. GoesOn clauses.now hint (IsFalse falses.old) went (IsFalse falses.new)) }
 {
-    match clause_at(clauses, hint) {
+    match clauses.at(hint) {
         None => Ok(false),
         Some(clause) => {
             let is_one = narrow(falses, clause.as_slice())?;
@@ -61,11 +52,7 @@ fn go_on(falses: &mut Falses, clauses: &[Items<Literal>], hint: u32) -> Result<b
 
 // Goes through these hints, none of which is the last. Answers whether each is a clause with at most one literal that
 // isn't false when its turn comes.
-fn go_through(
-    falses: &mut Falses,
-    clauses: &[Items<Literal>],
-    hints: &[u32],
-) -> Result<bool, AllocError>
+fn go_through(falses: &mut Falses, clauses: &Kept, hints: &[u32]) -> Result<bool, AllocError>
     ensures { IfOk result (λ went. (last : ℕ) → GoesThrough clauses.now (IsFalse falses.old) hints.now last
         ↔ (IsTrue went × IsFalseAt clauses.now (IsFalse falses.new) last)) }
 {
@@ -78,10 +65,10 @@ fn go_through(
 }
 
 // Whether the hint is a clause that is all false.
-fn is_false_at(falses: &Falses, clauses: &[Items<Literal>], hint: u32) -> bool
+fn is_false_at(falses: &Falses, clauses: &Kept, hint: u32) -> bool
     ensures { IsTrue result ↔ IsFalseAt clauses.now (IsFalse falses.now) hint }
 {
-    match clause_at(clauses, hint) {
+    match clauses.at(hint) {
         None => false,
         Some(clause) => matches!(open_of(falses, clause.as_slice()), Open::Nothing),
     }
@@ -90,7 +77,7 @@ fn is_false_at(falses: &Falses, clauses: &[Items<Literal>], hint: u32) -> bool
 // Whether these hints and the last behind them end in a clause that is all false.
 fn ends_false(
     falses: &mut Falses,
-    clauses: &[Items<Literal>],
+    clauses: &Kept,
     first: &[u32],
     last: u32,
 ) -> Result<bool, AllocError>
@@ -106,7 +93,7 @@ fn ends_false(
 /// false they end in a clause that is all false. Memory alone can fail. Linear in the literals and the clauses of the hints.
 pub fn follows(
     alloc: Global,
-    clauses: &[Items<Literal>],
+    clauses: &Kept,
     literals: &[Literal],
     hints: &[u32],
 ) -> Result<bool, AllocError>

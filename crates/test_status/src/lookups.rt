@@ -13,7 +13,7 @@ use std::alloc::{AllocError, Global};
 use std::test::Fail;
 
 // The packages that are unpacked, by the words of the rows: the item of `c` is of another architecture.
-const A: &[u8] = b"Package: a\nVersion: 1\nArchitecture: all\nProvides: v\n";
+const A: &[u8] = b"Package: a\nVersion: 1\nArchitecture: all\nProvides: v, v (= 3)\n";
 
 const B: &[u8] = b"Package: b\nVersion: 1\nArchitecture: all\nProvides: v (= 2), w\n";
 
@@ -36,6 +36,9 @@ unpack b, remove a, purge a, purge o→b=unpacked→b→b→→b
 unpack c, unpack b, remove a, purge a, purge o→c=unpacked b=unpacked→b→b→→b
 unpack b, remove a, purge a, unpack a→o=config-files b=unpacked a=unpacked→b a→b→→b
 unpack a, unpack c, configure a c→a=installed o=config-files c=installed→a→→→
+unpack b, unpack b2, unpack b, unpack b2→a=installed o=config-files b=unpacked→a→→b→b
+unpack b, unpack c, unpack b, unpack a, unpack b→a=unpacked o=config-files b=unpacked c=unpacked→a b→b→→b
+unpack c, unpack b, purge c, unpack c, purge b, unpack b→a=installed o=config-files c=unpacked b=unpacked→a b→b→→b
 ";
 
 fn package_of<'a>(
@@ -227,12 +230,19 @@ fn is_found(db: &Records<'_, '_>, own: &[u8], name: &[u8]) -> bool {
         .any(|found| found.name() == own && holds(found, name))
 }
 
+// Whether the record comes once at most, however many of its items are of the name and however often it was unpacked.
+fn comes_once(db: &Records<'_, '_>, own: &[u8], name: &[u8]) -> bool {
+    db.holders(name).filter(|found| found.name() == own).count() < 2
+}
+
 // Whether those of these names, and no others, have or provide the name, both of all that are found by it and of all that
 // a scan finds.
 fn are_found(db: &Records<'_, '_>, name: &[u8], wanted: Option<&str>) -> bool {
     let mut words = wanted.unwrap_or(".").split_whitespace();
     for found in db.as_slice() {
-        if holds(found, name) != is_found(db, found.name(), name) {
+        if holds(found, name) != is_found(db, found.name(), name)
+            || !comes_once(db, found.name(), name)
+        {
             return false;
         }
         if holds(found, name) && words.next().unwrap_or("").as_bytes() != found.name() {
