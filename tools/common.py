@@ -276,6 +276,12 @@ def program():
     return found
 
 
+@functools.lru_cache(maxsize=None)
+def explains(command):
+    """Whether a command of the program takes --explain, by its help."""
+    return "--explain" in run_of([program(), command, "--help"]).stdout
+
+
 class Inputs:
     """A folder of inputs."""
 
@@ -311,8 +317,10 @@ class Inputs:
         return found
 
     def asks(self, command, *words, status="status", request="request"):
-        """Runs the program on the folder, in it, and returns how it ended."""
-        options = ["--arch", self.arch, "--status", str(status), "--sources", "sources"]
+        """Runs the program on the folder, in it, and returns how it ended. Where it can explain an answer it does, on standard
+        error."""
+        options = ["--explain"] if explains(command) else []
+        options += ["--arch", self.arch, "--status", str(status), "--sources", "sources"]
         options += ["--preferences", "preferences"] if self.path("preferences").is_file() else []
         options += ["--target", self.target] if self.target else []
         options += ["--request", request] if request else []
