@@ -167,6 +167,16 @@ def stanzas_of(lines):
         yield fields
 
 
+def fields_of(stanza):
+    """The fields of a stanza, of its bytes."""
+    return next(stanzas_of(f"{line}\n" for line in stanza.decode("utf-8", "surrogateescape").split("\n") if line), {})
+
+
+def names_without(arch, value):
+    """Names in a row, each without this architecture behind it."""
+    return [word[:-len(arch) - 1] if word.endswith(f":{arch}") else word for word in value.split()]
+
+
 def text_of(fields):
     """The text of a stanza, with the empty line behind it."""
     parts = (f"{key}:{'' if value.startswith(chr(10)) or not value else ' '}{value}\n" for key, value in fields.items())

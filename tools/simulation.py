@@ -1,0 +1,149 @@
+"""The steps that apt has dpkg take, as a plan: what apt says it would do, and what dpkg does by itself (dpkg(1))."""
+import collections
+import re
+
+import common
+from common import PRESENT, Database, Failure, matches
+
+ILLEGAL = re.compile(r"no step (\d+) (F\d+) ")
+
+
+def rings_of(names, needs):
+    """The groups of names that need each other, directly or by others, each ascending."""
+    def reached(name):
+        found, left = set(), [name]
+        while left:
+            for other in needs.get(left.pop(), set()) & names:
+                if other not in found:
+                    found.add(other)
+                    left.append(other)
+        return found
+    reach = {name: reached(name) for name in names}
+    return {name: sorted({name} | {other for other in reach[name] if name in reach[other]}) for name in names}
+
+
+def configured(names, needs):
+    """The steps that configure these names, each behind what it needs and else in their order. A ring is one step."""
+    rings, steps, done = rings_of(set(names), needs), [], set()
+    place_of = {name: place for place, name in enumerate(names)}
+
+    def place(name):
+        if name not in done:
+            done.update(rings[name])
+            for other in sorted(set().union(*(needs[it] for it in rings[name])) - set(rings[name]), key=place_of.get):
+                place(other)
+            steps.append(" ".join(["configure", *rings[name]]))
+
+    for name in names:
+        place(name)
+    return steps
+
+
+class Simulation:
+    """What is known of the packages while the lines of a simulation are turned into steps."""
+
+    def __init__(self, inputs, offered, forced):
+        self.database, self.offered, self.forced, self.arch = Database(inputs.path("status")), offered, forced, inputs.arch
+        # what waits to be configured, what dpkg has deconfigured, and the removals that dpkg has to be forced to
+        self.steps, self.waiting, self.deconfigured, self.removals = [], [], [], []
+        self.having = collections.defaultdict(set)
+        for fields in [*self.database.records.values(), *offered.values()]:
+            for name in common.names_of(fields):
+                self.having[name].add(fields["Package"])
+
+    def meeting(self, atom, *states):
+        """The names of the packages in these states that match an atom."""
+        records = self.database.records
+        return {name for name in self.having[atom.name] if self.database.state(name) in states and matches(records[name], atom, self.arch)}
+
+    def add(self, *words):
+        """Adds a step, and takes it."""
+        self.steps.append(" ".join(words))
+        self.database.take(words, self.offered)
+
+    def deconfigure(self, name):
+        self.add("deconfigure", name)
+        self.deconfigured.append(name)
+
+    def needs(self, name):
+        """Which of those that wait to be configured a package needs for this."""
+        found = set()
+        for clause in common.clauses_in(self.database.records[name], "Pre-Depends", "Depends"):
+            if not any(self.meeting(atom, "installed") for atom in clause):
+                found.update(other for atom in clause for other in self.meeting(atom, "unpacked", "half-configured"))
+        return (found & set(self.waiting)) - {name}
+
+    def configure(self):
+        """Configures what waits for it. A name of which there is nothing to be configured is left to the judge."""
+        known = [name for name in self.waiting if name in self.database.records]
+        steps = configured(known, {name: self.needs(name) for name in known})
+        steps += [f"configure {name}" for name in self.waiting if name not in known]
+        for step in steps:
+            self.steps.append(step)
+            for name in step.split()[1:]:
+                if name in self.database.records:
+                    self.database.take(("configure", name), self.offered)
+        self.deconfigured = [name for name in self.deconfigured if name not in self.waiting]
+        self.waiting = []
+
+    def unpack(self, name, version):
+        """Unpacks a package, behind the deconfiguring of what it breaks."""
+        if (name, version) not in self.offered:
+            raise Failure(f"the indices of the folder have no {name} {version}: collect-inputs writes them anew")
+        broken = {other for clause in common.clauses_in(self.offered[name, version], "Breaks") for other in self.meeting(clause[0], "installed")}
+        for other in sorted(broken - {name}):
+            self.deconfigure(other)
+        self.deconfigured = [it for it in self.deconfigured if it != name]
+        self.add("unpack", name, version)
+
+    def is_needed(self, name, clause):
+        """Whether a clause is met by this package, and by no other one that is installed."""
+        meeting = [self.meeting(atom, *PRESENT) for atom in clause]
+        return any(name in it for it in meeting) and not any(self.database.state(it) == "installed" for names in meeting for it in names - {name})
+
+    def needing(self, name):
+        """The installed packages that need one which is to be removed."""
+        owned, found = set(common.names_of(self.database.records[name])), []
+        for other, fields in self.database.records.items():
+            if other != name and self.database.state(other) == "installed":
+                clauses = [clause for clause in common.clauses_in(fields, "Pre-Depends", "Depends") if any(it.name in owned for it in clause)]
+                found += [other] if any(self.is_needed(name, clause) for clause in clauses) else []
+        return found
+
+    def remove(self, name):
+        """Removes a package. Where an installed one needs it, apt has dpkg force that."""
+        needing = self.needing(name)
+        if needing:
+            self.removals.append((name, needing))
+            for other in needing if self.forced else []:
+                self.deconfigure(other)
+        self.deconfigured = [it for it in self.deconfigured if it != name]
+        self.add("remove", name)
+
+    def take(self, kind, name, version):
+        """Takes a line: what stands next to one another to be configured is configured together."""
+        if kind == "Conf":
+            self.waiting.append(name)
+            return
+        self.configure()
+        if kind == "Inst":
+            self.unpack(name, version)
+        elif self.database.state(name) in PRESENT:
+            self.remove(name)
+        if kind == "Purg":
+            self.add("purge", name)
+
+    def end(self):
+        """Configures what waits, and then what dpkg has deconfigured."""
+        self.configure()
+        self.waiting, self.deconfigured = list(dict.fromkeys(self.deconfigured)), []
+        self.configure()
+
+
+def simulation_of(inputs, lines, offered, forced=False):
+    """The plan that a simulation is; with `forced` what needs a package is deconfigured before that is removed."""
+    simulation = Simulation(inputs, offered, forced)
+    for line in lines:
+        simulation.take(*line)
+    simulation.end()
+    return simulation
