@@ -153,7 +153,7 @@ class Universe:
         return found
 
     def matched(self, atom):
-        """The pairs that match an atom."""
+        """The names and versions of the pairs that match an atom."""
         some = dict.fromkeys([it[:2] for it in self.by_name[atom.name] + self.providers()[atom.name]
                               if common.matches(it.fields, atom, self.arch)])
         return list(some)
@@ -204,7 +204,9 @@ class Premises:
             atom = atom_of(self.universe.goals[int(line[1]) - 1])
             return {atom.name} if atom else {self.pair(it).name for it in line[2:]}
         if line[0] in ("depends", "predepends"):
-            return {self.pair(line[1]).name} | {name for atom in self.clause(line) for name in [atom.name, *(it[0] for it in self.universe.matched(atom))]}
+            atoms = self.clause(line)
+            matched = {name for atom in atoms for name, _ in self.universe.matched(atom)}
+            return {self.pair(line[1]).name, *(atom.name for atom in atoms), *matched}
         return {self.pair(it).name for it in line[1:]}
 
     def clause(self, line):

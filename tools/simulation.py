@@ -22,9 +22,9 @@ def rings_of(names, needs):
     return {name: sorted({name} | {other for other in reach[name] if name in reach[other]}) for name in names}
 
 
-def configured(names, needs):
-    """The steps that configure these names, each behind what it needs and else in their order. A ring is one step."""
-    rings, steps, done = rings_of(set(names), needs), [], set()
+def in_order(names, needs):
+    """The rings of these names, each behind what it needs and else in their order."""
+    rings, found, done = rings_of(set(names), needs), [], set()
     place_of = {name: place for place, name in enumerate(names)}
 
     def place(name):
@@ -32,11 +32,11 @@ def configured(names, needs):
             done.update(rings[name])
             for other in sorted(set().union(*(needs[it] for it in rings[name])) - set(rings[name]), key=place_of.get):
                 place(other)
-            steps.append(" ".join(["configure", *rings[name]]))
+            found.append(rings[name])
 
     for name in names:
         place(name)
-    return steps
+    return found
 
 
 class Simulation:
@@ -73,16 +73,37 @@ class Simulation:
                 found.update(other for atom in clause for other in self.meeting(atom, "unpacked", "half-configured"))
         return (found & set(self.waiting)) - {name}
 
+    def is_met(self, clause, group):
+        """Whether a clause is met by what is installed or by one of the group."""
+        return any(self.meeting(atom, "installed") or self.meeting(atom, "unpacked", "half-configured") & group for atom in clause)
+
+    def part_of(self, names):
+        """The greatest part of these names that can be configured together by itself."""
+        group, before = set(names), None
+        while group != before:
+            before = group
+            group = {name for name in group if all(self.is_met(clause, group) for clause in
+                                                   common.clauses_in(self.database.records[name], "Pre-Depends", "Depends"))}
+        return group
+
+    def group_of(self, names):
+        """Some of these names that can be configured together, and no part of which can; all of them where none can."""
+        group, smaller = self.part_of(names) or set(names), True
+        while smaller:
+            smaller = next((part for part in (self.part_of(group - {name}) for name in sorted(group)) if part), None)
+            group = smaller or group
+        return group
+
     def configure(self):
         """Configures what waits for it. A name of which there is nothing to be configured is left to the judge."""
         known = [name for name in self.waiting if name in self.database.records]
-        steps = configured(known, {name: self.needs(name) for name in known})
-        steps += [f"configure {name}" for name in self.waiting if name not in known]
-        for step in steps:
-            self.steps.append(step)
-            for name in step.split()[1:]:
-                if name in self.database.records:
-                    self.database.take(("configure", name), self.offered)
+        for ring in in_order(known, {name: self.needs(name) for name in known}):
+            left = set(ring)
+            while left:
+                group = self.group_of(left) if len(left) > 1 else left
+                self.add("configure", *sorted(group))
+                left = left - group
+        self.steps += [f"configure {name}" for name in self.waiting if name not in known]
         self.deconfigured = [name for name in self.deconfigured if name not in self.waiting]
         self.waiting = []
 
@@ -90,7 +111,8 @@ class Simulation:
         """Unpacks a package, behind the deconfiguring of what it breaks."""
         if (name, version) not in self.offered:
             raise Failure(f"the indices of the folder have no {name} {version}: collect-inputs writes them anew")
-        broken = {other for clause in common.clauses_in(self.offered[name, version], "Breaks") for other in self.meeting(clause[0], "installed")}
+        breaks = common.clauses_in(self.offered[name, version], "Breaks")
+        broken = {other for clause in breaks for other in self.meeting(clause[0], "installed")}
         for other in sorted(broken - {name}):
             self.deconfigure(other)
         self.deconfigured = [it for it in self.deconfigured if it != name]
@@ -99,14 +121,16 @@ class Simulation:
     def is_needed(self, name, clause):
         """Whether a clause is met by this package, and by no other one that is installed."""
         meeting = [self.meeting(atom, *PRESENT) for atom in clause]
-        return any(name in it for it in meeting) and not any(self.database.state(it) == "installed" for names in meeting for it in names - {name})
+        others = set().union(*meeting) - {name}
+        return any(name in it for it in meeting) and not any(self.database.state(it) == "installed" for it in others)
 
     def needing(self, name):
         """The installed packages that need one which is to be removed."""
         owned, found = set(common.names_of(self.database.records[name])), []
         for other, fields in self.database.records.items():
             if other != name and self.database.state(other) == "installed":
-                clauses = [clause for clause in common.clauses_in(fields, "Pre-Depends", "Depends") if any(it.name in owned for it in clause)]
+                clauses = [clause for clause in common.clauses_in(fields, "Pre-Depends", "Depends")
+                           if any(atom.name in owned for atom in clause)]
                 found += [other] if any(self.is_needed(name, clause) for clause in clauses) else []
         return found
 
