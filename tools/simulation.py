@@ -44,8 +44,9 @@ class Simulation:
 
     def __init__(self, inputs, offered, forced):
         self.database, self.offered, self.forced, self.arch = Database(inputs.path("status")), offered, forced, inputs.arch
-        # what waits to be configured, what dpkg has deconfigured, and the removals that dpkg has to be forced to
-        self.steps, self.waiting, self.deconfigured, self.removals = [], [], [], []
+        # what waits to be configured, what dpkg has deconfigured, what is deconfigured for a removal, and the removals that dpkg
+        # has to be forced to
+        self.steps, self.waiting, self.deconfigured, self.loosened, self.removals = [], [], [], [], []
         self.having = collections.defaultdict(set)
         for fields in [*self.database.records.values(), *offered.values()]:
             for name in common.names_of(fields):
@@ -94,8 +95,20 @@ class Simulation:
             group = smaller or group
         return group
 
+    def again(self):
+        """What was deconfigured for a removal and can be configured again, with what waits for it. Under --force-depends it was
+        never deconfigured, so it is configured as early as can be."""
+        part = self.part_of({*self.loosened, *(name for name in self.waiting if name in self.database.records)}) if self.loosened else ()
+        return [name for name in self.loosened if name in part and name not in self.waiting]
+
+    def forget(self, names):
+        """These names aren't deconfigured any more."""
+        self.deconfigured = [name for name in self.deconfigured if name not in names]
+        self.loosened = [name for name in self.loosened if name not in names]
+
     def configure(self):
         """Configures what waits for it. A name of which there is nothing to be configured is left to the judge."""
+        self.waiting = self.again() + self.waiting
         known = [name for name in self.waiting if name in self.database.records]
         for ring in in_order(known, {name: self.needs(name) for name in known}):
             left = set(ring)
@@ -104,7 +117,7 @@ class Simulation:
                 self.add("configure", *sorted(group))
                 left = left - group
         self.steps += [f"configure {name}" for name in self.waiting if name not in known]
-        self.deconfigured = [name for name in self.deconfigured if name not in self.waiting]
+        self.forget(self.waiting)
         self.waiting = []
 
     def unpack(self, name, version):
@@ -115,7 +128,7 @@ class Simulation:
         broken = {other for clause in breaks for other in self.meeting(clause[0], "installed")}
         for other in sorted(broken - {name}):
             self.deconfigure(other)
-        self.deconfigured = [it for it in self.deconfigured if it != name]
+        self.forget([name])
         self.add("unpack", name, version)
 
     def is_needed(self, name, clause):
@@ -140,8 +153,9 @@ class Simulation:
         if needing:
             self.removals.append((name, needing))
             for other in needing if self.forced else []:
-                self.deconfigure(other)
-        self.deconfigured = [it for it in self.deconfigured if it != name]
+                self.add("deconfigure", other)
+                self.loosened.append(other)
+        self.forget([name])
         self.add("remove", name)
 
     def take(self, kind, name, version):
@@ -160,7 +174,7 @@ class Simulation:
     def end(self):
         """Configures what waits, and then what dpkg has deconfigured."""
         self.configure()
-        self.waiting, self.deconfigured = list(dict.fromkeys(self.deconfigured)), []
+        self.waiting = list(dict.fromkeys([*self.deconfigured, *self.loosened]))
         self.configure()
 
 
