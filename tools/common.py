@@ -281,15 +281,20 @@ def program():
     """The program: named in DEBPLAN, that of this repository, or the one on PATH."""
     here = TOP / "debplan"
     found = os.environ.get("DEBPLAN") or (str(here) if here.is_file() else shutil.which("debplan"))
-    if not found:
-        raise Failure("debplan is missing: name the program in DEBPLAN", 69)
+    if not found or not shutil.which(found):
+        raise Failure(f"debplan is missing{f', {found} is no program' if found else ''}: name the program in DEBPLAN", 69)
     return found
 
 
 @functools.lru_cache(maxsize=None)
 def explains(command):
-    """Whether a command of the program takes --explain, by its help."""
-    return "--explain" in run_of([program(), command, "--help"]).stdout
+    """Whether a command of the program takes --explain, by its help. This is the first call of the program, so what it says of
+    itself on standard error is shown: in a repository it may have to be built before."""
+    run = subprocess.run([program(), command, "--help"], stdin=subprocess.DEVNULL, stdout=subprocess.PIPE, encoding="utf-8",
+                         errors="replace", check=False)
+    if run.returncode:
+        raise Failure(f"{program()} can't be run", 69)
+    return "--explain" in run.stdout
 
 
 class Inputs:
