@@ -3,6 +3,12 @@ _debplan()
 {
     local word=${COMP_WORDS[COMP_CWORD]} before=${COMP_WORDS[COMP_CWORD-1]} command=${COMP_WORDS[1]}
     COMPREPLY=()
+    # bash takes the = between an option and its value as a word
+    if [ "$word" = "=" ]; then
+        word=
+    elif [ "$before" = "=" ] && [ "$COMP_CWORD" -gt 2 ]; then
+        before=${COMP_WORDS[COMP_CWORD-2]}
+    fi
     if [ "$COMP_CWORD" -eq 1 ]; then
         COMPREPLY=($(compgen -W "compare candidate solve check-plan check-refutation help --help --version" -- "$word"))
         return

@@ -1,0 +1,444 @@
+"""What the tools that stand on the built program have in common: how a tool ends, the programs that it calls, control text
+(Policy 5.1), relations (Policy 7.1) and versions (Policy 5.6.12), and how debplan is asked about a folder of inputs.
+
+A folder of inputs is what tools/collect-inputs writes: the files `status`, `sources`, the indices that it names, perhaps
+`preferences`, and beside them a `request` and a `plan`."""
+import argparse
+import collections
+import functools
+import hashlib
+import os
+import pathlib
+import re
+import shutil
+import subprocess
+import sys
+import tempfile
+
+TOP = pathlib.Path(__file__).resolve().parent.parent
+RELATIONS = ("Pre-Depends", "Depends", "Conflicts", "Breaks", "Provides")
+PRESENT = ("half-installed", "unpacked", "half-configured", "triggers-awaited", "triggers-pending", "installed")
+ATOM = re.compile(r"\s*([A-Za-z0-9][A-Za-z0-9+.-]*)(?::([A-Za-z0-9-]+))?\s*(?:\(\s*(<<|<=|=|>=|>>|<|>)\s*([^\s)]+)\s*\))?\s*")
+Atom = collections.namedtuple("Atom", "name qualifier operator version")
+
+
+class Failure(Exception):
+    """What ends a tool: the reason, and the exit status."""
+
+    def __init__(self, why, status=1):
+        super().__init__(why)
+        self.status = status
+
+
+class Words(argparse.ArgumentParser):
+    """The words of a command line. The head of the tool is its help; wrong words end with status 64."""
+
+    def __init__(self, head):
+        self.head = head
+        super().__init__(prog=tool_name(), allow_abbrev=False, add_help=False)
+        self.add_argument("--help", action="store_true")
+
+    def read(self, words):
+        """The words as options and values."""
+        if "--help" in words:
+            print(self.head)
+            sys.exit(0)
+        return self.parse_args(words)
+
+    def error(self, message):
+        print(f"{self.prog}: {message}\n{self.head.partition(':')[0]}", file=sys.stderr)
+        sys.exit(64)
+
+
+def tool_name():
+    return os.path.basename(sys.argv[0])
+
+
+def ends(main):
+    """Runs a tool on the words of its command line, and ends with its exit status."""
+    try:
+        status = main(sys.argv[1:])
+    except Failure as failure:
+        print(f"{tool_name()}: {failure}", file=sys.stderr)
+        status = failure.status
+    except OSError as error:
+        print(f"{tool_name()}: {error.filename or 'writing'}: {error.strerror}", file=sys.stderr)
+        status = 1
+    except KeyboardInterrupt:
+        print(f"{tool_name()}: stopped", file=sys.stderr)
+        status = 130
+    sys.exit(status)
+
+
+# Programs
+
+
+def last_words(run):
+    """What a program that failed said last, without what it says of its progress."""
+    lines = [line for line in (run.stderr or run.stdout or "").splitlines() if line.strip()]
+    told = [line for line in lines if line.startswith(("E: ", "W: "))]
+    return "\n".join(told or lines[-5:]) or f"exit status {run.returncode}"
+
+
+def run_of(words, limit=None, env=None):
+    """Runs a program in the C locale, without input, and returns what it printed. With a limit it has so many seconds."""
+    try:
+        return subprocess.run(words, env={**os.environ, "LC_ALL": "C", **(env or {})}, stdout=subprocess.PIPE,
+                              stderr=subprocess.PIPE, stdin=subprocess.DEVNULL, encoding="utf-8", errors="surrogateescape",
+                              timeout=limit, check=False)
+    except FileNotFoundError:
+        raise Failure(f"{words[0]} is missing: this works on a machine with apt and dpkg", 69) from None
+    except subprocess.TimeoutExpired:
+        raise Failure(f"{words[0]} was stopped after {limit} seconds without an answer") from None
+
+
+def said_by(words, limit=None, env=None):
+    """What a program prints; where it fails, the tool ends with its last words."""
+    run = run_of(words, limit, env)
+    if run.returncode:
+        raise Failure(f"{os.path.basename(words[0])}: {last_words(run)}")
+    return run.stdout
+
+
+class Machine:
+    """A machine whose apt and dpkg are asked: this one, or the root of another system below a folder."""
+
+    def __init__(self, root=None):
+        self.root = pathlib.Path(root or "/").resolve()
+        self.env, self.config = {}, None
+        if str(self.root) != "/":
+            # apt reads this file first, and goes on with the files that it names
+            self.config = tempfile.NamedTemporaryFile("w", prefix="debplan-apt-", suffix=".conf")
+            self.config.write(f'Dir "{self.root}/";\nDir::State::status "{self.root}/var/lib/dpkg/status";\n'
+                              'Dir::Cache::pkgcache "";\nDir::Cache::srcpkgcache "";\n')
+            self.config.flush()
+            self.env = {"APT_CONFIG": self.config.name}
+
+    def says(self, *words, limit=None):
+        """What a program of apt says of the machine."""
+        return said_by(words, limit, self.env)
+
+    def arch(self):
+        """The architecture of dpkg."""
+        if self.env:
+            listed = self.root / "var/lib/dpkg/arch-native"
+            return os.environ.get("ARCH") or (listed.read_text().strip() if listed.is_file() else native_architecture())
+        return native_architecture()
+
+    def status(self):
+        """The status file."""
+        return pathlib.Path(os.environ.get("STATUS") or self.setting("Dir::State::status/f") or "/var/lib/dpkg/status")
+
+    def setting(self, name):
+        """A setting of apt's configuration; empty where there is none."""
+        return self.says("apt-config", "shell", "it", name).partition("=")[2].strip().strip("'")
+
+
+def native_architecture():
+    """The architecture that is asked about: that of the environment, or else of this machine's dpkg."""
+    return os.environ.get("ARCH") or said_by(["dpkg", "--print-architecture"]).strip()
+
+
+# Control text
+
+
+def stanzas_in(path):
+    """Yields the stanzas of a control file, each as its fields, whose values keep their newlines."""
+    with open(path, encoding="utf-8", errors="surrogateescape", newline="\n") as lines:
+        yield from stanzas_of(lines)
+
+
+def stanzas_of(lines):
+    """Yields the stanzas of these lines. The value of a name that is there twice is the first one."""
+    fields, name = {}, None
+    for line in lines:
+        if line[0] in " \t" and line.strip():
+            if name:
+                fields[name] += "\n" + line.rstrip("\n").rstrip()
+        elif not line.strip():
+            if fields:
+                yield fields
+            fields, name = {}, None
+        elif not line.startswith("#"):
+            key, _, value = line.partition(":")
+            name = key if key not in fields else None
+            fields.setdefault(key, value.strip())
+    if fields:
+        yield fields
+
+
+def fields_of(stanza):
+    """The fields of a stanza, of its bytes."""
+    return next(stanzas_of(f"{line}\n" for line in stanza.decode("utf-8", "surrogateescape").split("\n") if line), {})
+
+
+def names_without(arch, value):
+    """Names in a row, each without this architecture behind it."""
+    return [word[:-len(arch) - 1] if word.endswith(f":{arch}") else word for word in value.split()]
+
+
+def text_of(fields):
+    """The text of a stanza, with the empty line behind it."""
+    parts = (f"{key}:{'' if value.startswith(chr(10)) or not value else ' '}{value}\n" for key, value in fields.items())
+    return "".join(parts) + "\n"
+
+
+def write_text(path, text):
+    """Writes a file whole, and then puts it in its place."""
+    path = pathlib.Path(path)
+    new = path.with_name(f".{path.name}.new")
+    new.write_bytes(text.encode("utf-8", "surrogateescape"))
+    os.replace(new, path)
+
+
+def sha256_of(path):
+    """The SHA256 of a file."""
+    found = hashlib.sha256()
+    with open(path, "rb") as file:
+        for block in iter(lambda: file.read(1 << 20), b""):
+            found.update(block)
+    return found.hexdigest()
+
+
+# Versions and relations
+
+
+def weights_of(word):
+    """A piece without digits as its weights: a tilde below the end of the piece, letters above it, other bytes above these."""
+    return (*(-1 if it == "~" else ord(it) if it.isalpha() else ord(it) + 256 for it in word), 0)
+
+
+def pieces_of(text):
+    return tuple((weights_of(word), int(digits or 0)) for word, digits in re.findall(r"(\D*)(\d*)", text))
+
+
+@functools.lru_cache(maxsize=None)
+def version_key(version):
+    """A version as a key by which versions are in order."""
+    epoch, colon, rest = version.partition(":")
+    if not colon:
+        epoch, rest = "0", version
+    upstream, hyphen, revision = rest.rpartition("-")
+    if not hyphen:
+        upstream, revision = rest, "0"
+    return int(epoch) if epoch.isdigit() else -1, pieces_of(upstream), pieces_of(revision)
+
+
+def meets(version, atom):
+    """Whether a version meets the restriction of an atom."""
+    if not atom.operator:
+        return True
+    one, other = version_key(version), version_key(atom.version)
+    return {"<<": one < other, "<": one <= other, "<=": one <= other, "=": one == other,
+            ">=": one >= other, ">": one >= other, ">>": one > other}[atom.operator]
+
+
+@functools.lru_cache(maxsize=None)
+def clauses_of(value):
+    """The clauses of a relation field, each as its atoms."""
+    found = []
+    for clause in value.split(","):
+        atoms = tuple(Atom(*match.groups()) for match in map(ATOM.fullmatch, clause.split("|")) if match)
+        if atoms:
+            found.append(atoms)
+    return tuple(found)
+
+
+def clauses_in(fields, *kinds):
+    """The clauses of these relation fields of a stanza."""
+    return [clause for kind in kinds for clause in clauses_of(fields.get(kind, ""))]
+
+
+def provided_by(fields):
+    """What a package provides, as atoms."""
+    return [atom for clause in clauses_in(fields, "Provides") for atom in clause]
+
+
+def names_of(fields):
+    """The name of a package, and the names that it provides."""
+    return [fields["Package"], *(atom.name for atom in provided_by(fields))]
+
+
+def matches(fields, atom, arch=None):
+    """Whether a package matches an atom (Policy 7.5). A qualifier of another architecture is matched by nothing."""
+    if atom.qualifier not in (None, "any", "native", arch) and arch:
+        return False
+    if fields["Package"] == atom.name and meets(fields["Version"], atom):
+        return True
+    return any(it.name == atom.name and (not atom.operator or it.version and meets(it.version, atom)) for it in provided_by(fields))
+
+
+def written(atoms):
+    """A clause as it is written."""
+    return " | ".join(f"{it.name}{':' + it.qualifier if it.qualifier else ''}{f' ({it.operator} {it.version})' if it.operator else ''}"
+                      for it in atoms)
+
+
+# The inputs of debplan, and its answers
+
+
+def program():
+    """The program: named in DEBPLAN, that of this repository, or the one on PATH."""
+    here = TOP / "debplan"
+    found = os.environ.get("DEBPLAN") or (str(here) if here.is_file() else shutil.which("debplan"))
+    if not found or not shutil.which(found):
+        raise Failure(f"debplan is missing{f', {found} is no program' if found else ''}: name the program in DEBPLAN", 69)
+    return found
+
+
+@functools.lru_cache(maxsize=None)
+def explains(command):
+    """Whether a command of the program takes --explain, by its help. This is the first call of the program, so what it says of
+    itself on standard error is shown: in a repository it may have to be built before."""
+    run = subprocess.run([program(), command, "--help"], stdin=subprocess.DEVNULL, stdout=subprocess.PIPE, encoding="utf-8",
+                         errors="replace", check=False)
+    if run.returncode:
+        raise Failure(f"{program()} can't be run", 69)
+    return "--explain" in run.stdout
+
+
+class Inputs:
+    """A folder of inputs."""
+
+    def __init__(self, folder, arch=None, target=None, needed=("status", "sources")):
+        self.folder, self.target = pathlib.Path(folder), target
+        missing = [name for name in needed if not (self.folder / name).is_file()]
+        if missing:
+            written = f": collect-inputs {folder} writes it" if missing[0] in ("status", "sources") else ""
+            raise Failure(f"{folder} has no file {missing[0]}{written}", 64)
+        self.arch = arch or native_architecture()
+
+    def path(self, name):
+        return self.folder / name
+
+    def indices(self):
+        """The paths of the indices. One that isn't whole is taken from the folder, as the program is run there."""
+        return [self.folder / stanza["File"] for stanza in stanzas_in(self.folder / "sources") if "File" in stanza]
+
+    def of_index(self):
+        """Yields the stanzas of the indices that count for the architecture, in their order."""
+        for path in self.indices():
+            for fields in stanzas_in(path):
+                if fields.get("Architecture") in ("all", self.arch) and "Package" in fields and "Version" in fields:
+                    yield fields
+
+    def stanzas_for(self, wanted):
+        """Of each of these pairs of a name and a version the first stanza in the indices."""
+        found = {}
+        for fields in self.of_index():
+            pair = fields["Package"], fields["Version"]
+            if pair in wanted:
+                found.setdefault(pair, fields)
+        return found
+
+    def asks(self, command, *words, status="status", request="request"):
+        """Runs the program on the folder, in it, and returns how it ended. Where it can explain an answer it does, on standard
+        error."""
+        options = ["--explain"] if explains(command) else []
+        options += ["--arch", self.arch, "--status", str(status), "--sources", "sources"]
+        options += ["--preferences", "preferences"] if self.path("preferences").is_file() else []
+        options += ["--target", self.target] if self.target else []
+        options += ["--request", request] if request else []
+        return subprocess.run([program(), command, *options, *words], cwd=self.folder, stdin=subprocess.DEVNULL,
+                              stdout=subprocess.PIPE, stderr=subprocess.PIPE, encoding="utf-8", errors="surrogateescape", check=False)
+
+    def steps(self, name="plan"):
+        """The steps of a plan of the folder, each as its words."""
+        lines = self.path(name).read_text(encoding="utf-8", errors="surrogateescape").splitlines()
+        if not lines or lines[0] not in ("plan 1", "plan 2"):
+            raise Failure(f"{self.path(name)} is no plan")
+        return [line.split(" ") for line in lines[1:] if not line.startswith("end ")]
+
+
+# The database of dpkg
+
+
+class Database:
+    """The packages of a status file, and what the steps of a plan leave of them (docs/FORMATS.md, section 11)."""
+
+    def __init__(self, path):
+        self.records = {fields["Package"]: fields for fields in stanzas_in(path)
+                        if "Package" in fields and fields.get("Status", "").split()[-1:] not in ([], ["not-installed"])}
+
+    def state(self, name):
+        """The state of a package; not-installed where it has no record."""
+        return self.records[name]["Status"].split()[-1] if name in self.records else "not-installed"
+
+    def version(self, name):
+        """The version of a package that is present, or None."""
+        return self.records[name].get("Version") if self.state(name) in PRESENT else None
+
+    def put(self, name, want, state, config):
+        """Changes a record. The version last configured is written of a package that isn't installed, where there is one."""
+        fields = self.records[name]
+        flag = fields["Status"].split()[1]
+        fields["Status"] = f"{want or fields['Status'].split()[0]} {flag} {state}"
+        fields.pop("Config-Version", None)
+        if config and state != "installed":
+            fields["Config-Version"] = config
+
+    def configured_version(self, name):
+        """The version last configured, or None."""
+        if self.state(name) == "installed":
+            return self.records[name]["Version"]
+        return self.records.get(name, {}).get("Config-Version")
+
+    def take(self, step, offered):
+        """Takes a step; an unpacking has its stanza among those that are offered by name and version."""
+        kind, name = step[:2]
+        if kind == "unpack":
+            config = self.configured_version(name) if self.state(name) in PRESENT[1:] else None
+            self.records[name] = {**offered[name, step[2]], "Status": "install ok unpacked"}
+            self.put(name, "install", "unpacked", config)
+        elif kind == "configure":
+            for it in step[1:]:
+                self.put(it, None, "installed", None)
+        elif kind == "purge":
+            self.records.pop(name, None)
+        else:
+            state = {"deconfigure": "half-configured", "remove": "config-files"}[kind]
+            self.put(name, "deinstall" if kind == "remove" else None, state, self.configured_version(name))
+
+
+# Package files
+
+
+class Debs:
+    """The .deb files of the packages that a plan unpacks."""
+
+    def __init__(self, folder, offered):
+        self.folder, self.offered = pathlib.Path(folder).resolve(), offered
+
+    def names(self, pair):
+        """The names that the file of a package may have: apt's, and that of the archive."""
+        name, version = pair
+        arch = self.offered[pair]["Architecture"]
+        return [f"{name}_{version.replace(':', '%3a')}_{arch}.deb", os.path.basename(self.offered[pair].get("Filename", "")) or "-"]
+
+    def file(self, pair):
+        """The file of a package, or None."""
+        return next((self.folder / it for it in self.names(pair) if (self.folder / it).is_file()), None)
+
+    def missing(self):
+        return [pair for pair in self.offered if self.file(pair) is None]
+
+    def download(self):
+        """Gets what is missing."""
+        wanted = [f"{name}:{fields['Architecture']}={version}" if fields["Architecture"] != "all" else f"{name}={version}"
+                  for (name, version), fields in self.offered.items() if self.file((name, version)) is None]
+        self.folder.mkdir(parents=True, exist_ok=True)
+        for first in range(0, len(wanted), 200):
+            words = ["apt-get", "download", "-q", "-o", "APT::Sandbox::User=root", *wanted[first:first + 200]]
+            run = subprocess.run(words, cwd=self.folder, stdin=subprocess.DEVNULL, stdout=subprocess.DEVNULL, check=False)
+            if run.returncode:
+                raise Failure("apt-get download didn't get all packages")
+
+    def verify(self):
+        """Compares each file with the SHA256 of its stanza."""
+        missing = self.missing()
+        if missing:
+            raise Failure(f"{self.folder} has no file of {' '.join(missing[0])}, and {len(missing)} are missing in all")
+        for pair, fields in self.offered.items():
+            wanted = fields.get("SHA256")
+            if wanted and sha256_of(self.file(pair)) != wanted:
+                raise Failure(f"{self.file(pair)} isn't the file that the index names: its SHA256 is another one")
