@@ -1,0 +1,6 @@
+//! A file that can fail and whose machine can crash at any moment.
+#![tactic(auto)]
+
+mod disk;
+
+pub use disk::{Disk, Failed};
