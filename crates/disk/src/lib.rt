@@ -2,5 +2,7 @@
 #![tactic(auto)]
 
 mod disk;
+mod kept;
 
 pub use disk::{Disk, Failed};
+pub use kept::{keep, put, shorten};
