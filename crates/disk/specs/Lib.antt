@@ -1,3 +1,4 @@
 pub mod Calls
 pub mod Facts
+pub mod Memory
 pub mod RunLaws

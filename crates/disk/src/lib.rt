@@ -3,6 +3,8 @@
 
 mod disk;
 mod kept;
+mod memory;
 
 pub use disk::{Disk, Failed};
 pub use kept::{keep, put, shorten};
+pub use memory::{Call, Failing, Fuse, Made, MemoryDisk};

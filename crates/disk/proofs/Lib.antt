@@ -1,0 +1,2 @@
+pub mod KeptCalls
+pub mod TornWrites
