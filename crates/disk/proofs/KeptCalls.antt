@@ -151,10 +151,10 @@ write_moves at written old next new log log' made is le tail done torn pushed =
     torn (λ x c took. write_takes at written x c made.call made.failed is took) pushed
 
 -- a cut that was done in part
-pub cut_moves : (n : ℕ) (old next new tail : List ℕ) (log log' : List Made) (made : Made) → made.call ≡ Cutting n → n ≤ length old
+pub cut_moves : (n : ℕ) (old next new : List ℕ) (log log' : List Made) (made : Made) → made.call ≡ Cutting n → n ≤ length old
     → made.tail.items ≡ drop n old → new ≡ take n old ++ next → Shortened n old new → log' ≡ log ++ made ∷ []
     → Moves (Shortened n) (facts_of old (reverse log)) (facts_of new (reverse log'))
-cut_moves n old next new tail log log' made is le was done short pushed =
+cut_moves n old next new log log' made is le was done short pushed =
     pushed_moves (Shortened n) old new log log' made
     (ap (λ (k : Call). bytes_before k made.tail.items new) is ∙ put_back n old new next made.tail.items le done was)
     short (λ x c took. subst (λ (k : Call). Takes k made.failed x c) is took) pushed

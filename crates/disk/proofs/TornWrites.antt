@@ -1,6 +1,6 @@
 -- What writes and cuts make of bytes that are done in part, or not.
 use Rattle.std.proofs.Common.{◌≡◌, inl, inr, ℕ, ◌+◌, ◌-◌, ◌<◌, ◌≤◌, min, List, [], ◌++◌, length, take, drop, refl, sym, ◌∙◌, ap, subst, arith, append_assoc, length-append, length-take, length-drop, take-append-drop}
-use Rattle.std.proofs.lemmas.List.{append-nil, drop_all, take_all, take_at, drop-drop}
+use Rattle.std.proofs.lemmas.List.{append-nil, drop_all, take_all, take_at, take-take, drop-drop, drop-take}
 use Rattle.std.proofs.lemmas.Bool.{cases_lt}
 use Rattle.disk.specs.Calls.{Shortened, Torn}
 
@@ -61,6 +61,9 @@ torn_not at n old =
     (append-nil (take at old ++ [] ++ drop (at + 0) old) ∙ ap (λ (l : List ℕ). l ++ drop (at + 0) old) (append-nil (take at old)) ∙ ap (λ (k : ℕ). take at old ++ drop k old) (omega arith) ∙ take-append-drop at old)
     (torn_part at n [] [] old (omega arith))
 
+pub torn_same : (at n : ℕ) (old new : List ℕ) → new ≡ old → Torn at n old new
+torn_same at n old new same = subst (λ (l : List ℕ). Torn at n old l) (sym same) (torn_not at n old)
+
 -- a write of which so many bytes were done
 pub torn_count : (at count : ℕ) (bytes old new : List ℕ) → new ≡ take at old ++ take count bytes ++ drop (at + length (take count bytes)) old → Torn at (length bytes) old new
 torn_count at count bytes old new is =
@@ -85,3 +88,26 @@ put_back at old new next tail le is was =
   where
     front_of : (xs : List ℕ) (k : ℕ) → length xs ≡ k → take k (xs ++ next) ≡ xs
     front_of xs k is = take_at xs next k is
+
+-- the bytes behind an offset are those that were written, so many, and the others of the file
+pub torn_written : (at count : ℕ) (bytes old next new : List ℕ) → count ≤ length bytes → new ≡ take at old ++ next
+    → next ≡ take count bytes ++ drop (at + count) old → Torn at (length bytes) old new
+torn_written at count bytes old next new le is parts =
+    torn_count at count bytes old new
+    (is ∙ ap (λ (l : List ℕ). take at old ++ l) parts ∙ sym (append_assoc (take at old) (take count bytes) (drop (at + count) old))
+      ∙ ap (λ (k : ℕ). take at old ++ take count bytes ++ drop (at + k) old) (omega (arith, length-take count bytes, le)))
+
+-- all of them were written
+pub written_whole : (at count : ℕ) (bytes old next new : List ℕ) → new ≡ take at old ++ next → next ≡ take count bytes ++ drop (at + count) old
+    → count ≡ length bytes → new ≡ take at old ++ bytes ++ drop (at + length bytes) old
+written_whole at count bytes old next new is parts all =
+    is ∙ ap (λ (l : List ℕ). take at old ++ l) parts ∙ sym (append_assoc (take at old) (take count bytes) (drop (at + count) old))
+    ∙ ap (λ (l : List ℕ). take at old ++ l ++ drop (at + count) old) (take_all count bytes (omega (arith, all)))
+    ∙ ap (λ (k : ℕ). take at old ++ bytes ++ drop (at + k) old) all
+
+-- the bytes up to an end that is no less than the length to which the file is cut
+pub cut_part : (n end : ℕ) (old next new : List ℕ) → n ≤ end → new ≡ take n old ++ next → next ≡ take (end - n) (drop n old) → new ≡ take end old
+cut_part n end old next new le is parts =
+    is ∙ ap (λ (l : List ℕ). take n old ++ l) (parts ∙ sym (drop-take n (end - n) old) ∙ ap (λ (k : ℕ). drop n (take k old)) (omega (arith, le)))
+    ∙ ap (λ (l : List ℕ). l ++ drop n (take end old)) (sym (take-take n end old le))
+    ∙ take-append-drop n (take end old)

@@ -1,5 +1,5 @@
 // A file in memory that keeps its calls, fails where it is told to, and says what a crash leaves.
-ghost use Rattle.std.specs.Prelude.{◌≡◌, ◌≤◌, ◌+◌, ◌++◌, ◌∷◌, [], length, take, drop, reverse, IfOk, OnErr, OnOk};
+ghost use Rattle.std.specs.Prelude.{◌≡◌, ◌≤◌, ◌+◌, ◌-◌, ◌++◌, ◌∷◌, [], length, take, drop, reverse, IfOk, OnErr, OnOk};
 ghost use Rattle.disk.specs.Calls.{Moves, Same, Shortened, Stays, Torn};
 ghost use Rattle.disk.specs.Facts.{Only, Synced};
 ghost use Rattle.disk.specs.Memory.{facts_of, IsQuiet, IsWriteOf};
@@ -210,7 +210,26 @@ fn apply_write(
     Ok(())
 }
 
-// Cuts the file to a length that is no less than the one that is given, and keeps the call.
+// A cut as it is kept, and what stands from its offset on once the file is cut to an end that is no less.
+fn cut_of(
+    alloc: Global,
+    old: &[u8],
+    len: usize,
+    end: usize,
+    failed: bool,
+) -> Result<(Made, Vec<u8>), AllocError>
+    requires { (len ≤ end) × (end ≤ length old.now) }
+    ensures call { IfOk result (λ it. it.0.call ≡ Call.Cutting len) }
+    ensures tail { IfOk result (λ it. it.0.tail.items ≡ drop len old.now) }
+    ensures next { IfOk result (λ it. it.1.items ≡ take (end - len) (drop len old.now)) }
+{
+    let tail = old[len..].to_vec(alloc)?;
+    let next = old[len..end].to_vec(alloc)?;
+    let call = Call::Cutting(len);
+    Ok((Made { call, failed, tail }, next))
+}
+
+// Cuts the file to an end that is no less than the length that is given, and keeps the call.
 fn apply_cut(
     bytes: &mut Vec<u8>,
     calls: &mut Vec<Made>,
@@ -224,10 +243,7 @@ fn apply_cut(
     ensures cut { Shortened len bytes.old.items bytes.new.items }
     ensures moves { Moves (Shortened len) (facts_of bytes.old.items (reverse calls.old.items)) (facts_of bytes.new.items (reverse calls.new.items)) }
 {
-    let tail = bytes[len..].to_vec(alloc)?;
-    let next = bytes[len..end].to_vec(alloc)?;
-    let call = Call::Cutting(len);
-    let made = Made { call, failed, tail };
+    let (made, next) = cut_of(alloc, bytes, len, end, failed)?;
     replace_tail(bytes, calls, len, made, next)?;
     Ok(())
 }
