@@ -10,7 +10,7 @@ returns-then-is_some-clause-syncs c = λ honest.
 
 pub returns-in-Ok-clause-syncs : goal.returns-in-Ok-clause-syncs
 returns-in-Ok-clause-syncs c = λ honest. record {
-  done = c.note_sync.ensures.done c.args.self.now.bytes.items;
+  done = c.in-Ok.ensures.done c.args.self.now.bytes.items;
   failed = tt;
   seen = refl;
   moves = c.note_sync.ensures.moves c.args.self.now.bytes.items;
@@ -19,7 +19,7 @@ returns-in-Ok-clause-syncs c = λ honest. record {
 pub returns-in-Err-clause-syncs : goal.returns-in-Err-clause-syncs
 returns-in-Err-clause-syncs c = λ honest. record {
   done = tt;
-  failed = c.note_sync.ensures.failed c.args.self.now.bytes.items;
+  failed = c.in-Err.ensures.failed c.args.self.now.bytes.items;
   seen = refl;
   moves = c.note_sync.ensures.moves c.args.self.now.bytes.items;
 }
