@@ -1,2 +1,3 @@
+pub mod CrashLemmas
 pub mod KeptCalls
 pub mod TornWrites

@@ -1,5 +1,5 @@
 -- What is known of a disk's file at a moment: what a read gives, what a crash may leave, what one may have left before.
-use Rattle.std.specs.Prelude.{◌≡◌, ◌⊎◌, ℕ, ◌≤◌, List}
+use Rattle.std.specs.Prelude.{◌≡◌, ◌⊎◌, ℕ, ◌≤◌, List, [], ⊤}
 
 -- the three facts of a disk's file, and the laws that hold them together
 pub record DiskFacts : Type 1 where
@@ -33,3 +33,15 @@ pub record LeavesOnly (P : List ℕ → Type 0) (old new : DiskFacts) : Type 0 w
   pub each : (c : List ℕ) → new.since old.moment c → P c
   -- a crash since an earlier moment left what one before old left, or a file that has P
   pub before : (t : ℕ) (c : List ℕ) → t ≤ old.moment → new.since t c → old.since t c ⊎ P c
+
+-- the facts of a disk of which nothing is known: a crash may leave any file
+abbrev pub nothing_known : DiskFacts
+nothing_known = record {
+  seen = [];
+  leaves = λ c. ⊤;
+  moment = 0;
+  since = λ t c. ⊤;
+  among = tt;
+  counts_now = λ t c le left. tt;
+  only_now = λ c left. tt;
+}

@@ -40,6 +40,12 @@ impl Made {
     {
         self.failed
     }
+
+    pub(crate) fn tail(&self) -> &[u8]
+        ensures { result.now ≡ self.now.tail.items }
+    {
+        &self.tail
+    }
 }
 
 /// How much of a write or a cut is done that fails.
