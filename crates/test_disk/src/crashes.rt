@@ -1,0 +1,76 @@
+//! What a crash leaves of a file in memory, by hand.
+use disk::{Disk, MemoryDisk, Unsynced};
+use std::alloc::{AllocError, Global};
+use std::test::Fail;
+
+// A choice of what a crash leaves, as a row spells it.
+fn unsynced_of(word: &str) -> Unsynced {
+    match word {
+        "kept" => Unsynced::Kept,
+        "half" => Unsynced::Half,
+        "filled" => Unsynced::Filled(b'-', 2),
+        _ => Unsynced::Lost,
+    }
+}
+
+// Whether a crash leaves these bytes after the calls: those in a row are a write at an offset, a cut to a length, or a sync.
+fn is_left(alloc: Global, row: &str) -> Result<bool, AllocError> {
+    let mut parts = row.split(':');
+    let file = parts.next().unwrap_or_default().as_bytes().to_vec(alloc)?;
+    let mut disk = MemoryDisk::new(alloc, file);
+    let calls = parts.next().unwrap_or_default();
+    for call in calls.split_whitespace() {
+        make(&mut disk, call);
+    }
+    let moment = parts.next().unwrap_or_default();
+    let moment = moment.parse::<usize>().unwrap_or(disk.calls().len());
+    let unsynced = unsynced_of(parts.next().unwrap_or_default());
+    let left = disk.left(alloc, moment, unsynced)?;
+    Ok(left.as_slice() == parts.next().unwrap_or_default().as_bytes())
+}
+
+// Makes the call that a word spells: `4XY` writes XY at 4, `c2` cuts to 2, and `s` syncs.
+fn make(disk: &mut MemoryDisk, call: &str) {
+    let (place, rest) = call.split_at(1);
+    let _ = match place {
+        "s" => disk.sync(),
+        "c" => disk.cut(rest.parse::<usize>().unwrap_or_default()),
+        _ => disk.write_at(place.parse::<usize>().unwrap_or_default(), rest.as_bytes()),
+    };
+}
+
+// Columns: the file, the calls, the number of calls before the crash (nothing: all), what is left of what isn't synced,
+// and the file that a crash leaves.
+const ROWS: &str = "\
+abcdef:4WXYZ::lost:abcdef
+abcdef:4WXYZ::kept:abcdWXYZ
+abcdef:4WXYZ::half:abcdWX
+abcdef:4WXYZ::filled:abcd------
+abcdef:1XY::half:aXcdef
+abcdef:1XY::filled:a--def--
+abcdef:4WXYZ s::lost:abcdWXYZ
+abcdef:4WXYZ s::filled:abcdWXYZ
+abcdef:4WXYZ s:1:lost:abcdef
+abcdef:4WXYZ s:1:half:abcdWX
+abcdef:4WXYZ s:0:kept:abcdef
+abcdef:c2::lost:abcdef
+abcdef:c2::kept:ab
+abcdef:c2 s::lost:ab
+abcdef:c0 0XY::lost:abcdef
+abcdef:c0 0XY::half:X
+abcdef:c0 0XY:1:kept:
+abcdef:c0 0XY s 2Z::lost:XY
+abcdef:c0 0XY s 2Z:2:kept:XY
+abcdef:0X s 1Y s 2Z:4:filled:XYcdef
+abcdef:0X s 1Y s 2Z:3:filled:X-cdef--
+";
+
+#[test]
+fn a_crash_leaves_what_is_chosen(rt: HostRuntime) -> Result<(), Fail> {
+    for row in ROWS.lines() {
+        if !is_left(rt.alloc(), row)? {
+            return Err(Fail::new(row));
+        }
+    }
+    Ok(())
+}
