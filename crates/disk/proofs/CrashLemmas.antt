@@ -1,5 +1,5 @@
 -- What is undone and done again of the calls of a file in memory.
-use Rattle.std.proofs.Common.{◌≡◌, ◌⊎◌, inl, inr, ℕ, ◌+◌, ◌-◌, ◌<◌, ◌≤◌, get_or, List, [], ◌∷◌, ◌++◌, length, take, drop, reverse, refl, sym, ◌∙◌, ap, subst, arith, append_assoc, length-take, take-append-drop, slice_index_or}
+use Rattle.std.proofs.Common.{◌≡◌, inl, inr, ℕ, ◌+◌, ◌-◌, ◌<◌, ◌≤◌, get_or, List, [], ◌∷◌, ◌++◌, length, take, drop, reverse, sym, ◌∙◌, ap, subst, arith, append_assoc, length-take, take-append-drop, slice_index_or}
 use Rattle.std.proofs.lemmas.List.{drop_more, take_more, get_or_read, reverse-append, length-reverse}
 use Rattle.std.proofs.lemmas.Bool.{cases_lt}
 use Rattle.disk.specs.declared.memory.Made.{Made}
@@ -47,7 +47,7 @@ pub left_since : (calls : List Made) (to : ℕ) (seen c : List ℕ) → to ≤ l
 left_since calls to seen c le left =
     subst (λ (l : List Made). Since to seen l c) order
     (since_back (drop to calls) seen (reverse (take to calls)) to c (omega (arith, size))
-      (counts (undone (drop to calls) seen) (reverse (take to calls)) to c left))
+    (counts (undone (drop to calls) seen) (reverse (take to calls)) to c left))
   where
     size : length (reverse (take to calls)) ≡ to
     size = length-reverse (take to calls) ∙ omega (arith, length-take to calls, le)

@@ -1,12 +1,12 @@
 -- What each call that a file in memory keeps makes of its facts.
-use Rattle.std.proofs.Common.{◌≡◌, ◌⊎◌, inl, inr, ⊎_elim, ℕ, ◌≤◌, Bool, true, false, List, [], ◌∷◌, ◌++◌, ◌+◌, length, take, drop, reverse, refl, sym, ◌∙◌, ap, subst, arith}
+use Rattle.std.proofs.Common.{◌≡◌, inl, inr, ⊎_elim, ℕ, ◌≤◌, Bool, false, List, [], ◌∷◌, ◌++◌, length, take, drop, reverse, refl, sym, ◌∙◌, ap, subst, arith}
 use Rattle.std.proofs.lemmas.List.{reverse-append}
 use Rattle.disk.specs.declared.memory.Call.{Call}
 use Rattle.disk.specs.declared.memory.Call.TheVariants.{Length, Reading, Writing, Cutting, Syncing}
 use Rattle.disk.specs.declared.memory.Made.{Made}
 use Rattle.disk.specs.Calls.{Elapses, Follows, Moves, Same, Shortened, Stays, Torn}
 use Rattle.disk.specs.Facts.{Only}
-use Rattle.disk.proofs.TornWrites.{put_back, torn_count}
+use Rattle.disk.proofs.TornWrites.{put_back}
 use Rattle.disk.specs.Memory.{before, bytes_before, Takes, Leaves, Since, among, counts, facts_of, IsQuiet, IsWriteOf}
 
 -- the calls with one more, the newest first
@@ -67,8 +67,10 @@ stays_on seen log made was nothing here = record {
   seen = refl;
   leaves = λ c. (back c, (λ left. inr (c, subst (λ (l : List ℕ). Leaves l log c) (sym was) left, here c)));
   later = omega arith;
-  since = λ t c le. ((λ left. ⊎_elim (λ now. counts seen log t c (back c now)) (λ past. subst (λ (l : List ℕ). Since t l log c) was past.1) left),
-      (λ left. inr (le, subst (λ (l : List ℕ). Since t l log c) (sym was) left)));
+  since = λ t c le. (
+    (λ left. ⊎_elim (λ now. counts seen log t c (back c now)) (λ past. subst (λ (l : List ℕ). Since t l log c) was past.1) left),
+    (λ left. inr (le, subst (λ (l : List ℕ). Since t l log c) (sym was) left)),
+  );
 }
   where
     back : (c : List ℕ) → Leaves seen (made ∷ log) c → Leaves seen log c

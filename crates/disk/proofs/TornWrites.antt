@@ -1,5 +1,5 @@
 -- What writes and cuts make of bytes that are done in part, or not.
-use Rattle.std.proofs.Common.{◌≡◌, inl, inr, ℕ, ◌+◌, ◌-◌, ◌<◌, ◌≤◌, min, List, [], ◌++◌, length, take, drop, refl, sym, ◌∙◌, ap, subst, arith, append_assoc, length-append, length-take, length-drop, take-append-drop}
+use Rattle.std.proofs.Common.{◌≡◌, inl, inr, ℕ, ◌+◌, ◌-◌, ◌≤◌, List, [], ◌++◌, length, take, drop, sym, ◌∙◌, ap, subst, arith, append_assoc, length-append, length-take, length-drop, take-append-drop}
 use Rattle.std.proofs.lemmas.List.{append-nil, drop_all, take_all, take_at, take-take, drop-drop, drop-take}
 use Rattle.std.proofs.lemmas.Bool.{cases_lt}
 use Rattle.disk.specs.Calls.{Shortened, Torn}
@@ -43,7 +43,7 @@ torn_part at n with beyond old fits = elim (cases_lt (length old) (at + length w
         let kept = drop (at + length with) old in
         let rest : ℕ = n - length with in
         let behind : drop rest kept ≡ drop (at + n) old =
-            drop-drop rest (at + length with) old ∙ ap (λ (k : ℕ). drop k old) (omega (arith, fits)) in
+        drop-drop rest (at + length with) old ∙ ap (λ (k : ℕ). drop k old) (omega (arith, fits)) in
         record {
           range = with ++ take rest kept;
           beyond = beyond;
@@ -95,7 +95,7 @@ pub torn_written : (at count : ℕ) (bytes old next new : List ℕ) → count �
 torn_written at count bytes old next new le is parts =
     torn_count at count bytes old new
     (is ∙ ap (λ (l : List ℕ). take at old ++ l) parts ∙ sym (append_assoc (take at old) (take count bytes) (drop (at + count) old))
-      ∙ ap (λ (k : ℕ). take at old ++ take count bytes ++ drop (at + k) old) (omega (arith, length-take count bytes, le)))
+    ∙ ap (λ (k : ℕ). take at old ++ take count bytes ++ drop (at + k) old) (omega (arith, length-take count bytes, le)))
 
 -- all of them were written
 pub written_whole : (at count : ℕ) (bytes old next new : List ℕ) → new ≡ take at old ++ next → next ≡ take count bytes ++ drop (at + count) old

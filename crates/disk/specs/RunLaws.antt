@@ -1,8 +1,8 @@
 -- How what a crash leaves goes on over several calls: lemmas for proofs about callers of a disk.
-use Rattle.std.specs.Prelude.{◌≡◌, ◌⊎◌, ◌↔◌, ℕ, ◌≤◌, List}
+use Rattle.std.specs.Prelude.{ℕ, ◌≤◌, List}
 use Rattle.std.proofs.Common.{inl, inr, ⊎_elim, refl, sym, ◌∙◌, subst, arith}
 use Rattle.disk.specs.Calls.{Moves, Same, Stays}
-use Rattle.disk.specs.Facts.{DiskFacts, LeavesOnly, Only, Synced}
+use Rattle.disk.specs.Facts.{DiskFacts, LeavesOnly, Synced}
 
 -- before the first call a crash leaves what it may leave now
 pub started : (P : List ℕ → Type 0) (a : DiskFacts) → ((c : List ℕ) → a.leaves c → P c) → LeavesOnly P a a

@@ -148,7 +148,11 @@ fn note_sync(calls: &mut Vec<Made>, alloc: Global) -> Result<(), AllocError>
     ensures failed { (seen : _) → OnErr result (Stays (facts_of seen (reverse calls.old.items)) (facts_of seen (reverse calls.new.items))) }
 {
     let tail = Vec::new(alloc);
-    calls.push(Made { call: Call::Syncing, failed: false, tail })?;
+    calls.push(Made {
+        call: Call::Syncing,
+        failed: false,
+        tail,
+    })?;
     Ok(())
 }
 

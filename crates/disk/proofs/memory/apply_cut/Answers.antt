@@ -23,13 +23,13 @@ pub returns-clause-cut : goal.returns-clause-cut
 returns-clause-cut c =
     shortened_to c.args.len c.args.end c.args.bytes.now.items c.replace_tail.new.bytes.items c.requires.0
     (cut_part c.args.len c.args.end c.args.bytes.now.items c.in_ok-made.next.items c.replace_tail.new.bytes.items c.requires.0
-      c.in_ok-replace_tail.ensures.bytes (search rules))
+    c.in_ok-replace_tail.ensures.bytes (search rules))
 
 pub returns-clause-moves : goal.returns-clause-moves
 returns-clause-moves c =
     let whole : c.replace_tail.new.bytes.items ≡ take c.args.end c.args.bytes.now.items =
-        cut_part c.args.len c.args.end c.args.bytes.now.items c.in_ok-made.next.items c.replace_tail.new.bytes.items c.requires.0
-        c.in_ok-replace_tail.ensures.bytes (search rules) in
+    cut_part c.args.len c.args.end c.args.bytes.now.items c.in_ok-made.next.items c.replace_tail.new.bytes.items c.requires.0
+    c.in_ok-replace_tail.ensures.bytes (search rules) in
     cut_moves c.args.len c.args.bytes.now.items c.in_ok-made.next.items c.replace_tail.new.bytes.items c.args.calls.now.items
     c.replace_tail.new.calls.items c.in_ok-made.made (search rules) (omega (arith, c.requires.0, c.requires.1))
     (search rules) c.in_ok-replace_tail.ensures.bytes

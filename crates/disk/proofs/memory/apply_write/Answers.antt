@@ -38,5 +38,5 @@ returns-clause-moves c =
     write_moves c.args.at c.args.written.now c.args.bytes.now.items c.in_ok-made.next.items c.replace_tail.new.bytes.items c.args.calls.now.items
     c.replace_tail.new.calls.items c.in_ok-made.made (search rules) c.requires.0 (search rules) c.in_ok-replace_tail.ensures.bytes
     (torn_written c.args.at c.args.count c.args.written.now c.args.bytes.now.items c.in_ok-made.next.items c.replace_tail.new.bytes.items
-      c.requires.1 c.in_ok-replace_tail.ensures.bytes (search rules))
+    c.requires.1 c.in_ok-replace_tail.ensures.bytes (search rules))
     c.in_ok-replace_tail.ensures.calls

@@ -1,6 +1,5 @@
 use Rattle.std.proofs.Common.{refl}
 use Rattle.disk.specs.RunLaws.{stays_moves}
-use Rattle.disk.specs.Memory.{facts_of}
 use Rattle.disk.proofs.memory.MemoryDiskDisk.sync.Goals as goal
 
 pub returns-then-is_some-clause-syncs : goal.returns-then-is_some-clause-syncs
