@@ -4,7 +4,7 @@ ghost use Rattle.disk.specs.Calls.{Counts, Cuts, Stays, Syncs, Writes};
 ghost use Rattle.disk.specs.Facts.{DiskFacts};
 
 /// A call of the disk failed. The disk has counted it.
-#[derive(Clone, Copy, Debug, PartialEq, Eq)]
+#[derive(Clone, Copy, Debug)]
 pub struct Failed;
 
 /// A file. What its calls promise of bytes and crashes holds of a disk that says that it is honest.

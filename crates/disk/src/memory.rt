@@ -49,7 +49,7 @@ impl Made {
 }
 
 /// How much of a write or a cut is done that fails.
-#[derive(Clone, Copy, PartialEq, Eq)]
+#[derive(Clone, Copy)]
 pub enum Failing {
     Undone,
     Half,

@@ -1,5 +1,5 @@
 //! What a crash leaves of a file in memory, by hand.
-use disk::{Disk, MemoryDisk, Unsynced};
+use disk::{Disk, MemoryDisk, Unsynced, put};
 use std::alloc::{AllocError, Global};
 use std::test::Fail;
 
@@ -72,5 +72,15 @@ fn a_crash_leaves_what_is_chosen(rt: HostRuntime) -> Result<(), Fail> {
             return Err(Fail::new(row));
         }
     }
+    Ok(())
+}
+
+#[test]
+fn the_readme_example(rt: HostRuntime) -> Result<(), Fail> {
+    let alloc = rt.alloc();
+    let mut disk = MemoryDisk::new(alloc, b"some bytes".to_vec(alloc)?);
+    put(&mut disk, 0, b"written")?;
+    let left = disk.left(alloc, disk.calls().len(), Unsynced::Lost)?;
+    assert_eq!(rt; left.as_slice(), b"writtentes".as_slice());
     Ok(())
 }
