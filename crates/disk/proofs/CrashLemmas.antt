@@ -2,7 +2,7 @@
 use Rattle.std.proofs.Common.{◌≡◌, inl, inr, ℕ, ◌+◌, ◌-◌, ◌<◌, ◌≤◌, get_or, List, [], ◌∷◌, ◌++◌, length, take, drop, reverse, sym, ◌∙◌, ap, subst, arith, append_assoc, length-take, take-append-drop, slice_index_or}
 use Rattle.std.proofs.lemmas.List.{drop_more, take_more, get_or_read, reverse-append, length-reverse}
 use Rattle.std.proofs.lemmas.Bool.{cases_lt}
-use Rattle.disk.specs.declared.memory.Made.{Made}
+use Rattle.disk.specs.declared.changes.Made.{Made}
 use Rattle.disk.specs.Crash.{IsSyncDone, NoSyncDone, undone}
 use Rattle.disk.specs.Memory.{before, Takes, Leaves, Since, among, counts, only}
 

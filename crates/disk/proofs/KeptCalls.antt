@@ -1,9 +1,9 @@
 -- What each call that a file in memory keeps makes of its facts.
 use Rattle.std.proofs.Common.{◌≡◌, inl, inr, ⊎_elim, ℕ, ◌≤◌, Bool, false, List, [], ◌∷◌, ◌++◌, length, take, drop, reverse, refl, sym, ◌∙◌, ap, subst, arith}
 use Rattle.std.proofs.lemmas.List.{reverse-append}
-use Rattle.disk.specs.declared.memory.Call.{Call}
-use Rattle.disk.specs.declared.memory.Call.TheVariants.{Length, Reading, Writing, Cutting, Syncing}
-use Rattle.disk.specs.declared.memory.Made.{Made}
+use Rattle.disk.specs.declared.changes.Call.{Call}
+use Rattle.disk.specs.declared.changes.Call.TheVariants.{Length, Reading, Writing, Cutting, Syncing}
+use Rattle.disk.specs.declared.changes.Made.{Made}
 use Rattle.disk.specs.Calls.{Elapses, Follows, Moves, Same, Shortened, Stays, Torn}
 use Rattle.disk.specs.Facts.{Only}
 use Rattle.disk.proofs.TornWrites.{put_back}

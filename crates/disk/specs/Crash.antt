@@ -1,8 +1,8 @@
 -- What a crash of a file in memory leaves of the calls since the last sync.
 use Rattle.std.specs.Prelude.{◌≡◌, ℕ, ◌≤◌, ◌<◌, Bool, IsFalse, List, [], ◌∷◌, slice_index_or}
-use Rattle.disk.specs.declared.memory.Call.{Call}
-use Rattle.disk.specs.declared.memory.Call.TheVariants.{Length, Reading, Writing, Cutting, Syncing}
-use Rattle.disk.specs.declared.memory.Made.{Made}
+use Rattle.disk.specs.declared.changes.Call.{Call}
+use Rattle.disk.specs.declared.changes.Call.TheVariants.{Length, Reading, Writing, Cutting, Syncing}
+use Rattle.disk.specs.declared.changes.Made.{Made}
 use Rattle.disk.specs.Memory.{before}
 
 -- the bytes before some calls, of which the oldest comes first

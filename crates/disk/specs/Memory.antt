@@ -1,9 +1,9 @@
 -- What a read gives of a file in memory, and what a crash may leave, from the calls that it keeps.
 use Rattle.std.specs.Prelude.{◌≡◌, ◌⊎◌, ℕ, ◌≤◌, Bool, IsTrue, List, [], ◌∷◌, ◌++◌, length, take, reverse}
 use Rattle.std.proofs.Common.{inl, inr, refl, arith}
-use Rattle.disk.specs.declared.memory.Call.{Call}
-use Rattle.disk.specs.declared.memory.Call.TheVariants.{Length, Reading, Writing, Cutting, Syncing}
-use Rattle.disk.specs.declared.memory.Made.{Made}
+use Rattle.disk.specs.declared.changes.Call.{Call}
+use Rattle.disk.specs.declared.changes.Call.TheVariants.{Length, Reading, Writing, Cutting, Syncing}
+use Rattle.disk.specs.declared.changes.Made.{Made}
 use Rattle.disk.specs.declared.memory.MemoryDisk.{MemoryDisk}
 use Rattle.disk.specs.Calls.{Shortened, Torn}
 use Rattle.disk.specs.Facts.{DiskFacts}

@@ -4,7 +4,8 @@ ghost use Rattle.disk.specs.Calls.{Shortened, Torn};
 ghost use Rattle.disk.specs.Crash.{IsSyncDone, NoSyncDone, undone};
 ghost use Rattle.disk.specs.Memory.{before, Leaves, Takes};
 
-use crate::memory::{Call, Made, MemoryDisk};
+use crate::changes::{Call, Made};
+use crate::memory::MemoryDisk;
 use std::alloc::{AllocError, Global};
 
 /// What a crash leaves of a write or a cut that no sync has put on the disk.

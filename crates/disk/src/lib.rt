@@ -3,14 +3,16 @@
 //! on the disk when it returns. Begin with `specs/Facts.antt`.
 #![tactic(auto)]
 
+mod changes;
 mod crash;
 mod disk;
 mod file;
 mod kept;
 mod memory;
 
+pub use changes::{Call, Made};
 pub use crash::Unsynced;
 pub use disk::{Disk, Failed};
 pub use file::FileDisk;
 pub use kept::{keep, put, shorten};
-pub use memory::{Call, Failing, Fuse, Made, MemoryDisk};
+pub use memory::{Failing, Fuse, MemoryDisk};

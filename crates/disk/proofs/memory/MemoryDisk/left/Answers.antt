@@ -1,6 +1,6 @@
 use Rattle.std.proofs.Common.{◌≡◌, ℕ, List, length, drop, take, reverse, sym, ◌∙◌, ap, subst, arith, rules}
 use Rattle.std.proofs.lemmas.List.{length-reverse}
-use Rattle.disk.specs.declared.memory.Made.{Made}
+use Rattle.disk.specs.declared.changes.Made.{Made}
 use Rattle.disk.specs.Crash.{undone}
 use Rattle.disk.specs.Memory.{Leaves, Since}
 use Rattle.disk.proofs.CrashLemmas.{left_since, left_now}

@@ -2,7 +2,7 @@ use Rattle.std.proofs.Common.{length, refl, rules}
 use Rattle.disk.proofs.KeptCalls.{kept_moves, write_moves}
 use Rattle.disk.proofs.TornWrites.{torn_not, torn_same, torn_written, written_whole}
 use Rattle.disk.specs.Calls.{Torn}
-use Rattle.disk.proofs.memory.apply_write.Goals as goal
+use Rattle.disk.proofs.changes.apply_write.Goals as goal
 
 pub returns-in_err-made-clause-torn : goal.returns-in_err-made-clause-torn
 returns-in_err-made-clause-torn c = torn_not c.args.at (length c.args.written.now) c.args.bytes.now.items

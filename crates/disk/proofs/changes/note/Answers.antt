@@ -1,5 +1,5 @@
 use Rattle.disk.proofs.KeptCalls.{quiet_stays}
-use Rattle.disk.proofs.memory.note.Goals as goal
+use Rattle.disk.proofs.changes.note.Goals as goal
 
 pub returns : goal.returns
 returns c = record {

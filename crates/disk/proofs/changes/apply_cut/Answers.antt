@@ -2,7 +2,7 @@ use Rattle.std.proofs.Common.{◌≡◌, take, arith, refl, rules}
 use Rattle.disk.specs.Calls.{Shortened}
 use Rattle.disk.proofs.KeptCalls.{kept_moves, cut_moves}
 use Rattle.disk.proofs.TornWrites.{cut_part, shortened_not, shortened_to}
-use Rattle.disk.proofs.memory.apply_cut.Goals as goal
+use Rattle.disk.proofs.changes.apply_cut.Goals as goal
 
 pub returns-in_err-made-clause-moves : goal.returns-in_err-made-clause-moves
 returns-in_err-made-clause-moves c =

@@ -1,8 +1,8 @@
 use Rattle.std.proofs.Common.{refl, false}
-use Rattle.disk.specs.declared.memory.Call.TheVariants.{Syncing}
-use Rattle.disk.specs.declared.memory.Made.{Made}
+use Rattle.disk.specs.declared.changes.Call.TheVariants.{Syncing}
+use Rattle.disk.specs.declared.changes.Made.{Made}
 use Rattle.disk.proofs.KeptCalls.{sync_done, sync_moves}
-use Rattle.disk.proofs.memory.note_sync.Goals as goal
+use Rattle.disk.proofs.changes.note_sync.Goals as goal
 
 pub returns : goal.returns
 returns c =
