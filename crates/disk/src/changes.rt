@@ -48,7 +48,12 @@ impl Made {
 }
 
 // Keeps a call that changes nothing.
-pub(crate) fn note(calls: &mut Vec<Made>, alloc: Global, call: Call, failed: bool) -> Result<(), AllocError>
+pub(crate) fn note(
+    calls: &mut Vec<Made>,
+    alloc: Global,
+    call: Call,
+    failed: bool,
+) -> Result<(), AllocError>
     requires { IsQuiet call failed }
     ensures stays { (seen : _) → Stays (facts_of seen (reverse calls.old.items)) (facts_of seen (reverse calls.new.items)) }
 {
