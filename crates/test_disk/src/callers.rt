@@ -6,12 +6,7 @@ use disk::{Disk, MemoryDisk, Unsynced};
 use std::alloc::Global;
 
 /// Writes the bytes behind those of a file and syncs: whatever a crash does to what isn't synced, it leaves all of them.
-pub fn written(
-    alloc: Global,
-    file: Vec<u8>,
-    bytes: &[u8],
-    unsynced: Unsynced,
-) -> Option<Vec<u8>>
+pub fn written(alloc: Global, file: Vec<u8>, bytes: &[u8], unsynced: Unsynced) -> Option<Vec<u8>>
     ensures { IfSome result (λ left. left.items ≡ file.items ++ bytes.now) }
 {
     let mut disk = MemoryDisk::new(alloc, file);
@@ -23,12 +18,7 @@ pub fn written(
 }
 
 /// Writes the bytes behind those of a file and doesn't sync: a crash may leave any bytes in their place.
-pub fn unwritten(
-    alloc: Global,
-    file: Vec<u8>,
-    bytes: &[u8],
-    unsynced: Unsynced,
-) -> Option<Vec<u8>>
+pub fn unwritten(alloc: Global, file: Vec<u8>, bytes: &[u8], unsynced: Unsynced) -> Option<Vec<u8>>
     ensures { IfSome result (λ left. Torn (length file.items) (length bytes.now) file.items left.items) }
 {
     let mut disk = MemoryDisk::new(alloc, file);

@@ -29,40 +29,42 @@ fn is_left(alloc: Global, row: &str) -> Result<bool, AllocError> {
     Ok(left.as_slice() == parts.next().unwrap_or_default().as_bytes())
 }
 
-// Makes the call that a word spells: `4XY` writes XY at 4, `c2` cuts to 2, and `s` syncs.
+// Makes the call that a word spells: `4=XY` writes XY at 4, `cut=2` cuts to 2, and `sync` syncs.
 fn make(disk: &mut MemoryDisk, call: &str) {
-    let (place, rest) = call.split_at(1);
-    let _ = match place {
-        "s" => disk.sync(),
-        "c" => disk.cut(rest.parse::<usize>().unwrap_or_default()),
-        _ => disk.write_at(place.parse::<usize>().unwrap_or_default(), rest.as_bytes()),
+    let _ = match call.split_once('=') {
+        Some(("cut", len)) => disk.cut(len.parse::<usize>().unwrap_or_default()),
+        Some((at, bytes)) => disk.write_at(
+            at.parse::<usize>().unwrap_or_default(),
+            bytes.as_bytes(),
+        ),
+        None => disk.sync(),
     };
 }
 
 // Columns: the file, the calls, the number of calls before the crash (nothing: all), what is left of what isn't synced,
 // and the file that a crash leaves.
 const ROWS: &str = "\
-abcdef:4WXYZ::lost:abcdef
-abcdef:4WXYZ::kept:abcdWXYZ
-abcdef:4WXYZ::half:abcdWX
-abcdef:4WXYZ::filled:abcd------
-abcdef:1XY::half:aXcdef
-abcdef:1XY::filled:a--def--
-abcdef:4WXYZ s::lost:abcdWXYZ
-abcdef:4WXYZ s::filled:abcdWXYZ
-abcdef:4WXYZ s:1:lost:abcdef
-abcdef:4WXYZ s:1:half:abcdWX
-abcdef:4WXYZ s:0:kept:abcdef
-abcdef:c2::lost:abcdef
-abcdef:c2::kept:ab
-abcdef:c2 s::lost:ab
-abcdef:c0 0XY::lost:abcdef
-abcdef:c0 0XY::half:X
-abcdef:c0 0XY:1:kept:
-abcdef:c0 0XY s 2Z::lost:XY
-abcdef:c0 0XY s 2Z:2:kept:XY
-abcdef:0X s 1Y s 2Z:4:filled:XYcdef
-abcdef:0X s 1Y s 2Z:3:filled:X-cdef--
+abcdef:4=WXYZ::lost:abcdef
+abcdef:4=WXYZ::kept:abcdWXYZ
+abcdef:4=WXYZ::half:abcdWX
+abcdef:4=WXYZ::filled:abcd------
+abcdef:1=XY::half:aXcdef
+abcdef:1=XY::filled:a--def--
+abcdef:4=WXYZ sync::lost:abcdWXYZ
+abcdef:4=WXYZ sync::filled:abcdWXYZ
+abcdef:4=WXYZ sync:1:lost:abcdef
+abcdef:4=WXYZ sync:1:half:abcdWX
+abcdef:4=WXYZ sync:0:kept:abcdef
+abcdef:cut=2::lost:abcdef
+abcdef:cut=2::kept:ab
+abcdef:cut=2 sync::lost:ab
+abcdef:cut=0 0=XY::lost:abcdef
+abcdef:cut=0 0=XY::half:X
+abcdef:cut=0 0=XY:1:kept:
+abcdef:cut=0 0=XY sync 2=Z::lost:XY
+abcdef:cut=0 0=XY sync 2=Z:2:kept:XY
+abcdef:0=X sync 1=Y sync 2=Z:4:filled:XYcdef
+abcdef:0=X sync 1=Y sync 2=Z:3:filled:X-cdef--
 ";
 
 #[test]

@@ -77,10 +77,12 @@ fn no_call_fails(rt: HostRuntime) -> Result<(), Fail> {
     assert_eq!(rt; failed_calls(&mut disk), 0);
     assert_eq!(rt; disk.failures(), 0);
     assert_eq!(rt; disk.bytes(), b"abcde".as_slice());
-    assert!(rt; matches!(disk.calls(), [a, b, c, d, e]
+    assert!(rt;
+        matches!(disk.calls(), [a, b, c, d, e]
         if matches!(a.call(), Call::Length) && matches!(b.call(), Call::Reading(1, 2))
         && matches!(c.call(), Call::Writing(6, _)) && matches!(d.call(), Call::Cutting(5))
-        && matches!(e.call(), Call::Syncing)));
+        && matches!(e.call(), Call::Syncing))
+    );
     Ok(())
 }
 
@@ -101,11 +103,29 @@ fn after_a_cut(alloc: Global, failing: Failing) -> Result<Vec<u8>, AllocError> {
 #[test]
 fn failed_changes_are_done_in_part(rt: HostRuntime) -> Result<(), Fail> {
     let alloc = rt.alloc();
-    assert_eq!(rt; after_a_write(alloc, Failing::Undone)?.as_slice(), b"abcdef".as_slice());
-    assert_eq!(rt; after_a_write(alloc, Failing::Half)?.as_slice(), b"abcdWX".as_slice());
-    assert_eq!(rt; after_a_write(alloc, Failing::Done)?.as_slice(), b"abcdWXYZ".as_slice());
-    assert_eq!(rt; after_a_cut(alloc, Failing::Undone)?.as_slice(), b"abcdef".as_slice());
-    assert_eq!(rt; after_a_cut(alloc, Failing::Half)?.as_slice(), b"abcd".as_slice());
-    assert_eq!(rt; after_a_cut(alloc, Failing::Done)?.as_slice(), b"ab".as_slice());
+    assert_eq!(rt;
+        after_a_write(alloc, Failing::Undone)?.as_slice(),
+        b"abcdef".as_slice()
+    );
+    assert_eq!(rt;
+        after_a_write(alloc, Failing::Half)?.as_slice(),
+        b"abcdWX".as_slice()
+    );
+    assert_eq!(rt;
+        after_a_write(alloc, Failing::Done)?.as_slice(),
+        b"abcdWXYZ".as_slice()
+    );
+    assert_eq!(rt;
+        after_a_cut(alloc, Failing::Undone)?.as_slice(),
+        b"abcdef".as_slice()
+    );
+    assert_eq!(rt;
+        after_a_cut(alloc, Failing::Half)?.as_slice(),
+        b"abcd".as_slice()
+    );
+    assert_eq!(rt;
+        after_a_cut(alloc, Failing::Done)?.as_slice(),
+        b"ab".as_slice()
+    );
     Ok(())
 }
