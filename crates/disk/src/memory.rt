@@ -68,8 +68,8 @@ impl MemoryDisk {
         &self.bytes
     }
 
-    /// All calls so far, the oldest first. One that refused an offset past the end, or for which no memory was left, is
-    /// not among them.
+    /// All calls so far, the oldest first. A write or a cut past the end, and a call for which no memory was left, are not
+    /// among them.
     pub fn calls(&self) -> &[Made]
         ensures { result.now ≡ self.now.calls.items }
     {
@@ -125,18 +125,15 @@ impl Disk for MemoryDisk {
     }
 
     fn read(&mut self, at: usize, buffer: &mut [u8]) -> Result<(), Failed> {
-        let fails = self.failing().is_some();
+        let past_end = at > self.bytes.len() || buffer.len() > self.bytes.len() - at;
+        let fails = past_end || self.failing().is_some();
         let noted = note(
             &mut self.calls,
             self.alloc,
             Call::Reading(at, buffer.len()),
             fails,
         );
-        if fails
-            || noted.is_err()
-            || at > self.bytes.len()
-            || buffer.len() > self.bytes.len() - at
-        {
+        if fails || noted.is_err() {
             self.failures = self.failures.saturating_add(1);
             return Err(Failed);
         }

@@ -129,3 +129,17 @@ fn failed_changes_are_done_in_part(rt: HostRuntime) -> Result<(), Fail> {
     );
     Ok(())
 }
+
+#[test]
+fn past_the_end_calls_fail(rt: HostRuntime) -> Result<(), Fail> {
+    let alloc = rt.alloc();
+    let mut disk = MemoryDisk::new(alloc, FILE.to_vec(alloc)?);
+    let mut buffer = [0u8; 2];
+    assert!(rt; disk.read(5, &mut buffer).is_err());
+    assert!(rt; disk.write_at(7, b"x").is_err());
+    assert!(rt; disk.cut(7).is_err());
+    assert_eq!(rt; disk.failures(), 3);
+    assert!(rt; kept_failures(&disk) == (Some(0), 1));
+    assert_eq!(rt; disk.bytes(), b"abcdef".as_slice());
+    Ok(())
+}
