@@ -1,0 +1,4 @@
+pub mod CallRows
+pub mod CrashLemmas
+pub mod KeptCalls
+pub mod TornWrites
