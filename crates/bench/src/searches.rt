@@ -16,6 +16,7 @@ use clauses::Clauses;
 use encode::{Encoding, encode};
 use index::Index;
 use pins::Prefs;
+use reach::Part;
 use refutation::universe_has_needed_pairs;
 use rules::GoalLine;
 use search::{Found, Refutation, search};
@@ -256,8 +257,9 @@ fn settled_count(
     requires selection { IsSelection encoding.now.clauses.numbers selection.now }
     requires makes_true { MakesAllTrue selection.now encoding.now.clauses.clauses }
 {
+    let part = Part::whole(rt.alloc(), universe)?;
     let start = Instant::now(rt)?;
-    let settled = settle(rt.alloc(), universe, encoding, selection)?;
+    let settled = settle(rt.alloc(), &part, encoding, selection)?;
     print_time(rt, "settled", start.elapsed(rt)?)?;
     Ok(settled.len())
 }
