@@ -9,7 +9,8 @@ ghost use Rattle.search_settle.specs.Asked.{asked_in};
 
 use crate::asked::Asked;
 use debversion::Version;
-use universe::{Pair, Start, Universe};
+use reach::Part;
+use universe::{Pair, Start};
 
 fn is_same(name: &[u8], other: &[u8]) -> bool
     ensures { IsTrue result ↔ (name.now ≡ other.now) }
@@ -24,11 +25,11 @@ fn is_present_at(start: &Start<'_>, name: &[u8]) -> bool
 }
 
 // Whether the name was present at the start.
-pub(crate) fn was_present(universe: &Universe<'_, '_>, name: &[u8]) -> bool
-    requires distinct { HaveDistinctNames universe.now.starts }
-    ensures { IsTrue result ↔ WasPresent universe.now name.now }
+pub(crate) fn was_present(part: &Part<'_, '_, '_>, name: &[u8]) -> bool
+    requires distinct { HaveDistinctNames part.now.starts }
+    ensures { IsTrue result ↔ WasPresent part.now name.now }
 {
-    match universe.start(name) {
+    match part.start(name) {
         None => false,
         Some(start) => is_present_at(start, name),
     }
@@ -50,11 +51,11 @@ fn is_standing_at(start: &Start<'_>, pair: &Pair<'_, '_>) -> bool
 }
 
 // Whether the pair is the version that stood.
-pub(crate) fn stood(universe: &Universe<'_, '_>, pair: &Pair<'_, '_>) -> bool
-    requires distinct { HaveDistinctNames universe.now.starts }
-    ensures { IsTrue result ↔ Stood universe.now pair.now.pkg }
+pub(crate) fn stood(part: &Part<'_, '_, '_>, pair: &Pair<'_, '_>) -> bool
+    requires distinct { HaveDistinctNames part.now.starts }
+    ensures { IsTrue result ↔ Stood part.now pair.now.pkg }
 {
-    match universe.start(pair.name()) {
+    match part.start(pair.name()) {
         None => false,
         Some(start) => is_standing_at(start, pair),
     }
@@ -62,10 +63,10 @@ pub(crate) fn stood(universe: &Universe<'_, '_>, pair: &Pair<'_, '_>) -> bool
 
 // Whether there is a reason for the pair without others.
 #[tactic(auto, unfolding(rules::specs::Minimal::IsWanted))]
-pub(crate) fn is_wanted(universe: &Universe<'_, '_>, asked: &Asked<'_>, pair: &Pair<'_, '_>) -> bool
-    requires distinct { HaveDistinctNames universe.now.starts }
-    requires asked { asked.now ≡ asked_in universe.now.goals }
-    ensures { IsTrue result ↔ IsWanted universe.now pair.now.pkg }
+pub(crate) fn is_wanted(part: &Part<'_, '_, '_>, asked: &Asked<'_>, pair: &Pair<'_, '_>) -> bool
+    requires distinct { HaveDistinctNames part.now.starts }
+    requires asked { asked.now ≡ asked_in part.now.goals }
+    ensures { IsTrue result ↔ IsWanted part.now pair.now.pkg }
 {
-    was_present(universe, pair.name()) || asked.has(pair.name())
+    was_present(part, pair.name()) || asked.has(pair.name())
 }

@@ -16,7 +16,7 @@ mod occurrences;
 mod pairs;
 mod place;
 mod queue;
-mod reach;
+mod reached;
 mod role;
 mod roles;
 mod selection;

@@ -8,8 +8,8 @@ ghost use Rattle.universe.specs.Universe.{HaveDistinctNames};
 use crate::asked::Asked;
 use crate::facts::{is_wanted, stood, was_present};
 use crate::known::Known;
+use reach::Part;
 use std::alloc::{AllocError, Global};
-use universe::Universe;
 
 impl Known {
     // Nothing, but that the number 0 is no pair's.
@@ -41,17 +41,17 @@ impl Known {
 }
 
 /// What is known of the pairs of a universe. Memory alone can fail. Linear in the pairs and in the goals.
-pub(crate) fn known_of(alloc: Global, universe: &Universe<'_, '_>) -> Result<Known, AllocError>
-    requires distinct { HaveDistinctNames universe.now.starts }
-    ensures known { IfOk result (IsKnown universe.now) }
+pub(crate) fn known_of(alloc: Global, part: &Part<'_, '_, '_>) -> Result<Known, AllocError>
+    requires distinct { HaveDistinctNames part.now.starts }
+    ensures known { IfOk result (IsKnown part.now) }
     ensures covered { IfOk result IsCovered }
 {
-    let asked = Asked::by(alloc, universe.goals())?;
+    let asked = Asked::by(alloc, part.goals())?;
     let mut known = Known::of_none(alloc)?;
-    for pair in universe.pairs() {
-        let present = was_present(universe, pair.name());
-        let stands = stood(universe, pair);
-        let wanted = is_wanted(universe, &asked, pair);
+    for pair in part.pairs() {
+        let present = was_present(part, pair.name());
+        let stands = stood(part, pair);
+        let wanted = is_wanted(part, &asked, pair);
         known.push(present, stands, wanted)?;
     }
     Ok(known)

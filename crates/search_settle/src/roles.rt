@@ -9,8 +9,8 @@ ghost use Rattle.search_settle.specs.Given.{role_of};
 use crate::given::Given;
 use crate::role::Role;
 use encode::{Basis, Encoding};
+use reach::Part;
 use std::alloc::{AllocError, Global};
-use universe::Universe;
 
 fn role_of(basis: &Basis<'_>) -> Role
     ensures { result ≡ role_of (premise_of basis.now) }
@@ -39,15 +39,15 @@ fn roles_of(alloc: Global, bases: &[Basis<'_>]) -> Result<Vec<Role>, AllocError>
 /// The clauses of the universe, each in the role of what says it. Memory alone can fail. Linear in the literals.
 pub(crate) fn given_of<'e>(
     alloc: Global,
-    universe: &Universe<'_, '_>,
+    part: &Part<'_, '_, '_>,
     encoding: &'e Encoding<'_>,
 ) -> Result<Given<'e>, AllocError>
-    requires { IsEncoding universe.now encoding.now }
-    ensures given_by { IfOk result (IsGivenBy universe.now encoding.now.premises) }
+    requires { IsEncoding part.now encoding.now }
+    ensures given_by { IfOk result (IsGivenBy part.now encoding.now.premises) }
     ensures clauses { IfOk result (λ given. given.clauses ≡ encoding.now.clauses.clauses) }
     ensures numbers { IfOk result (λ given. given.numbers ≡ encoding.now.clauses.numbers) }
 {
-    let _universe = universe;
+    let _part = part;
     let roles = roles_of(alloc, encoding.bases())?;
     let given = Given::new(alloc, roles, encoding.clauses())?;
     Ok(given)

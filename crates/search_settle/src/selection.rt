@@ -17,34 +17,34 @@ use crate::pairs::known_of;
 use crate::roles::given_of;
 use crate::settled::settle_set;
 use encode::Encoding;
+use reach::Part;
 use std::alloc::{AllocError, Global};
-use universe::Universe;
 
 /// Of a selection that makes all clauses of the universe true one that is acceptable and locally minimal: the numbers of its
 /// pairs, ascending. Memory alone can fail. Each round is linear in the literals, and in those of the clauses with changed
 /// numbers; another round comes only where pairs weren't reached.
 pub fn settle(
     alloc: Global,
-    universe: &Universe<'_, '_>,
+    part: &Part<'_, '_, '_>,
     encoding: &Encoding<'_>,
     selection: &[u32],
 ) -> Result<Vec<u32>, AllocError>
-    requires encoding { IsEncoding universe.now encoding.now }
-    requires ascending { HasAscendingPairs universe.now }
-    requires needed { HasNeededPairs universe.now }
-    requires distinct { HaveDistinctNames universe.now.starts }
-    requires present { StandingArePresent universe.now }
+    requires encoding { IsEncoding part.now encoding.now }
+    requires ascending { HasAscendingPairs part.now }
+    requires needed { HasNeededPairs part.now }
+    requires distinct { HaveDistinctNames part.now.starts }
+    requires present { StandingArePresent part.now }
     requires selection { IsSelection encoding.now.clauses.numbers selection.now }
     requires makes_true { MakesAllTrue selection.now encoding.now.clauses.clauses }
     ensures selection { IfOk result (λ settled. IsSelection encoding.now.clauses.numbers settled.items) }
     ensures makes_true { IfOk result (λ settled. MakesAllTrue settled.items encoding.now.clauses.clauses) }
-    ensures acceptable { IfOk result (λ settled. IsAcceptable universe.now (selects settled.items)) }
-    ensures minimal { IfOk result (λ settled. IsLocallyMinimal universe.now (selects settled.items)) }
+    ensures acceptable { IfOk result (λ settled. IsAcceptable part.now (selects settled.items)) }
+    ensures minimal { IfOk result (λ settled. IsLocallyMinimal part.now (selects settled.items)) }
 {
     closed_parts_are_true();
     settled_is_minimal();
-    let given = given_of(alloc, universe, encoding)?;
-    let known = known_of(alloc, universe)?;
+    let given = given_of(alloc, part, encoding)?;
+    let known = known_of(alloc, part)?;
     let mut set = set_of(alloc, given.numbers(), selection)?;
     settle_set(alloc, &given, &known, &mut set)?;
     numbers_of(alloc, &set)

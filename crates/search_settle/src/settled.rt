@@ -13,7 +13,7 @@ use crate::given::Given;
 use crate::known::Known;
 use crate::moves::{is_number, move_of};
 use crate::queue::Queue;
-use crate::reach::{Reached, reached_in};
+use crate::reached::{Reached, reached_in};
 use crate::set::{has, put};
 use std::alloc::{AllocError, Global};
 

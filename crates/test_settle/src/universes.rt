@@ -8,6 +8,7 @@ use crate::clauses_true::{all_numbers, makes_all_true};
 use encode::encode;
 use index::Index;
 use pins::Prefs;
+use reach::Part;
 use refutation::universe_has_needed_pairs;
 use rules::{GoalLine, Release, Text};
 use search_settle::{settle, standing_of_inputs_are_present};
@@ -31,7 +32,8 @@ fn settled_all(alloc: Global, universe: &Universe<'_, '_>) -> Result<Vec<u32>, F
     if !makes_all_true(numbers.as_slice(), encoding.clauses()) {
         return Err(Fail::new("all pairs make some clause false"));
     }
-    let settled = settle(alloc, universe, &encoding, numbers.as_slice())?;
+    let part = Part::whole(alloc, universe)?;
+    let settled = settle(alloc, &part, &encoding, numbers.as_slice())?;
     Ok(settled)
 }
 

@@ -8,12 +8,12 @@ use Rattle.search_settle.proofs.facts.stood.Goals as goal
 
 pub returns-in-None : goal.returns-in-None
 unfolding Stood
-returns-in-None c = decides_no_start c.args.universe.now.starts c.name.result.now
+returns-in-None c = decides_no_start c.args.part.now.starts c.name.result.now
     (λ (start : Start). (start.name ≡ c.args.pair.now.pkg.name) × MatchOption start.standing ⊥ (SameVersion c.args.pair.now.pkg.version))
     c.in-None.ensures (λ start is. is.0 ∙ sym c.name.ensures)
 
 pub returns-in-Some : goal.returns-in-Some
 unfolding Stood
-returns-in-Some c = decides_start c.args.universe.now.starts c.requires.distinct c.name.result.now c.in-Some.start.now
+returns-in-Some c = decides_start c.args.part.now.starts c.requires.distinct c.name.result.now c.in-Some.start.now
     (λ (start : Start). (start.name ≡ c.args.pair.now.pkg.name) × MatchOption start.standing ⊥ (SameVersion c.args.pair.now.pkg.version))
     c.is_standing_at.result c.in-Some.ensures (λ start is. is.0 ∙ sym c.name.ensures) c.is_standing_at.ensures

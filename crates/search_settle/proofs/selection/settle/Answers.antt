@@ -19,7 +19,7 @@ settle_set-requires-clause-before c =
 pub returns-clause-selection : goal.returns-clause-selection
 returns-clause-selection c =
     let set : List Bool = c.settle_set.new.set.items in
-    let none = zero_out c.args.universe.now c.args.encoding.now.premises c.in_ok-given.given c.in_ok-given.ensures.given_by c.in_ok-known.known (holds set)
+    let none = zero_out c.args.part.now c.args.encoding.now.premises c.in_ok-given.given c.in_ok-given.ensures.given_by c.in_ok-known.known (holds set)
     c.in_ok-known.ensures.known.none c.in_ok-settle_set.ensures.settled.reached in
     let long : length set ≡ c.args.encoding.now.clauses.numbers + 1 =
     c.in_ok-settle_set.ensures.long ∙ ap (λ (n : ℕ). n + 1) c.in_ok-given.ensures.numbers in
@@ -41,19 +41,19 @@ returns-clause-makes_true c =
 pub returns-clause-acceptable : goal.returns-clause-acceptable
 returns-clause-acceptable c =
     let set : List Bool = c.settle_set.new.set.items in
-    let follows = c.settled_is_minimal.ensures c.args.universe.now c.args.encoding.now.premises c.in_ok-given.given c.in_ok-known.known (holds set)
+    let follows = c.settled_is_minimal.ensures c.args.part.now c.args.encoding.now.premises c.in_ok-given.given c.in_ok-known.known (holds set)
     c.requires.ascending c.requires.needed c.in_ok-given.ensures.given_by c.in_ok-known.ensures.known c.in_ok-settle_set.ensures.makes_true c.in_ok-settle_set.ensures.settled in
     IfOk-weaker c.numbers_of.result (λ settled. settled.items ≡ numbers_from 0 set)
-    (λ settled. IsAcceptable c.args.universe.now (selects settled.items))
-    (λ settled is. subst (λ (numbers : List ℕ). IsAcceptable c.args.universe.now (selects numbers)) (sym is)
-    (subst (IsAcceptable c.args.universe.now) (fun_ext (same_numbers set)) follows.0)) c.numbers_of.ensures
+    (λ settled. IsAcceptable c.args.part.now (selects settled.items))
+    (λ settled is. subst (λ (numbers : List ℕ). IsAcceptable c.args.part.now (selects numbers)) (sym is)
+    (subst (IsAcceptable c.args.part.now) (fun_ext (same_numbers set)) follows.0)) c.numbers_of.ensures
 
 pub returns-clause-minimal : goal.returns-clause-minimal
 returns-clause-minimal c =
     let set : List Bool = c.settle_set.new.set.items in
-    let follows = c.settled_is_minimal.ensures c.args.universe.now c.args.encoding.now.premises c.in_ok-given.given c.in_ok-known.known (holds set)
+    let follows = c.settled_is_minimal.ensures c.args.part.now c.args.encoding.now.premises c.in_ok-given.given c.in_ok-known.known (holds set)
     c.requires.ascending c.requires.needed c.in_ok-given.ensures.given_by c.in_ok-known.ensures.known c.in_ok-settle_set.ensures.makes_true c.in_ok-settle_set.ensures.settled in
     IfOk-weaker c.numbers_of.result (λ settled. settled.items ≡ numbers_from 0 set)
-    (λ settled. IsLocallyMinimal c.args.universe.now (selects settled.items))
-    (λ settled is. subst (λ (numbers : List ℕ). IsLocallyMinimal c.args.universe.now (selects numbers)) (sym is)
-    (subst (IsLocallyMinimal c.args.universe.now) (fun_ext (same_numbers set)) follows.1)) c.numbers_of.ensures
+    (λ settled. IsLocallyMinimal c.args.part.now (selects settled.items))
+    (λ settled is. subst (λ (numbers : List ℕ). IsLocallyMinimal c.args.part.now (selects numbers)) (sym is)
+    (subst (IsLocallyMinimal c.args.part.now) (fun_ext (same_numbers set)) follows.1)) c.numbers_of.ensures

@@ -3,7 +3,7 @@ use Rattle.std.proofs.Common.{subst, sym}
 use Rattle.search_settle.specs.Reach.{IsFound}
 use Rattle.search_settle.specs.Truth.{holds}
 use Rattle.search_settle.proofs.ReachLemmas.{found_more}
-use Rattle.search_settle.proofs.reach.Reached.push.Goals as goal
+use Rattle.search_settle.proofs.reached.Reached.push.Goals as goal
 
 pub returns-clause-found : goal.returns-clause-found
 returns-clause-found c = found_more c.args.given.now c.args.known.now (holds c.args.set.now.items) c.self.inside.marks.items c.put.new.set.items

@@ -2,7 +2,7 @@
 use Rattle.std.proofs.Common.{◌≡◌, ℕ, ◌<◌, true}
 use Rattle.search_settle.specs.Reach.{Extends, IsFound}
 use Rattle.search_settle.specs.Truth.{holds}
-use Rattle.search_settle.proofs.reach.Reached.seed.Given as goal
+use Rattle.search_settle.proofs.reached.Reached.seed.Given as goal
 
 abbrev pub invariant-loop-number : goal.invariant-loop-number
 invariant-loop-number l = IsFound l.given l.known (holds l.set.items) l.self

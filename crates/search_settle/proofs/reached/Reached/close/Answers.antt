@@ -4,7 +4,7 @@ use Rattle.std.specs.List.{slice_get}
 use Rattle.std.proofs.lemmas.Option.{slice_get_within, get_or_from_slice_get}
 use Rattle.search_settle.specs.Truth.{holds}
 use Rattle.search_settle.proofs.ReachLemmas.{extends_further, more_have}
-use Rattle.search_settle.proofs.reach.Reached.close.Goals as goal
+use Rattle.search_settle.proofs.reached.Reached.close.Goals as goal
 
 pub loop-place-preserved : goal.loop-place-preserved
 loop-place-preserved c =

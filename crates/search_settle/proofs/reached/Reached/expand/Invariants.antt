@@ -4,7 +4,7 @@ use Rattle.std.specs.List.{Contains}
 use Rattle.search_settle.specs.Given.{clause_at, is_need_at, places_without}
 use Rattle.search_settle.specs.Reach.{Extends, IsFound}
 use Rattle.search_settle.specs.Truth.{holds}
-use Rattle.search_settle.proofs.reach.Reached.expand.Given as goal
+use Rattle.search_settle.proofs.reached.Reached.expand.Given as goal
 
 abbrev pub invariant-loop-place : goal.invariant-loop-place
 invariant-loop-place l = IsFound l.given l.known (holds l.set.items) l.self

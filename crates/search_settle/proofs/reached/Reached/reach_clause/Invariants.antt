@@ -3,7 +3,7 @@ use Rattle.std.proofs.Common.{◌≡◌, ℕ, pos, ◌<◌, true, get_or}
 use Rattle.search_settle.specs.Given.{clause_at}
 use Rattle.search_settle.specs.Reach.{Extends, IsFound}
 use Rattle.search_settle.specs.Truth.{holds}
-use Rattle.search_settle.proofs.reach.Reached.reach_clause.Given as goal
+use Rattle.search_settle.proofs.reached.Reached.reach_clause.Given as goal
 
 abbrev pub invariant-loop-literal : goal.invariant-loop-literal
 invariant-loop-literal l = IsFound l.given l.known (holds l.set.items) l.self

@@ -2,7 +2,7 @@
 use Rattle.std.proofs.Common.{◌≡◌, true}
 use Rattle.search_settle.specs.Truth.{holds}
 use Rattle.search_settle.proofs.ReachLemmas.{needed_sound, each_selected}
-use Rattle.search_settle.proofs.reach.Reached.reach_clause.Goals as goal
+use Rattle.search_settle.proofs.reached.Reached.reach_clause.Goals as goal
 
 pub reach_literal-requires-clause-sound : goal.reach_literal-requires-clause-sound
 reach_literal-requires-clause-sound c = needed_sound c.args.given.now c.args.known.now (holds c.args.set.now.items) c.loop-literal.self

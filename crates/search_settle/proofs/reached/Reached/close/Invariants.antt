@@ -2,7 +2,7 @@
 use Rattle.std.proofs.Common.{ℕ, ◌<◌, ◌≤◌, ◌^◌, length, get_or}
 use Rattle.search_settle.specs.Reach.{Extends, HasNeeds, IsFound}
 use Rattle.search_settle.specs.Truth.{holds}
-use Rattle.search_settle.proofs.reach.Reached.close.Given as goal
+use Rattle.search_settle.proofs.reached.Reached.close.Given as goal
 
 abbrev pub invariant-loop-place : goal.invariant-loop-place
 invariant-loop-place l = IsFound l.given l.known (holds l.set.items) l.self
