@@ -1,5 +1,5 @@
 -- Places that ascend still do where one is put among them, and where one is taken out and those behind it move down.
-use Rattle.std.proofs.Common.{◌≡◌, ◌≢◌, ◌==◌, ℕ, zero, suc, ◌+◌, ◌<◌, ◌≤◌, true, not, ◌⊎◌, inl, inr, List, [], ◌∷◌, map, length, get_or, sym, ap, subst, ◌∙◌, arith}
+use Rattle.std.proofs.Common.{◌≡◌, ◌≢◌, ◌==◌, ℕ, zero, suc, ◌+◌, ◌<◌, ◌≤◌, true, not, ◌⊎◌, inl, inr, List, [], ◌∷◌, map, length, get_or, refl, sym, ap, subst, ◌∙◌, arith}
 use Rattle.std.proofs.Math.ListN.{length-map}
 use Rattle.std.specs.List.{filter, insert}
 use Rattle.std.proofs.lemmas.Bool.{cases_order}

@@ -1,5 +1,5 @@
 -- The places that are listed for a name, where lists and names are added, and where a record is gone.
-use Rattle.std.proofs.Common.{◌≡◌, inl, inr, ℕ, zero, suc, ◌+◌, ◌<◌, Bool, true, false, cond, List, [], ◌∷◌, ◌++◌, map, length, get_or, take, drop, Option, Some, None, Result, Ok, Err, OnOk, IfSome, Contains, slice_get, slice_set, unwrap_or, refl, sym, ap, subst, ◌∙◌, bytes_eq, arith, length-append}
+use Rattle.std.proofs.Common.{◌≡◌, ◌⊎◌, inl, inr, ℕ, zero, suc, ◌+◌, ◌<◌, Bool, true, false, cond, List, [], ◌∷◌, ◌++◌, map, length, get_or, take, drop, Option, Some, None, Result, Ok, Err, OnOk, IfSome, Contains, slice_get, slice_set, unwrap_or, refl, sym, ap, subst, ◌∙◌, bytes_eq, arith, length-append}
 use Rattle.std.specs.Borrow.{Bor}
 use Rattle.std.specs.List.{All, IsAmong, insert}
 use Rattle.std.specs.Map.{lookup, values_of}

@@ -1,6 +1,7 @@
 -- The places that stay are moved.
-use Rattle.std.proofs.Common.{◌==◌, ℕ, not, map, length, ap, subst, sym, rules, ◌∙◌}
+use Rattle.std.proofs.Common.{◌≡◌, ◌==◌, ℕ, List, not, map, length, take, drop, ◌++◌, ap, subst, sym, rules, ◌∙◌}
 use Rattle.std.proofs.Math.ListN.{length-map}
+use Rattle.std.specs.List.{filter}
 use Rattle.std.proofs.lemmas.Fn.{filter_same}
 use Rattle.status.specs.Holders.{IsAscending, moved_down, places_left}
 use Rattle.status.proofs.AscendingLemmas.{left-ascends}
