@@ -1,11 +1,11 @@
 -- Places are reached one by one.
-use Rattle.std.proofs.Common.{◌≡◌, ◌≢◌, ℕ, ◌<◌, ◌≤◌, ◌+◌, ◌++◌, ◌∷◌, [], Bool, true, false, List, length, get_or, refl, sym, ap, subst, ◌∙◌, arith, length-append}
+use Rattle.std.proofs.Common.{◌≡◌, ◌≢◌, ℕ, ◌<◌, ◌≤◌, ◌+◌, ◌++◌, ◌∷◌, [], Bool, true, List, length, get_or, refl, sym, ap, subst, ◌∙◌, arith, length-append}
 use Rattle.std.specs.List.{All, Contains}
 use Rattle.std.proofs.lemmas.Bool.Decides.{eqb_tells}
 use Rattle.std.proofs.lemmas.List.{get_or_append_left, get_or_default}
 use Rattle.std.proofs.lemmas.List.Elements.{Contains-append_left, Contains-append_right}
 use Rattle.rules.specs.ElementLaws.{Contains-head}
-use Rattle.reach.specs.Marks.{Extends, Found, IsOrdered, has}
+use Rattle.reach.specs.Marks.{Extends, Found, has}
 use mathlib.Core.Logic.{inl, inr}
 
 -- one more place is reached
@@ -14,12 +14,14 @@ pub extends_one : (marks others : List Bool) (order longer : List ℕ) (place : 
     → longer ≡ order ++ place ∷ []
     → Extends (record { marks = marks; order = order }) (record { marks = others; order = longer })
 extends_one marks others order longer place same marked long grown = record {
-  ordered = λ is. record { each = λ other there. elim (eqb_tells other place) [
-    | inl one ↦ subst (λ (xs : List ℕ). Contains xs other) (sym grown) (Contains-append_right order (place ∷ []) other
-        (subst (λ (n : ℕ). Contains (n ∷ []) other) one.1 (Contains-head other [])))
-    | inr differs ↦ subst (λ (xs : List ℕ). Contains xs other) (sym grown) (Contains-append_left order (place ∷ []) other
-        (is.each other (sym (same other differs.1) ∙ there)))
-  ] };
+  ordered = λ is. record {
+    each = λ other there. elim (eqb_tells other place) [
+      | inl one ↦ subst (λ (xs : List ℕ). Contains xs other) (sym grown) (Contains-append_right order (place ∷ []) other
+          (subst (λ (n : ℕ). Contains (n ∷ []) other) one.1 (Contains-head other [])))
+      | inr differs ↦ subst (λ (xs : List ℕ). Contains xs other) (sym grown) (Contains-append_left order (place ∷ []) other
+          (is.each other (sym (same other differs.1) ∙ there)))
+    ];
+  };
   kept = λ other is. elim (eqb_tells other place) [
     | inl one ↦ ap (has others) one.1 ∙ marked
     | inr differs ↦ same other differs.1 ∙ is

@@ -1,5 +1,5 @@
 -- The numbers of marked places.
-use Rattle.std.proofs.Common.{◌≡◌, ℕ, zero, suc, ◌+◌, ◌<◌, ◌≤◌, Bool, true, false, List, [], ◌∷◌, length, get_or, refl, sym, ap, subst, ◌∙◌, arith}
+use Rattle.std.proofs.Common.{◌≡◌, ℕ, zero, suc, ◌+◌, ◌<◌, ◌≤◌, Bool, true, false, List, [], ◌∷◌, length, get_or, refl, subst, arith}
 use Rattle.std.specs.List.{All, AllPairs, Contains}
 use Rattle.reach.specs.Marks.{has, numbers_from}
 

@@ -1,22 +1,21 @@
 -- What is reached, one package after the other.
-use Rattle.std.proofs.Common.{◌≡◌, ◌≢◌, ℕ, zero, suc, ◌<◌, ◌≤◌, ◌+◌, ◌++◌, Bool, true, false, List, [], ◌∷◌, length, get_or, map, Option, Some, None, MatchOption, refl, sym, ap, subst, ◌∙◌, arith}
+use Rattle.std.proofs.Common.{◌≡◌, ℕ, zero, suc, ◌<◌, ◌≤◌, ◌+◌, Bool, true, false, List, [], ◌∷◌, length, get_or, Option, Some, None, MatchOption, refl, sym, ap, subst, ◌∙◌, arith}
 use Rattle.std.specs.Prelude.{◌↔◌, ◌⊎◌, ⊤, IsTrue, slice_get}
-use Rattle.std.specs.Option.{option_map}
 use Rattle.std.specs.List.{All, Any, Contains}
 use Rattle.std.proofs.lemmas.Bool.Decides.{eqb_tells}
 use Rattle.std.proofs.lemmas.List.{get_or_default}
 use Rattle.std.proofs.lemmas.List.Elements.{All-contains}
-use Rattle.std.proofs.lemmas.Option.{get_or_from_slice_get, slice_get-map, slice_get_within}
+use Rattle.std.proofs.lemmas.Option.{slice_get_within}
 use Rattle.rules.specs.ElementLaws.{All-intro, Any-append}
-use Rattle.rules.specs.Minimal.{IsWanted, Needs, WasPresent, AsksFor, pkg_at}
+use Rattle.rules.specs.Minimal.{IsWanted, Needs, WasPresent, AsksFor}
 use Rattle.rules.specs.Package.{Atom, FitsByName, Matches, MatchesSome, Pkg}
 use Rattle.rules.specs.Universe.{Pair, Start, Universe}
 use Rattle.rules.specs.declared.goal.Goal.{Goal}
 use Rattle.rules.specs.declared.goal.Goal.TheVariants as goal
 use Rattle.universe.specs.Universe.{packages_of}
-use Rattle.index.specs.Providers.{IsProviderAt, plain_atom}
+use Rattle.index.specs.Providers.{IsProviderAt}
 use Rattle.providers.specs.Matching.{IsMatchAt}
-use Rattle.reach.specs.Marks.{Extends, Found, IsOrdered, has}
+use Rattle.reach.specs.Marks.{Extends, Found, has}
 use Rattle.reach.specs.Reached.{HasAll, HasNeeds, asked_by}
 use Rattle.reach.proofs.ListLemmas.{some_at}
 use mathlib.Core.Logic.{inl, inr}
@@ -34,10 +33,12 @@ all_weaker packages marks Is Was implies all = record { each = λ place pkg at i
 -- either of two properties
 pub all_either : (packages : List Pkg) (marks : List Bool) (Is Was Either : Pkg → Type 0) → ((pkg : Pkg) → Either pkg → Is pkg ⊎ Was pkg)
     → HasAll packages marks Is → HasAll packages marks Was → HasAll packages marks Either
-all_either packages marks Is Was Either cases one other = record { each = λ place pkg at is. elim (cases pkg is) [
-  | inl first ↦ one.each place pkg at first
-  | inr second ↦ other.each place pkg at second
-] }
+all_either packages marks Is Was Either cases one other = record {
+  each = λ place pkg at is. elim (cases pkg is) [
+    | inl first ↦ one.each place pkg at first
+    | inr second ↦ other.each place pkg at second
+  ];
+}
 
 -- one more item was gone through
 pub more_items : {A : Type 0} (packages : List Pkg) (old new : Found) (Is : A → Pkg → Type 0) (items : List A) (index : ℕ) (item : A)
@@ -57,8 +58,10 @@ pub all_items : {A : Type 0} (packages : List Pkg) (found : Found) (Is : A → P
     → length items ≤ index
     → ((k : ℕ) (each : A) → k < index → slice_get items k ≡ Some each → HasAll packages found.marks (Is each))
     → HasAll packages found.marks (λ pkg. Any (λ item. Is item pkg) items)
-all_items packages found Is items index all each = record { each = λ place pkg at some.
-    (each some.0 some.1 (omega (arith, all, some.2)) (some_at items some.0 some.1 some.2 ∙ ap Some some.3)).each place pkg at some.4 }
+all_items packages found Is items index all each = record {
+  each = λ place pkg at some.
+      (each some.0 some.1 (omega (arith, all, some.2)) (some_at items some.0 some.1 some.2 ∙ ap Some some.3)).each place pkg at some.4;
+}
 
 -- the places of packages that match have marks
 pub places_within : (packages : List Pkg) (marks : List Bool) (places found : List ℕ) (atom : Atom) → length marks ≡ length packages
@@ -72,9 +75,11 @@ places_within packages marks places found atom long same exact = All-intro (λ p
 pub all_matching : (packages : List Pkg) (marks : List Bool) (places found : List ℕ) (atom : Atom)
     → places ≡ found → ((place : ℕ) → Contains found place ↔ IsMatchAt packages atom place)
     → All (λ place. has marks place ≡ true) places → HasAll packages marks (λ pkg. Matches pkg atom)
-all_matching packages marks places found atom same exact all = record { each = λ place pkg at is.
-    All-contains (λ p. has marks p ≡ true) places place all
-    (subst (λ (xs : List ℕ). Contains xs place) (sym same) ((exact place).1 (pkg, at, is))) }
+all_matching packages marks places found atom same exact all = record {
+  each = λ place pkg at is.
+      All-contains (λ p. has marks p ≡ true) places place all
+      (subst (λ (xs : List ℕ). Contains xs place) (sym same) ((exact place).1 (pkg, at, is)));
+}
 
 -- what Pre-Depends and Depends name is what is needed
 pub all_needed : (packages : List Pkg) (old new : Found) (pkg : Pkg) → Extends old new
@@ -107,13 +112,15 @@ pub all_named : (pairs : List Pair) (packages : List Pkg) (marks : List Bool) (p
     → ((k : ℕ) (pair : Pair) → k < index → slice_get pairs (get_or places k 0) ≡ Some pair → pair.pkg.name ≡ name
     → has marks (get_or places k 0) ≡ true)
     → HasAll packages marks (λ pkg. pkg.name ≡ name)
-all_named pairs packages marks places found name index same lent all exact each = record { each = λ place pkg at named.
-    let listed : Contains places place = subst (λ (xs : List ℕ). Contains xs place) (sym lent)
-    ((exact place).1 (own_name name packages place pkg at named)) in
-    let here : get_or places listed.0 0 ≡ place = get_or_default places listed.0 0 place listed.1 ∙ listed.2 in
-    let pair = pair_of pairs place pkg (subst (λ (xs : List Pkg). slice_get xs place ≡ Some pkg) same at) in
-    subst (λ (p : ℕ). has marks p ≡ true) here (each listed.0 pair.0 (omega (arith, listed.1, all))
-    (ap (slice_get pairs) here ∙ pair.1) (ap (λ (q : Pkg). q.name) pair.2 ∙ named)) }
+all_named pairs packages marks places found name index same lent all exact each = record {
+  each = λ place pkg at named.
+      let listed : Contains places place = subst (λ (xs : List ℕ). Contains xs place) (sym lent)
+      ((exact place).1 (own_name name packages place pkg at named)) in
+      let here : get_or places listed.0 0 ≡ place = get_or_default places listed.0 0 place listed.1 ∙ listed.2 in
+      let pair = pair_of pairs place pkg (subst (λ (xs : List Pkg). slice_get xs place ≡ Some pkg) same at) in
+      subst (λ (p : ℕ). has marks p ≡ true) here (each listed.0 pair.0 (omega (arith, listed.1, all))
+      (ap (slice_get pairs) here ∙ pair.1) (ap (λ (q : Pkg). q.name) pair.2 ∙ named));
+}
 
 -- one more of the places was gone through
 pub more_named : (pairs : List Pair) (old new : Found) (places : List ℕ) (name : List ℕ) (index : ℕ) → Extends old new
@@ -144,8 +151,10 @@ all_wanted u packages old new extends before here = all_either packages new.mark
 -- what a place needs is still marked
 pub needs_kept : (packages : List Pkg) (old new : Found) (place : ℕ) → Extends old new → HasNeeds packages old.marks place
     → HasNeeds packages new.marks place
-needs_kept packages old new place extends has_needs = record { each = λ pkg at.
-    all_kept packages old new (Needs pkg) extends (has_needs.each pkg at) }
+needs_kept packages old new place extends has_needs = record {
+  each = λ pkg at.
+      all_kept packages old new (Needs pkg) extends (has_needs.each pkg at);
+}
 
 -- one more place has what it needs
 pub more_have : (packages : List Pkg) (old new : Found) (turn place : ℕ) → Extends old new → turn < length old.order
@@ -159,31 +168,26 @@ more_have packages old new turn place extends within at before here k below = el
       (needs_kept packages old new (get_or old.order k 0) extends (before k earlier))
 ]
 
--- where all places in the order have what they need, each marked one has
-pub all_have : (packages : List Pkg) (found : Found) (turn : ℕ) → IsOrdered found → length found.order ≤ turn
-    → ((k : ℕ) → k < turn → HasNeeds packages found.marks (get_or found.order k 0))
-    → (place : ℕ) → has found.marks place ≡ true → HasNeeds packages found.marks place
-all_have packages found turn ordered all each place marked =
-    let within = ordered.each place marked in
-    subst (HasNeeds packages found.marks) (get_or_default found.order within.0 0 place within.1 ∙ within.2)
-    (each within.0 (omega (arith, within.1, all)))
-
 -- a place without a pair has no package
 pub none_there : (pairs : List Pair) (packages : List Pkg) (marks : List Bool) (place : ℕ) → packages ≡ packages_of pairs
     → None ≡ slice_get pairs place → HasNeeds packages marks place
-none_there pairs packages marks place same none = record { each = λ pkg at.
-    let pair = pair_of pairs place pkg (subst (λ (xs : List Pkg). slice_get xs place ≡ Some pkg) same at) in
-    absurd (let e : None ≡ Some pair.0 = none ∙ pair.1 in cc) }
+none_there pairs packages marks place same none = record {
+  each = λ pkg at.
+      let pair = pair_of pairs place pkg (subst (λ (xs : List Pkg). slice_get xs place ≡ Some pkg) same at) in
+      absurd (let e : None ≡ Some pair.0 = none ∙ pair.1 in cc);
+}
 
 -- the package of the pair at the place has what it needs
 pub have_there : (pairs : List Pair) (packages : List Pkg) (marks : List Bool) (place : ℕ) (pair : Pair) (pkg : Pkg)
     → packages ≡ packages_of pairs → Some pair ≡ slice_get pairs place → pkg ≡ pair.pkg → HasAll packages marks (Needs pkg)
     → HasNeeds packages marks place
-have_there pairs packages marks place pair pkg same there of all = record { each = λ other at.
-    let found = pair_of pairs place other (subst (λ (xs : List Pkg). slice_get xs place ≡ Some other) same at) in
-    let one : Some pair ≡ Some found.0 = there ∙ found.1 in
-    let equal : pair ≡ found.0 = cc in
-    subst (λ (p : Pkg). HasAll packages marks (Needs p)) (of ∙ ap (λ (p : Pair). p.pkg) equal ∙ found.2) all }
+have_there pairs packages marks place pair pkg same there of all = record {
+  each = λ other at.
+      let found = pair_of pairs place other (subst (λ (xs : List Pkg). slice_get xs place ≡ Some other) same at) in
+      let one : Some pair ≡ Some found.0 = there ∙ found.1 in
+      let equal : pair ≡ found.0 = cc in
+      subst (λ (p : Pkg). HasAll packages marks (Needs p)) (of ∙ ap (λ (p : Pair). p.pkg) equal ∙ found.2) all;
+}
 
 -- a goal asks for no other name than this one
 pub asked_is : (asks : Goal) (name : List ℕ) → AsksFor name asks → asked_by asks ≡ Some name
@@ -197,8 +201,10 @@ asked_is goal.NoRemove name is = absurd is
 -- what a goal asks for that asks for nothing
 pub none_asked : (packages : List Pkg) (marks : List Bool) (asks : Goal) → None ≡ asked_by asks
     → HasAll packages marks (λ pkg. AsksFor pkg.name asks)
-none_asked packages marks asks none = record { each = λ place pkg at is.
-    absurd (let e : None ≡ Some pkg.name = none ∙ asked_is asks pkg.name is in cc) }
+none_asked packages marks asks none = record {
+  each = λ place pkg at is.
+      absurd (let e : None ≡ Some pkg.name = none ∙ asked_is asks pkg.name is in cc);
+}
 
 -- the packages of the name that a goal asks for
 pub all_asked : (packages : List Pkg) (marks : List Bool) (asks : Goal) (name : List ℕ) → Some name ≡ asked_by asks
@@ -209,8 +215,10 @@ all_asked packages marks asks name asked all = all_weaker packages marks (λ pkg
 -- a fact of a name that wasn't present
 pub none_present : (packages : List Pkg) (marks : List Bool) (start : Start) → start.is_present ≡ false
     → HasAll packages marks (λ pkg. (start.name ≡ pkg.name) × IsTrue start.is_present)
-none_present packages marks start absent = record { each = λ place pkg at is.
-    absurd (let e : false ≡ true = sym absent ∙ is.1 in cc) }
+none_present packages marks start absent = record {
+  each = λ place pkg at is.
+      absurd (let e : false ≡ true = sym absent ∙ is.1 in cc);
+}
 
 -- the packages of a name that was present
 pub all_present : (packages : List Pkg) (marks : List Bool) (start : Start) (name : List ℕ) → name ≡ start.name

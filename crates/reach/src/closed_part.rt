@@ -8,8 +8,8 @@ ghost use Rattle.refutation.specs.Clause.{item_at};
 ghost use Rattle.part.specs.Part.{IsClosedPart, IsPart};
 ghost use Rattle.universe.specs.Universe.{packages_of};
 
-use crate::pairs_part::Part;
 use crate::closing::reached_in;
+use crate::pairs_part::Part;
 use std::alloc::{AllocError, Global};
 use universe::{CountingPkg, Pair, Universe};
 

@@ -68,10 +68,7 @@ impl Marks {
 
 /// The places of the pairs that are wanted, and with a pair of those that it needs. Memory alone can fail. What is wanted is
 /// found by its names, and each reached package is read once.
-pub(crate) fn reached_in(
-    alloc: Global,
-    universe: &Universe<'_, '_>,
-) -> Result<Marks, AllocError>
+pub(crate) fn reached_in(alloc: Global, universe: &Universe<'_, '_>) -> Result<Marks, AllocError>
     ensures long { IfOk result (λ found. length found.marks ≡ length universe.now.pairs) }
     ensures reached { IfOk result (λ found. HasReached universe.now found.marks) }
 {

@@ -24,12 +24,18 @@ loop-pair-preserved c =
 
 pub returns-clause-known : goal.returns-clause-known
 returns-clause-known c =
-    let all : length c.args.part.now.pairs ≤ c.loop-pair.pair-index = omega (arith, ap length c.pairs-pair-items.ensures.items,
-    length-map c.pairs-pair-items.result.now (λ (p : Bor Pair). p.now)) in
+    let all : length c.args.part.now.pairs ≤ c.loop-pair.pair-index = omega (
+      arith,
+      ap length c.pairs-pair-items.ensures.items,
+      length-map c.pairs-pair-items.result.now (λ (p : Bor Pair). p.now),
+    ) in
     known_all c.args.part.now c.loop-pair.known c.loop-pair.pair-index all c.loop-pair.invariant
 
 pub returns-clause-covered : goal.returns-clause-covered
 returns-clause-covered c =
-    let all : c.loop-pair.pair-index ≤ length c.args.part.now.pairs = omega (arith, ap length c.pairs-pair-items.ensures.items,
-    length-map c.pairs-pair-items.result.now (λ (p : Bor Pair). p.now)) in
+    let all : c.loop-pair.pair-index ≤ length c.args.part.now.pairs = omega (
+      arith,
+      ap length c.pairs-pair-items.ensures.items,
+      length-map c.pairs-pair-items.result.now (λ (p : Bor Pair). p.now),
+    ) in
     known_covered c.args.part.now c.loop-pair.known c.loop-pair.pair-index all c.loop-pair.invariant

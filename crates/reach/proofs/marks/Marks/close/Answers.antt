@@ -3,7 +3,7 @@ use Rattle.std.proofs.Common.{◌≡◌, ◌<◌, ◌^◌, Some, arith, length, 
 use Rattle.std.specs.List.{slice_get}
 use Rattle.std.proofs.lemmas.Option.{slice_get_within, get_or_from_slice_get}
 use Rattle.reach.proofs.MarkLemmas.{extends_further}
-use Rattle.reach.proofs.ReachLemmas.{all_have, more_have}
+use Rattle.reach.proofs.ReachLemmas.{more_have}
 use Rattle.reach.proofs.marks.Marks.close.Goals as goal
 
 pub loop-turn-preserved : goal.loop-turn-preserved
