@@ -3,17 +3,14 @@ use Rattle.std.proofs.Common.{◌≡◌, ◌≢◌, ℕ, zero, suc, true, false,
 use Rattle.std.specs.Prelude.{ℤ, IsTrue}
 use Rattle.std.specs.List.{AllZip, Any, Contains}
 use Rattle.rules.specs.ElementLaws.{Any-elim, Contains-cons, Contains-head, Contains-map, Contains-nil, Contains-rest}
-use Rattle.rules.specs.Database.{IsQuiet, Record}
 use Rattle.rules.specs.Universe.{Universe}
 use Rattle.encode.specs.Encoding.{Encoding, IsClauseOf, IsEncoding, signed}
 use Rattle.refutation.specs.Premise.{IsInPremise, IsPremise}
 use Rattle.refutation.specs.declared.line.Premise.{Premise}
 use Rattle.refutation.specs.declared.literal.Literal.{Literal}
 use Rattle.refutation.specs.declared.literal.Literal.TheVariants as literal
-use Rattle.solver.specs.Choice.{HasAnother, HasTwo, IsOtherThan, is_pair}
-use Rattle.solver.specs.Solved.{IsAtLimit, IsUndecided, LeavesChoice}
-use Rattle.solver.specs.declared.solved.Undecided.{Undecided}
-use Rattle.solver.specs.declared.solved.Undecided.TheVariants as undecided
+use Rattle.search.specs.Choice.{HasAnother, HasTwo, IsOtherThan, is_positive}
+use Rattle.part.specs.Premises.{LeavesChoice}
 use mathlib.Core.Logic.{inl, inr}
 
 -- the premise of a clause
@@ -28,16 +25,16 @@ premise_of_clause u (premise ∷ premises) (one ∷ clauses) all clause within =
 ]
 
 -- a literal that says that a pair is selected
-selected_pair : (found : Literal) (number : ℤ) → signed found ≡ number → IsTrue (is_pair number) → (pair : ℕ) × (found ≡ literal.Selected pair)
+selected_pair : (found : Literal) (number : ℤ) → signed found ≡ number → IsTrue (is_positive number) → (pair : ℕ) × (found ≡ literal.Selected pair)
 selected_pair (literal.Selected pair) number is so = (pair, refl)
 selected_pair (literal.Unselected zero) number is so =
-    let P : ℤ → Type 0 = λ z. IsTrue (is_pair z) in absurd (let e : false ≡ true = subst P (sym is) so in cc)
+    let P : ℤ → Type 0 = λ z. IsTrue (is_positive z) in absurd (let e : false ≡ true = subst P (sym is) so in cc)
 selected_pair (literal.Unselected (suc below)) number is so =
-    let P : ℤ → Type 0 = λ z. IsTrue (is_pair z) in absurd (let e : false ≡ true = subst P (sym is) so in cc)
+    let P : ℤ → Type 0 = λ z. IsTrue (is_positive z) in absurd (let e : false ≡ true = subst P (sym is) so in cc)
 
 -- two pairs of the clause of a premise
 two_pairs : (u : Universe) (premise : Premise) (clause : List ℤ) → IsPremise u premise → IsClauseOf u premise clause → (one two : ℤ)
-    → Contains clause one → Contains clause two → IsTrue (is_pair one) → IsTrue (is_pair two) → two ≢ one → LeavesChoice u
+    → Contains clause one → Contains clause two → IsTrue (is_positive one) → IsTrue (is_positive two) → two ≢ one → LeavesChoice u
 unfolding IsClauseOf
 two_pairs u premise clause so (literals, list, same) one two one_in two_in first second differ =
     let One : List ℤ → Type 0 = λ zs. Contains zs one in
@@ -66,12 +63,3 @@ choice_left u encoding is some = Any-elim HasTwo encoding.clauses.clauses (Leave
     Any-elim (IsOtherThan one) clause (LeavesChoice u)
     (λ other other_in (second, differ). two_pairs u premise clause (is.sound premise there) of one other one_in other_in first second differ)
     others) two) some
-
--- what is answered at the limit is true of the universe
-pub undecided_at_limit : (u : Universe) (start : List Record) (encoding : Encoding) (limit reached : ℕ) (why : Undecided) → IsQuiet start
-    → IsEncoding u encoding → reached ≡ limit → IsAtLimit encoding reached why → IsUndecided u start limit why
-undecided_at_limit u start encoding limit reached (undecided.Limit at) quiet is same (equal, some) =
-    (quiet, equal ∙ same, choice_left u encoding is some)
-undecided_at_limit u start encoding limit reached undecided.Start quiet is same none = absurd none
-undecided_at_limit u start encoding limit reached undecided.Stuck quiet is same none = absurd none
-undecided_at_limit u start encoding limit reached undecided.Unchecked quiet is same none = quiet

@@ -1,2 +1,3 @@
 pub mod ChoiceLemmas
+pub mod LiftLemmas
 pub mod PlanLemmas

@@ -1,11 +1,6 @@
 -- What is answered to a request over its universe.
-use Rattle.std.specs.Prelude.{◌≡◌, ◌≢◌, ⊤, ℕ, Bool, List}
-use Rattle.std.specs.List.{Any}
-use Rattle.encode.specs.Encoding.{Encoding}
-use Rattle.refutation.specs.Premise.{IsInPremise, IsPremise}
+use Rattle.std.specs.Prelude.{◌≡◌, ℕ, Bool, List}
 use Rattle.refutation.specs.Refutation.{IsAccepted}
-use Rattle.refutation.specs.declared.line.Premise.{Premise}
-use Rattle.refutation.specs.declared.literal.Literal.TheVariants as literal
 use Rattle.rules.specs.Database.{IsQuiet, Record}
 use Rattle.rules.specs.Minimal.{IsLocallyMinimal}
 use Rattle.rules.specs.Run.{IsGoodPlan}
@@ -14,11 +9,11 @@ use Rattle.rules.specs.Universe.{Universe}
 use Rattle.rules.specs.declared.step.Step.{Step}
 use Rattle.encode.specs.Selection.{selects}
 use Rattle.order.specs.Order.{IsBlockedAfter, IsPlanFor}
+use Rattle.part.specs.Premises.{LeavesChoice}
 use Rattle.forward_steps.specs.Selection.{chosen}
 use Rattle.plain.specs.Change.{IsPlain}
 use Rattle.plain.specs.Order.{IsInFixedOrder}
 use Rattle.fixed_order.specs.Names.{HasNames, HasPairNames}
-use Rattle.solver.specs.Choice.{HasTwo}
 use Rattle.solver.specs.declared.solved.Solved.{Solved}
 use Rattle.solver.specs.declared.solved.Solved.TheVariants as solved
 use Rattle.solver.specs.declared.solved.Undecided.{Undecided}
@@ -53,11 +48,6 @@ pub record IsStuckFor (u : Universe) (start : List Record) (numbers : List ℕ) 
 abbrev pub IsStuck : Universe → List Record → Type 0
 IsStuck u start = (numbers : List ℕ) × IsStuckFor u start numbers
 
--- the clause of some premise leaves a choice: it says of two pairs that one is selected
-abbrev pub LeavesChoice : Universe → Type 0
-LeavesChoice u = (premise : Premise) × (one two : ℕ) × IsPremise u premise × (one ≢ two)
-    × IsInPremise u premise (literal.Selected one) × IsInPremise u premise (literal.Selected two)
-
 -- it is undecided: at the limit handed in, where some clause leaves a choice; the start isn't quiet; an acceptable
 -- selection isn't put in order, and the change to it isn't plain; or what was found isn't accepted
 abbrev pub IsUndecided : Universe → List Record → ℕ → Undecided → Type 0
@@ -65,13 +55,6 @@ IsUndecided u start limit (undecided.Limit reached) = IsQuiet start × (reached 
 IsUndecided u start limit undecided.Start = ¬ IsQuiet start
 IsUndecided u start limit undecided.Stuck = IsQuiet start × IsStuck u start
 IsUndecided u start limit undecided.Unchecked = IsQuiet start
-
--- at the limit some clause of the encoding says of two pairs that one is selected
-abbrev pub IsAtLimit : Encoding → ℕ → Undecided → Type 0
-IsAtLimit encoding limit (undecided.Limit reached) = (reached ≡ limit) × Any HasTwo encoding.clauses.clauses
-IsAtLimit encoding limit undecided.Start = ⊥
-IsAtLimit encoding limit undecided.Stuck = ⊥
-IsAtLimit encoding limit undecided.Unchecked = ⊤
 
 -- the answer is true: a plan is good, its end is a locally minimal selection, and a plain change is made in the fixed order; a
 -- refutation is accepted, so no selection is acceptable

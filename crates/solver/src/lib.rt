@@ -2,8 +2,8 @@
 // judged. It stands on `encode`, `search` and `order`, which find, and on the judges, which share nothing with these. The main call is `solve`.
 #![tactic(auto)]
 
-mod choice;
 mod convert;
+mod lift;
 mod plan;
 mod solve_request;
 mod solved;

@@ -1,28 +1,27 @@
 // The request solved: the start, the clauses, the search, and what is made of what it found.
 
-ghost use Rattle.std.specs.Prelude.{◌≡◌, ◌^◌, ◌<◌, IfOk, length};
-ghost use Rattle.clauses.specs.Clause.{MakesAllTrue};
+ghost use Rattle.std.specs.Prelude.{◌^◌, ◌<◌, IfOk, length};
 ghost use Rattle.refutation.specs.Laws.{HasAscendingPairs, HasNeededPairs};
 ghost use Rattle.rules.specs.Database.{IsQuiet};
-ghost use Rattle.rules.specs.Minimal.{IsLocallyMinimal};
-ghost use Rattle.rules.specs.Sound.{IsAcceptable};
 ghost use Rattle.rules.specs.Verdict.{IsBuiltOn};
 ghost use Rattle.universe.specs.Universe.{HaveDistinctNames};
 ghost use Rattle.plain.specs.Counted.{IsCounted};
 ghost use Rattle.encode.specs.Encoding.{IsEncoding};
-ghost use Rattle.encode.specs.Selection.{selects};
-ghost use Rattle.search.specs.Found.{IsAnswer, IsSelection};
-ghost use Rattle.solver.specs.Solved.{IsAtLimit, IsSolved};
+ghost use Rattle.part.specs.Part.{IsClosedPart, IsPart};
+ghost use Rattle.search.specs.Found.{IsAnswer};
+ghost use Rattle.solver.specs.Solved.{IsSolved};
 
-use crate::choice::some_has_two;
 use crate::convert::refutation_of;
+use crate::lift::settled;
 use crate::plan::planned;
 use crate::solved::{Solved, Undecided};
-use encode::{Encoding, encode};
+use encode::{Encoding, encode_part};
+use part::choice_of_part;
 use plancheck::is_quiet;
+use reach::{Reached, reach};
 use refutecheck::{Verdict, check_refutation};
 use search::{Found, Refutation, search};
-use search_settle::{settle, standing_records_are_present};
+use search_settle::standing_records_are_present;
 use status::Records;
 use std::alloc::{AllocError, Global};
 use universe::Universe;
@@ -32,6 +31,7 @@ fn judged(
     alloc: Global,
     start: &Records<'_, '_>,
     universe: &Universe<'_, '_>,
+    reached: &Reached<'_, '_, '_>,
     encoding: &Encoding<'_>,
     found: &Refutation,
     limit: u32,
@@ -42,45 +42,11 @@ fn judged(
     ensures { IfOk result (λ solved. IsSolved universe.now start.now limit solved) }
 {
     let _start = start;
-    let refutation = refutation_of(alloc, encoding, found)?;
+    let refutation = refutation_of(alloc, reached, encoding, found)?;
     match check_refutation(alloc, universe, &refutation)? {
         Verdict::Yes => Ok(Solved::Refuted(refutation)),
         Verdict::No(_) => Ok(Solved::Undecided(Undecided::Unchecked)),
     }
-}
-
-// What is answered at the limit: each literal of an encoding is there once, so that a choice is one between two pairs.
-fn at_limit(encoding: &Encoding<'_>, limit: u32) -> Undecided
-    ensures { IsAtLimit encoding.now limit result }
-{
-    if some_has_two(encoding.clauses()) {
-        return Undecided::Limit(limit);
-    }
-    Undecided::Unchecked
-}
-
-// Has settled a selection that makes all clauses true.
-fn settled(
-    alloc: Global,
-    start: &Records<'_, '_>,
-    universe: &Universe<'_, '_>,
-    encoding: &Encoding<'_>,
-    selection: &[u32],
-) -> Result<Vec<u32>, AllocError>
-    requires built { IsBuiltOn start.now universe.now }
-    requires encoding { IsEncoding universe.now encoding.now }
-    requires distinct { HaveDistinctNames universe.now.starts }
-    requires ascending { HasAscendingPairs universe.now }
-    requires needed { HasNeededPairs universe.now }
-    requires selection { IsSelection encoding.now.clauses.numbers selection.now }
-    requires makes_true { MakesAllTrue selection.now encoding.now.clauses.clauses }
-    ensures acceptable { IfOk result (λ settled. IsAcceptable universe.now (selects settled.items)) }
-    ensures minimal { IfOk result (λ settled. IsLocallyMinimal universe.now (selects settled.items)) }
-{
-    standing_records_are_present();
-    let _start = start;
-    let settled = settle(alloc, universe, encoding, selection)?;
-    Ok(settled)
 }
 
 // What is answered where this was found.
@@ -88,6 +54,7 @@ fn answer_of<'p, 'a>(
     alloc: Global,
     start: &Records<'p, 'a>,
     universe: &Universe<'_, 'a>,
+    reached: &Reached<'_, '_, '_>,
     encoding: &Encoding<'_>,
     found: &Found,
     limit: u32,
@@ -95,7 +62,9 @@ fn answer_of<'p, 'a>(
     requires built { IsBuiltOn start.now universe.now }
     requires counted { IsCounted start.now universe.now }
     requires quiet { IsQuiet start.now }
-    requires encoding { IsEncoding universe.now encoding.now }
+    requires part { IsPart universe.now reached.now.numbers.items reached.now.part }
+    requires closed { IsClosedPart universe.now reached.now.numbers.items }
+    requires encoding { IsEncoding reached.now.part encoding.now }
     requires found { IsAnswer encoding.now.clauses limit found.now }
     requires few { length universe.now.pairs < 2 ^ 32 }
     requires distinct { HaveDistinctNames universe.now.starts }
@@ -103,35 +72,37 @@ fn answer_of<'p, 'a>(
     requires needed { HasNeededPairs universe.now }
     ensures { IfOk result (λ solved. IsSolved universe.now start.now limit solved) }
 {
+    choice_of_part();
+    standing_records_are_present();
     match found {
         Found::Selection(numbers) => {
-            let settled = settled(alloc, start, universe, encoding, numbers.as_slice())?;
+            let settled = settled(alloc, universe, reached, encoding, numbers.as_slice())?;
             let solved = planned(alloc, start, universe, settled.as_slice(), limit)?;
             Ok(solved)
         }
         Found::Refutation(refutation) => {
-            let solved = judged(alloc, start, universe, encoding, refutation, limit)?;
+            let solved = judged(alloc, start, universe, reached, encoding, refutation, limit)?;
             Ok(solved)
         }
-        Found::Limit(reached) => {
-            let why = at_limit(encoding, *reached);
-            Ok(Solved::Undecided(why))
-        }
+        Found::Limit(spent) => Ok(Solved::Undecided(Undecided::Limit(*spent))),
     }
 }
 
-// Searches, where the start is quiet.
+// Searches over what is reached by these clauses, where the start is quiet.
 fn search_by<'p, 'a>(
     alloc: Global,
     start: &Records<'p, 'a>,
     universe: &Universe<'_, 'a>,
+    reached: &Reached<'_, '_, '_>,
     encoding: &Encoding<'_>,
     limit: u32,
 ) -> Result<Solved, AllocError>
     requires built { IsBuiltOn start.now universe.now }
     requires counted { IsCounted start.now universe.now }
     requires quiet { IsQuiet start.now }
-    requires encoding { IsEncoding universe.now encoding.now }
+    requires part { IsPart universe.now reached.now.numbers.items reached.now.part }
+    requires closed { IsClosedPart universe.now reached.now.numbers.items }
+    requires encoding { IsEncoding reached.now.part encoding.now }
     requires few { length universe.now.pairs < 2 ^ 32 }
     requires distinct { HaveDistinctNames universe.now.starts }
     requires ascending { HasAscendingPairs universe.now }
@@ -140,14 +111,38 @@ fn search_by<'p, 'a>(
 {
     let clauses = encoding.clauses();
     let found = search(alloc, clauses, limit)?;
-    let solved = answer_of(alloc, start, universe, encoding, &found, limit)?;
+    let solved = answer_of(alloc, start, universe, reached, encoding, &found, limit)?;
     Ok(solved)
+}
+
+// Searches over what is reached, where the start is quiet.
+fn search_over<'p, 'a>(
+    alloc: Global,
+    start: &Records<'p, 'a>,
+    universe: &Universe<'_, 'a>,
+    reached: &Reached<'_, '_, '_>,
+    limit: u32,
+) -> Result<Solved, AllocError>
+    requires built { IsBuiltOn start.now universe.now }
+    requires counted { IsCounted start.now universe.now }
+    requires quiet { IsQuiet start.now }
+    requires part { IsPart universe.now reached.now.numbers.items reached.now.part }
+    requires closed { IsClosedPart universe.now reached.now.numbers.items }
+    requires few { length universe.now.pairs < 2 ^ 32 }
+    requires distinct { HaveDistinctNames universe.now.starts }
+    requires ascending { HasAscendingPairs universe.now }
+    requires needed { HasNeededPairs universe.now }
+    ensures { IfOk result (λ solved. IsSolved universe.now start.now limit solved) }
+{
+    let encoding = encode_part(alloc, &reached.part)?;
+    search_by(alloc, start, universe, reached, &encoding, limit)
 }
 
 /// Solves the request of the universe from this start, with at most so many conflicts of the search above level 0: a plan
 /// that is judged good; a refutation that is accepted, so that no selection is acceptable; or why it is undecided. A start
-/// in which packages conflict isn't searched. Costs what `encode` and `search` cost, and then `settle`, `order` and
-/// `check_plan`, or `check_refutation`. Memory alone can fail.
+/// in which packages conflict isn't searched. What the request can reach is searched alone, and what is found is judged over
+/// the whole universe. Costs what `reach` costs, what `encode_part` and `search` cost over what is reached, and then `settle`,
+/// `order` and `check_plan`, or `check_refutation`. Memory alone can fail.
 pub fn solve<'p, 'a>(
     alloc: Global,
     start: &Records<'p, 'a>,
@@ -170,6 +165,6 @@ pub fn solve<'p, 'a>(
     if !is_quiet(start) {
         return Ok(Solved::Undecided(Undecided::Start));
     }
-    let encoding = encode(alloc, universe)?;
-    search_by(alloc, start, universe, &encoding, limit)
+    let reached = reach(alloc, universe)?;
+    search_over(alloc, start, universe, &reached, limit)
 }

@@ -4,7 +4,7 @@ use Rattle.clauses.specs.Clause.{MakesAllTrue}
 use Rattle.search.specs.Found.{IsAnswer, IsSelection}
 use Rattle.search.specs.declared.found.Found.{Found}
 use Rattle.search.specs.declared.found.Found.TheVariants as found
-use Rattle.solver.proofs.ChoiceLemmas.{undecided_at_limit}
+use Rattle.solver.proofs.ChoiceLemmas.{choice_left}
 use Rattle.solver.proofs.solve_request.answer_of.Goals as goal
 
 pub settled-requires-clause-selection : goal.settled-requires-clause-selection
@@ -19,9 +19,16 @@ settled-requires-clause-makes_true c =
     let answer : Is (found.Selection c.in-Selection.numbers) = subst Is c.in-Selection.is c.requires.found in
     subst (λ (xs : List ℕ). MakesAllTrue xs c.args.encoding.now.clauses.clauses) (sym c.as_slice.ensures.value) answer.1
 
+pub settled-requires-clause-present : goal.settled-requires-clause-present
+settled-requires-clause-present c = c.standing_records_are_present.ensures c.args.start.now c.args.universe.now c.requires.built.starts
+
 pub returns-in-Limit : goal.returns-in-Limit
 returns-in-Limit c =
     let Is : Found → Type 0 = λ f. IsAnswer c.args.encoding.now.clauses c.args.limit f in
-    let answer : Is (found.Limit c.in-Limit.reached) = subst Is c.in-Limit.is c.requires.found in
-    undecided_at_limit c.args.universe.now c.args.start.now c.args.encoding.now c.args.limit c.in-Limit.reached c.at_limit-why.result
-    c.requires.quiet c.requires.encoding answer.0 c.at_limit-why.ensures
+    let answer : Is (found.Limit c.in-Limit.spent) = subst Is c.in-Limit.is c.requires.found in
+    let reached = c.args.reached.now in (
+      c.requires.quiet,
+      answer.0,
+      c.choice_of_part.ensures c.args.universe.now reached.part reached.numbers.items c.requires.part
+          (choice_left reached.part c.args.encoding.now c.requires.encoding answer.1),
+    )
