@@ -232,7 +232,16 @@ fn is_found(db: &Records<'_, '_>, own: &[u8], name: &[u8]) -> bool {
 
 // Whether the record comes once at most, however many of its items are of the name and however often it was unpacked.
 fn comes_once(db: &Records<'_, '_>, own: &[u8], name: &[u8]) -> bool {
-    db.holders(name).filter(|found| found.name() == own).count() < 2
+    let mut has_come = false;
+    for found in db.holders(name) {
+        if found.name() == own {
+            if has_come {
+                return false;
+            }
+            has_come = true;
+        }
+    }
+    true
 }
 
 // Whether those of these names, and no others, have or provide the name, both of all that are found by it and of all that
