@@ -8,8 +8,11 @@ use std::alloc::{AllocError, Global};
 // The ranks: what stands, what has the name that is asked for, what has a name that was present, and the others, each
 // behind by what it lacks.
 const STANDS: usize = 0;
+
 const OWN_NAME: usize = 1;
+
 const WAS_PRESENT: usize = 2;
+
 const NEW: usize = 3;
 
 /// The rank of the package of each pair of a part. One of a lower rank is preferred.
