@@ -2,7 +2,6 @@ pub mod NumberLemmas
 pub mod LiteralLemmas
 pub mod GrowLemmas
 pub mod PairLemmas
-pub mod PlaceLemmas
 pub mod NeedLemmas
 pub mod AgainstLemmas
 pub mod GoalLemmas

@@ -1,19 +1,23 @@
 -- The package of the pair of a number, and which pairs are those of packages that are asked for.
-use Rattle.std.proofs.Common.{◌≡◌, ◌≢◌, ℕ, zero, suc, ◌+◌, ◌<◌, ◌⊎◌, List, [], ◌∷◌, ◌++◌, Option, Some, None, length, take, get_or, refl, sym, ap, subst, ◌∙◌, add-one, arith}
-use Rattle.std.specs.Prelude.{◌↔◌, slice_get}
-use Rattle.std.specs.List.{Any, Contains}
-use Rattle.std.specs.Option.{option_map}
+use Rattle.std.proofs.Common.{◌≡◌, ◌≢◌, ℕ, zero, suc, ◌+◌, ◌<◌, ◌⊎◌, Bool, true, false, not, List, [], ◌∷◌, ◌++◌, Option, Some, None, length, take, get_or, if◌then◌else◌, eqb, refl, sym, ap, subst, ◌∙◌, add-one, arith}
+use Rattle.std.specs.Prelude.{◌↔◌, bytes_eq, slice_get}
+use Rattle.std.specs.List.{Any, Contains, filter, list_any}
+use Rattle.std.specs.Option.{option_map, option_map_or}
+use Rattle.std.proofs.lemmas.Bool.{eqb-true}
 use Rattle.std.proofs.lemmas.List.{take_more}
 use Rattle.std.proofs.lemmas.List.Elements.{Contains-append_cases, Contains-append_left, Contains-append_right}
 use Rattle.std.proofs.lemmas.Option.{slice_get-map, same_Some}
-use Rattle.rules.specs.ElementLaws.{Any-append, Any-append_left, Any-append_right, Any-elim, Any-intro, Any-weaker, Contains-cons, Contains-head, Contains-nil}
+use Rattle.rules.specs.ElementLaws.{Any-append, Any-append_left, Any-append_right, Any-elim, Any-intro, Any-weaker, Contains-cons, Contains-filter, Contains-filter_intro, Contains-head, Contains-nil}
+use Rattle.rules.specs.NamedLaws.{bytes_eq-same, bytes_eq-true}
+use Rattle.indexmap.specs.IndexSet.{insert_key}
+use Rattle.indexmap.proofs.CallerLemmas.{Contains-list_any}
 use Rattle.rules.specs.Package.{Atom, FitsByName, FitsByProvides, FitsProvided, Matches, MatchesSome, Pkg}
 use Rattle.rules.specs.Universe.{Pair, Universe}
 use Rattle.index.specs.Providers.{IsProviderAt, plain_atom}
+use Rattle.refutation.specs.Clause.{item_at}
 use Rattle.refutation.specs.Premise.{PairHas}
 use Rattle.universe.specs.Universe.{packages_of}
-use Rattle.encode.specs.Known.{AreListed}
-use Rattle.encode.specs.Numbers.{AreNumbersOf, IsNumberAt}
+use Rattle.encode.specs.Numbers.{AreNumbersOf, IsNumberAt, is_of_other}
 use mathlib.Core.Logic.{inl, inr}
 
 -- what is taken with one more
@@ -165,16 +169,13 @@ adds_one u P place new numbers more has next adds number = (
   ],
 )
 
--- one place more
-pub one_place_more : (u : Universe) (P : Pkg → Type 0) (places : List ℕ) (index : ℕ) → index < length places
-    → (before middle after : List ℕ)
-    → ((number : ℕ) → Contains middle number ↔ (Contains before number ⊎ Any (λ place. IsNumberAt u P place number) (take index places)))
-    → ((number : ℕ) → Contains after number ↔ (Contains middle number ⊎ IsNumberAt u P (get_or places index 0) number))
-    → (number : ℕ) → Contains after number
-    ↔ (Contains before number ⊎ Any (λ place. IsNumberAt u P place number) (take (index + 1) places))
-one_place_more u P places index within before middle after so_far adds number =
-    let At : ℕ → Type 0 = λ place. IsNumberAt u P place number in
-    let more = any_more At places index 0 within in (
+-- one place more, where what is at the places so far was put behind others, or behind none
+pub one_place_more : (At : ℕ → ℕ → Type 0) (places : List ℕ) (index : ℕ) → index < length places → (before middle after : List ℕ)
+    → ((number : ℕ) → Contains middle number ↔ (Contains before number ⊎ Any (λ place. At place number) (take index places)))
+    → ((number : ℕ) → Contains after number ↔ (Contains middle number ⊎ At (get_or places index 0) number))
+    → (number : ℕ) → Contains after number ↔ (Contains before number ⊎ Any (λ place. At place number) (take (index + 1) places))
+one_place_more At places index within before middle after so_far adds number =
+    let more = any_more (λ place. At place number) places index 0 within in (
       λ now. elim ((adds number).0 now) [
         | inl earlier ↦ elim ((so_far number).0 earlier) [ inl was ↦ inl was | inr some ↦ inr (more.1 (inl some)) ]
         | inr here ↦ inr (more.1 (inr here))
@@ -186,6 +187,69 @@ one_place_more u P places index within before middle after so_far adds number =
           | inr here ↦ (adds number).1 (inr here)
         ]
       ],
+    )
+
+pub first_place_more : (At : ℕ → ℕ → Type 0) (places : List ℕ) (index : ℕ) → index < length places → (middle after : List ℕ)
+    → ((number : ℕ) → Contains middle number ↔ Any (λ place. At place number) (take index places))
+    → ((number : ℕ) → Contains after number ↔ (Contains middle number ⊎ At (get_or places index 0) number))
+    → (number : ℕ) → Contains after number ↔ Any (λ place. At place number) (take (index + 1) places)
+first_place_more At places index within middle after so_far adds number =
+    let more = any_more (λ place. At place number) places index 0 within in (
+      λ now. elim ((adds number).0 now) [
+        | inl earlier ↦ more.1 (inl ((so_far number).0 earlier))
+        | inr here ↦ more.1 (inr here)
+      ],
+      λ some. elim (more.0 some) [
+        | inl earlier ↦ (adds number).1 (inl ((so_far number).1 earlier))
+        | inr here ↦ (adds number).1 (inr here)
+      ],
+    )
+
+-- at no places there are no numbers
+pub no_places : (At : ℕ → ℕ → Type 0) (places numbers : List ℕ) → numbers ≡ [] → (number : ℕ)
+    → Contains numbers number ↔ Any (λ place. At place number) (take 0 places)
+no_places At places numbers is number = (
+  λ within. absurd (Contains-nil number (subst (λ (xs : List ℕ). Contains xs number) is within)),
+  λ some. absurd (any_none (λ place. At place number) places some),
+)
+
+-- the places that were found, in another order
+pub same_places : (packages offered : List Pkg) (At : List Pkg → ℕ → Type 0) → offered ≡ packages → (found places : List ℕ)
+    → ((place : ℕ) → Contains found place ↔ At offered place) → ((place : ℕ) → Contains places place ↔ Contains found place)
+    → (place : ℕ) → Contains places place ↔ At packages place
+same_places packages offered At is found places are same place =
+    let Over : List Pkg → Type 0 = λ xs. Contains places place ↔ At xs place in
+    subst Over is (
+      λ within. (are place).0 ((same place).0 within),
+      λ at. (same place).1 ((are place).1 at),
+    )
+
+-- the numbers of the places of the packages with a property are those of their pairs
+pub numbers_at : (u : Universe) (P : Pkg → Type 0) (places : List ℕ)
+    → ((place : ℕ) → Contains places place ↔ ((pkg : Pkg) × (slice_get (packages_of u.pairs) place ≡ Some pkg) × P pkg))
+    → (number : ℕ) → Any (λ place. number ≡ place + 1) places ↔ PairHas u number P
+numbers_at u P places are number = (
+  λ some. Any-elim (λ place. number ≡ place + 1) places (PairHas u number P) (λ place within same.
+      let (pkg, there, holds) = (are place).0 within in
+      let Has : ℕ → Type 0 = λ n. PairHas u n P in
+      subst Has (sym same) ((has_in u place pkg P (sym there)).0 holds)) some,
+  λ has.
+      let at = place_of u number P has in
+      Any-intro (λ place. number ≡ place + 1) places at.0 ((are at.0).1 at.2) at.1,
+)
+
+-- the same, put behind others
+pub adds_matching : (u : Universe) (P : Pkg → Type 0) (places slice : List ℕ) → slice ≡ places
+    → ((place : ℕ) → Contains places place ↔ ((pkg : Pkg) × (slice_get (packages_of u.pairs) place ≡ Some pkg) × P pkg))
+    → (before after : List ℕ)
+    → ((number : ℕ) → Contains after number ↔ (Contains before number ⊎ Any (λ place. number ≡ place + 1) slice))
+    → (number : ℕ) → Contains after number ↔ (Contains before number ⊎ PairHas u number P)
+adds_matching u P places slice is are before after adds number =
+    let Adds : List ℕ → Type 0 = λ ps. Contains after number ↔ (Contains before number ⊎ Any (λ place. number ≡ place + 1) ps) in
+    let here : Adds places = subst Adds is (adds number) in
+    let all = numbers_at u P places are number in (
+      λ now. elim (here.0 now) [ inl was ↦ inl was | inr some ↦ inr (all.0 some) ],
+      λ either. elim either [ inl was ↦ here.1 (inl was) | inr has ↦ here.1 (inr (all.1 has)) ],
     )
 
 -- the numbers with those of one property more
@@ -205,38 +269,48 @@ numbers_none u P none numbers is number = (
   λ (pair, there, has). absurd (none pair.pkg has),
 )
 
--- of another name, a package matches an atom of a list with one more where it matches one of the list or that one
-pub others_more : (name : List ℕ) (pkg : Pkg) (atoms : List Atom) (index : ℕ) (d : Atom) → index < length atoms
-    → ((pkg.name ≢ name) × MatchesSome pkg (take (index + 1) atoms))
-    ↔ (((pkg.name ≢ name) × MatchesSome pkg (take index atoms)) ⊎ ((pkg.name ≢ name) × Matches pkg (get_or atoms index d)))
-others_more name pkg atoms index d within = let more = matches_more pkg atoms index d within in (
-  λ some. elim (more.0 some.1) [ inl was ↦ inl (some.0, was) | inr here ↦ inr (some.0, here) ],
-  λ either. elim either [ inl was ↦ (was.0, more.1 (inl was.1)) | inr here ↦ (here.0, more.1 (inr here.1)) ],
-)
+-- of the places of all that have or provide a name, those of what is asked for, which all has or provides it
+pub asked_numbers : (u : Universe) (name places slice : List ℕ) → slice ≡ places
+    → ((place : ℕ) → Contains places place ↔ IsProviderAt name (packages_of u.pairs) place) → (P : Pkg → Type 0)
+    → ((pkg : Pkg) → P pkg → Matches pkg (plain_atom name)) → (numbers : List ℕ)
+    → ((number : ℕ) → Contains numbers number ↔ Any (λ place. IsNumberAt u P place number) slice) → AreNumbersOf u P numbers
+asked_numbers u name places slice is are P named numbers at number =
+    let At : List ℕ → Type 0 = λ ps. Contains numbers number ↔ Any (λ place. IsNumberAt u P place number) ps in
+    let here : At places = subst At is (at number) in
+    let all = all_places u name places P (λ place provides. (are place).1 provides) named number in
+    (λ within. all.0 (here.0 within), λ has. here.1 (all.1 has))
 
--- the numbers with those of the places that are listed for the name, which all that have the property have or provide
-pub by_places : (u : Universe) (places : List ℕ → List ℕ) → AreListed places (packages_of u.pairs) → (name slice : List ℕ) → slice ≡ places name
-    → (P : Pkg → Type 0) → ((pkg : Pkg) → P pkg → Matches pkg (plain_atom name)) → (before after : List ℕ)
-    → ((number : ℕ) → Contains after number ↔ (Contains before number ⊎ Any (λ place. IsNumberAt u P place number) slice))
-    → (number : ℕ) → Contains after number ↔ (Contains before number ⊎ PairHas u number P)
-by_places u places listed name slice is P named before after adds number =
-    let Adds : List ℕ → Type 0 = λ ps. Contains after number ↔ (Contains before number ⊎ Any (λ place. IsNumberAt u P place number) ps) in
-    let all = all_places u name (places name) P (listed name) named number in
-    let here : Adds (places name) = subst Adds is (adds number) in (
-      λ now. elim (here.0 now) [ inl was ↦ inl was | inr some ↦ inr (all.0 some) ],
-      λ either. elim either [ inl was ↦ here.1 (inl was) | inr has ↦ here.1 (inr (all.1 has)) ],
+-- whether the pair of a number has another name
+other_named : (u : Universe) (name : List ℕ) (number : ℕ) (pair : Pair) → item_at u.pairs number ≡ Some pair
+    → (is_of_other u name number ≡ true) ↔ (pair.pkg.name ≢ name)
+other_named u name number pair there =
+    let Is : Option Pair → Type 0 = λ found. (option_map_or (λ p. not (bytes_eq p.pkg.name name)) found false ≡ true) ↔ (pair.pkg.name ≢ name) in
+    subst Is (sym there) (by (bytes_eq pair.pkg.name name) refl)
+  where
+    by : (b : Bool) → bytes_eq pair.pkg.name name ≡ b → (not (bytes_eq pair.pkg.name name) ≡ true) ↔ (pair.pkg.name ≢ name)
+    by true is = (
+      λ passes. absurd (let e : false ≡ true = sym (ap not is) ∙ passes in cc),
+      λ apart. absurd (apart (bytes_eq-true pair.pkg.name name is)),
+    )
+    by false is = (
+      λ _. λ same. let e : true ≡ false = sym (bytes_eq-same pair.pkg.name name same) ∙ is in absurd (let f : true ≡ false = e in cc),
+      λ _. ap not is,
     )
 
--- numbers put behind none
-pub from_none : (u : Universe) (P : Pkg → Type 0) (before after : List ℕ)
-    → ((number : ℕ) → Contains after number ↔ (Contains before number ⊎ PairHas u number P)) → before ≡ [] → AreNumbersOf u P after
-from_none u P before after adds empty number = (
-  λ within. elim ((adds number).0 within) [
-    | inl was ↦ absurd (Contains-nil number (subst (λ (xs : List ℕ). Contains xs number) empty was))
-    | inr has ↦ has
-  ],
-  λ has. (adds number).1 (inr has),
-)
+-- of the numbers of pairs with a property those of other names
+pub others_are : (u : Universe) (name : List ℕ) (P : Pkg → Type 0) (numbers slice others : List ℕ) → slice ≡ numbers
+    → AreNumbersOf u P numbers → others ≡ filter (is_of_other u name) slice → AreNumbersOf u (λ pkg. (pkg.name ≢ name) × P pkg) others
+others_are u name P numbers slice others same are is number =
+    let Over : List ℕ → Type 0 = λ xs. Contains xs number ↔ PairHas u number (λ pkg. (pkg.name ≢ name) × P pkg) in
+    let Of : List ℕ → Type 0 = λ xs. Over (filter (is_of_other u name) xs) in
+    subst Over (sym is) (subst Of (sym same) (
+      λ within.
+          let both = Contains-filter (is_of_other u name) numbers number within in
+          let (pair, there, holds) = (are number).0 both.0 in
+          (pair, there, ((other_named u name number pair there).0 both.1, holds)),
+      λ (pair, there, (apart, holds)). Contains-filter_intro (is_of_other u name) numbers number ((are number).1 (pair, there, holds))
+          ((other_named u name number pair there).1 apart),
+    ))
 
 -- a place at which a list has an item
 pub there_at : {X : Type 0} (xs : List X) (place : ℕ) (x : X) → place < length xs → x ≡ get_or xs place x → slice_get xs place ≡ Some x
@@ -244,14 +318,7 @@ there_at [] place x within is = absurd (let e : place < 0 = within in omega arit
 there_at (first ∷ xs) zero x within is = ap Some (sym is)
 there_at (first ∷ xs) (suc place) x within is = there_at xs place x (omega (arith, within)) is
 
--- a number that is put behind the others unless it is one of them
-pub new_is_there : (numbers : List ℕ) (new : ℕ) → Contains numbers new → (number : ℕ)
-    → Contains numbers number ↔ (Contains numbers number ⊎ (number ≡ new))
-new_is_there numbers new there number = (
-  λ within. inl within,
-  λ either. elim either [ inl within ↦ within | inr same ↦ subst (Contains numbers) (sym same) there ],
-)
-
+-- a number that is put behind the others, or behind them unless it is one of them
 pub new_is_last : (numbers more : List ℕ) (new : ℕ) → more ≡ numbers ++ new ∷ [] → (number : ℕ)
     → Contains more number ↔ (Contains numbers number ⊎ (number ≡ new))
 new_is_last numbers more new is number =
@@ -266,3 +333,26 @@ new_is_last numbers more new is number =
         | inr same ↦ Contains-append_right numbers (new ∷ []) number (subst (Contains (new ∷ [])) (sym same) (Contains-head new []))
       ],
     )
+
+pub new_is_in : (numbers more : List ℕ) (new : ℕ) → more ≡ insert_key eqb numbers new → (number : ℕ)
+    → Contains more number ↔ (Contains numbers number ⊎ (number ≡ new))
+new_is_in numbers more new is = by (list_any (eqb new) numbers) refl
+  where
+    by : (b : Bool) → list_any (eqb new) numbers ≡ b → (number : ℕ) → Contains more number ↔ (Contains numbers number ⊎ (number ≡ new))
+    by true there number =
+        let Over : List ℕ → Type 0 = λ xs. Contains xs number ↔ (Contains numbers number ⊎ (number ≡ new)) in
+        subst Over (sym (is ∙ ap (λ b. if b then numbers else numbers ++ new ∷ []) there)) (
+          λ within. inl within,
+          λ either. elim either [
+            | inl within ↦ within
+            | inr same ↦ subst (Contains numbers) (sym same) (Contains-list_any eqb eqb-true numbers new there)
+          ],
+        )
+    by false there number = new_is_last numbers more new (is ∙ ap (λ b. if b then numbers else numbers ++ new ∷ []) there) number
+
+-- one put behind the others of what is next to a place
+pub next_is_in : (numbers more : List ℕ) (place new : ℕ) → new ≡ place + 1
+    → ((number : ℕ) → Contains more number ↔ (Contains numbers number ⊎ (number ≡ new))) → (number : ℕ)
+    → Contains more number ↔ (Contains numbers number ⊎ (number ≡ place + 1))
+next_is_in numbers more place new next adds number =
+    let At : ℕ → Type 0 = λ n. Contains more number ↔ (Contains numbers number ⊎ (number ≡ n)) in subst At next (adds number)

@@ -3,7 +3,6 @@ pub mod Basis
 pub mod Encoding
 pub mod Goals
 pub mod Growing
-pub mod Known
 pub mod Numbers
 pub mod Starts
 pub mod Selection

@@ -165,8 +165,7 @@ fn add_against_at<'a>(
     }
 }
 
-/// What each pair is against, pair by pair. Memory alone can fail. For each atom linear in the packages that have or
-/// provide its name.
+/// What each pair is against, pair by pair. Memory alone can fail. For each atom it costs what `Facts::matching` says.
 pub(crate) fn add_all_against<'a>(
     facts: &Facts<'_, '_, '_, 'a>,
     encoding: &mut Encoding<'a>,

@@ -1,41 +1,41 @@
-// What clauses are made from: a part of a universe with its packages, and who has or provides a name.
+// What clauses are made from: a part of a universe with its packages, who has or provides a name, and who is preferred.
 
-ghost use Rattle.std.specs.Prelude.{◌≡◌, ◌≢◌, ◌↔◌, ◌⊎◌, ◌+◌, ℕ, IfOk, OnOk, length, map};
+ghost use Rattle.std.specs.Prelude.{◌≡◌, ◌↔◌, ◌⊎◌, ◌+◌, ℕ, IfOk, OnOk, length, map};
 ghost use Rattle.std.specs.List.{Any, Contains, slice_get};
 ghost use Rattle.std.specs.Option.{option_copied};
-ghost use Rattle.rules.specs.Package.{MatchesSome};
-ghost use Rattle.refutation.specs.Premise.{PairHas};
+ghost use Rattle.index.specs.Providers.{IsProviderAt};
 ghost use Rattle.universe.specs.Universe.{packages_of};
 ghost use Rattle.encode.specs.Numbers.{AreNumbersOf, IsAsked, IsNumberAt};
 
-use crate::known::{Known, lent_at};
-use crate::query::Query;
+use crate::preferences::Preferences;
+use crate::query::{Query, has_name};
+use providers::Providers;
 use reach::Part;
-use relation::{Atom, Pkg};
+use relation::Pkg;
 use std::alloc::{AllocError, Global};
 use std::marker::Model;
 
-/// A part of a universe, with its packages and who has or provides a name.
+/// A part of a universe, with its packages, who has or provides a name, and who is preferred.
 #[derive(Drop)]
 pub(crate) struct Facts<'u, 'w, 'p, 'a> {
     alloc: Global,
     part: &'u Part<'w, 'p, 'a>,
     packages: &'u [&'u Pkg<'a>],
-    known: Known<'a>,
+    providers: Providers<'a>,
+    preferences: Preferences,
 }
 
 impl<'u, 'w, 'p, 'a> Model for Facts<'u, 'w, 'p, 'a> {
     ghost use Rattle.std.specs.Prelude.{◌≡◌, map};
     ghost use Rattle.rules.specs.Universe.{Universe as UniverseValue};
     ghost use Rattle.universe.specs.Universe.{packages_of};
-    ghost use Rattle.encode.specs.Known.{AreListed, places_in};
 
     ghost Value = { UniverseValue };
 
     ghost view = { λ f. f.part.now };
 
     ghost invariant = { λ f. (map (λ pkg. pkg.now) f.packages.now ≡ packages_of f.part.now.pairs)
-        × AreListed (places_in f.known) (packages_of f.part.now.pairs) };
+        × (f.providers ≡ packages_of f.part.now.pairs) };
 }
 
 /// The number of what is at a place; an error where it is above 4,294,967,295.
@@ -48,19 +48,19 @@ pub(crate) fn number_at(place: usize) -> Result<u32, AllocError>
     }
 }
 
-// Puts the number behind the others, unless it is one of them.
-fn push_new(numbers: &mut Vec<u32>, new: u32) -> Result<(), AllocError>
-    ensures { OnOk result ((number : ℕ) → Contains numbers.new.items number ↔ (Contains numbers.old.items number ⊎ (number ≡ new))) }
+// The package that is lent at this place.
+fn lent_at<'u, 'a>(packages: &'u [&'u Pkg<'a>], place: usize) -> Option<&'u Pkg<'a>>
+    ensures { option_copied result ≡ slice_get (map (λ pkg. pkg.now) packages.now) place }
 {
-    if numbers.contains(&new) {
-        return Ok(());
+    match packages.get(place) {
+        None => None,
+        Some(pkg) => Some(*pkg),
     }
-    numbers.push(new)?;
-    Ok(())
 }
 
 impl<'u, 'w, 'p, 'a> Facts<'u, 'w, 'p, 'a> {
-    /// The facts of the part, whose packages these are. Memory alone can fail. Costs what `Known::of_packages` says.
+    /// The facts of the part, whose packages these are. Memory alone can fail. Costs what `Providers::of_packages` and
+    /// `Preferences::of_packages` say.
     pub(crate) fn new(
         alloc: Global,
         part: &'u Part<'w, 'p, 'a>,
@@ -69,12 +69,14 @@ impl<'u, 'w, 'p, 'a> Facts<'u, 'w, 'p, 'a> {
         requires { map (λ pkg. pkg.now) packages.now ≡ packages_of part.now.pairs }
         ensures { IfOk result (λ facts. facts ≡ part.now) }
     {
-        let known = Known::of_packages(alloc, part, packages)?;
+        let providers = Providers::of_packages(alloc, packages)?;
+        let preferences = Preferences::of_packages(alloc, part, &providers, packages)?;
         Ok(Facts {
             alloc,
             part,
             packages,
-            known,
+            providers,
+            preferences,
         })
     }
 
@@ -90,6 +92,13 @@ impl<'u, 'w, 'p, 'a> Facts<'u, 'w, 'p, 'a> {
         self.part
     }
 
+    /// Who has or provides a name, and who matches an atom.
+    pub(crate) fn providers(&self) -> &Providers<'a>
+        ensures { result.now ≡ packages_of self.now.pairs }
+    {
+        &self.providers
+    }
+
     /// How many pairs there are.
     pub(crate) fn count(&self) -> usize
         ensures { result ≡ length self.now.pairs }
@@ -102,6 +111,26 @@ impl<'u, 'w, 'p, 'a> Facts<'u, 'w, 'p, 'a> {
         ensures { option_copied result ≡ slice_get (packages_of self.now.pairs) place }
     {
         lent_at(self.packages, place)
+    }
+
+    // The rank of the package at a place where the name is asked for.
+    fn rank_at(&self, place: usize, name: &[u8]) -> usize {
+        let has_name = self.pkg_in(place).is_some_and(|pkg| has_name(pkg, name));
+        self.preferences.rank(place, has_name)
+    }
+
+    /// The same places, those first whose packages are preferred where the name is asked for. Those of one rank keep their
+    /// order. Memory alone can fail. About n log n comparisons.
+    pub(crate) fn preferred(
+        &self,
+        places: Vec<usize>,
+        name: &[u8],
+    ) -> Result<Vec<usize>, AllocError>
+        ensures { IfOk result (λ preferred. (place : ℕ) → Contains preferred.items place ↔ Contains places.items place) }
+    {
+        let mut preferred = places;
+        preferred.sort_by_key(|place| self.rank_at(*place, name))?;
+        Ok(preferred)
     }
 
     // Puts the number of the pair at this place behind the others, if its package is asked for.
@@ -121,74 +150,40 @@ impl<'u, 'w, 'p, 'a> Facts<'u, 'w, 'p, 'a> {
                     return Ok(());
                 }
                 let number = number_at(place)?;
-                push_new(numbers, number)?;
+                numbers.push(number)?;
                 Ok(())
             }
         }
     }
 
-    // Puts the numbers of the pairs at these places behind the others whose packages are asked for.
-    fn push_places(
-        &self,
-        numbers: &mut Vec<u32>,
-        places: &[usize],
-        query: Query<'_, '_>,
-    ) -> Result<(), AllocError>
-        ensures { OnOk result ((number : ℕ) → Contains numbers.new.items number
-            ↔ (Contains numbers.old.items number ⊎ Any (λ place. IsNumberAt self.now (IsAsked query.entry) place number) places.now)) }
+    // The numbers of the pairs at these places whose packages are asked for.
+    fn asked_at(&self, places: &[usize], query: Query<'_, '_>) -> Result<Vec<u32>, AllocError>
+        ensures { IfOk result (λ numbers. (number : ℕ) → Contains numbers.items number
+            ↔ Any (λ place. IsNumberAt self.now (IsAsked query.entry) place number) places.now) }
     {
+        let mut numbers = Vec::new(self.alloc);
         for place in places {
-            self.push_place(numbers, *place, query)?;
+            self.push_place(&mut numbers, *place, query)?;
         }
-        Ok(())
+        Ok(numbers)
     }
 
-    // Puts the numbers of the pairs behind the others whose packages are asked for.
-    fn push_asked(&self, numbers: &mut Vec<u32>, query: Query<'_, '_>) -> Result<(), AllocError>
-        ensures { OnOk result ((number : ℕ) → Contains numbers.new.items number
-            ↔ (Contains numbers.old.items number ⊎ PairHas self.now number (IsAsked query.entry))) }
+    // The places of the packages that have or provide the name, those first that are preferred.
+    fn places_of(&self, name: &[u8]) -> Result<Vec<usize>, AllocError>
+        ensures { IfOk result (λ places. (place : ℕ) → Contains places.items place ↔ IsProviderAt name.now (packages_of self.now.pairs) place) }
     {
-        let places = self.known.of(query.name());
-        self.push_places(numbers, places, query)?;
-        Ok(())
+        let places = self.providers().of(self.alloc, name)?;
+        let preferred = self.preferred(places, name)?;
+        Ok(preferred)
     }
 
-    /// The numbers of the pairs whose packages are asked for. Memory alone can fail. Linear in the packages that have or
-    /// provide the name.
+    /// The numbers of the pairs whose packages are asked for, each once, those first that are preferred. Memory alone can
+    /// fail. About n log n comparisons of the n packages that have or provide the name.
     pub(crate) fn asked(&self, query: Query<'_, '_>) -> Result<Vec<u32>, AllocError>
         ensures { IfOk result (λ numbers. AreNumbersOf self.now (IsAsked query.entry) numbers.items) }
     {
-        let mut numbers = Vec::new(self.alloc);
-        self.push_asked(&mut numbers, query)?;
-        Ok(numbers)
-    }
-
-    /// The numbers of the pairs of other names whose packages match one of the atoms. Memory alone can fail. For each atom
-    /// linear in the packages that have or provide its name.
-    pub(crate) fn matching_others(
-        &self,
-        atoms: &[Atom<'_>],
-        name: &[u8],
-    ) -> Result<Vec<u32>, AllocError>
-        ensures { IfOk result (λ numbers. AreNumbersOf self.now
-            (λ pkg. (pkg.name ≢ name.now) × MatchesSome pkg atoms.now) numbers.items) }
-    {
-        let mut numbers = Vec::new(self.alloc);
-        for atom in atoms {
-            self.push_asked(&mut numbers, Query::OfOther(atom, name))?;
-        }
-        Ok(numbers)
-    }
-
-    /// The numbers of the pairs whose packages match one of the atoms. Memory alone can fail. For each atom linear in the
-    /// packages that have or provide its name.
-    pub(crate) fn matching(&self, atoms: &[Atom<'_>]) -> Result<Vec<u32>, AllocError>
-        ensures { IfOk result (λ numbers. AreNumbersOf self.now (λ pkg. MatchesSome pkg atoms.now) numbers.items) }
-    {
-        let mut numbers = Vec::new(self.alloc);
-        for atom in atoms {
-            self.push_asked(&mut numbers, Query::Matching(atom))?;
-        }
+        let places = self.places_of(query.name())?;
+        let numbers = self.asked_at(places.as_slice(), query)?;
         Ok(numbers)
     }
 }

@@ -205,8 +205,8 @@ fn add_goal<'a>(
     }
 }
 
-/// What each goal asks for, goal by goal. Memory alone can fail. Linear in the packages that have or provide a name that
-/// is asked for, and for an upgrade of all in the start.
+/// What each goal asks for, goal by goal. Memory alone can fail. A goal costs what `Facts::asked` says of its name, and an
+/// upgrade of all that for each name of the start.
 pub(crate) fn add_goals<'a>(
     facts: &Facts<'_, '_, '_, 'a>,
     encoding: &mut Encoding<'a>,

@@ -1,6 +1,6 @@
 // The clauses of a universe, as a search takes them: every premise of the universe with its clause over the numbers of
 // the pairs, and beside them what tells a search where to begin. It stands on the definitions of `rules` and
-// `refutation`. The main calls are `encode` and, for a part of a universe, `encode_part`.
+// `refutation`, and on `providers`. The main calls are `encode` and, for a part of a universe, `encode_part`.
 #![tactic(auto)]
 
 mod against;
@@ -8,11 +8,11 @@ mod basis;
 mod encoding;
 mod facts;
 mod goals;
-mod known;
 mod laws;
 mod literals;
+mod matching;
 mod needs;
-mod place_list;
+mod preferences;
 mod premises;
 mod query;
 mod starts;

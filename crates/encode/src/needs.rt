@@ -123,8 +123,7 @@ fn add_needs_at<'a>(
     }
 }
 
-/// What each pair needs, pair by pair. Memory alone can fail. For each atom linear in the packages that have or provide
-/// its name.
+/// What each pair needs, pair by pair. Memory alone can fail. For each atom it costs what `Facts::matching` says.
 pub(crate) fn add_needs<'a>(
     facts: &Facts<'_, '_, '_, 'a>,
     encoding: &mut Encoding<'a>,

@@ -55,8 +55,8 @@ fn gathered<'a>(facts: &Facts<'_, '_, '_, 'a>) -> Result<Encoding<'a>, AllocErro
 }
 
 /// The clauses of a part of a universe, which is a universe by itself: every premise, each with its clause over the numbers of
-/// the part's pairs. For each atom the cost is that of the packages that have or provide its name; n pairs that conflict with
-/// each other have n * n clauses. Memory alone can fail; more than 2,147,483,647 pairs, or 4,294,967,295 goals or clauses of a
+/// the part's pairs. An atom that n pairs match costs n log n; n pairs that conflict with each other, as over one name that
+/// all provide, have n * n clauses. Memory alone can fail; more than 2,147,483,647 pairs, or 4,294,967,295 goals or clauses of a
 /// field, are answered as want of it.
 pub fn encode_part<'a>(alloc: Global, part: &Part<'_, '_, 'a>) -> Result<Encoding<'a>, AllocError>
     ensures { IfOk result (λ encoding. IsEncoding part.now encoding) }

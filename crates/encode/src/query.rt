@@ -1,4 +1,4 @@
-// Which packages a clause asks for.
+// Which packages of one name a clause asks for.
 
 ghost use Rattle.std.specs.Prelude.{◌≡◌, ◌↔◌, IsTrue};
 ghost use Rattle.rules.specs.Package.{Matches, Meets, Pkg as PkgValue};
@@ -7,10 +7,10 @@ ghost use Rattle.index.specs.Providers.{plain_atom};
 ghost use Rattle.encode.specs.Numbers.{IsAsked};
 
 use debversion::Version;
-use relation::{Atom, Pkg};
+use relation::Pkg;
 use rules::{Restriction, VersionText};
 
-/// Packages that are asked for, all of which have or provide one name.
+/// Packages of one name that are asked for.
 #[derive(Clone, Copy)]
 pub(crate) enum Query<'q, 'a> {
     /// Those of the name.
@@ -19,10 +19,6 @@ pub(crate) enum Query<'q, 'a> {
     Meeting(&'q [u8], &'q Option<Restriction>),
     /// Those of the name in the version.
     InVersion(&'q [u8], &'q Version<'a>),
-    /// Those that match the atom (Policy 7.5).
-    Matching(&'q Atom<'a>),
-    /// Those that match the atom and have another name than this.
-    OfOther(&'q Atom<'a>, &'q [u8]),
 }
 
 /// Whether the package has the name.
@@ -59,12 +55,10 @@ impl<'q, 'a> Query<'q, 'a> {
                 has_name(pkg, name) && is_meeting(pkg.version(), restriction)
             }
             Query::InVersion(name, version) => has_name(pkg, name) && pkg.version() == version,
-            Query::Matching(atom) => atom.matched_by(pkg),
-            Query::OfOther(atom, name) => !has_name(pkg, name) && atom.matched_by(pkg),
         }
     }
 
-    /// The name that all packages have or provide that are asked for.
+    /// The name that all packages have that are asked for.
     pub(crate) fn name(self) -> &'q [u8]
         ensures { (pkg : PkgValue) → IsAsked self.entry pkg → Matches pkg (plain_atom result.now) }
     {
@@ -72,8 +66,6 @@ impl<'q, 'a> Query<'q, 'a> {
             Query::Named(name) => name,
             Query::Meeting(name, _) => name,
             Query::InVersion(name, _) => name,
-            Query::Matching(atom) => atom.name(),
-            Query::OfOther(atom, _) => atom.name(),
         }
     }
 }

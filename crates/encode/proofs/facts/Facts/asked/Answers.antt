@@ -1,8 +1,8 @@
--- The numbers put behind none.
-use Rattle.std.proofs.Common.{rules}
+-- The places of all that have or provide the name have all that are asked for.
 use Rattle.encode.specs.Numbers.{IsAsked}
-use Rattle.encode.proofs.NumberLemmas.{from_none}
+use Rattle.encode.proofs.NumberLemmas.{asked_numbers}
 use Rattle.encode.proofs.facts.Facts.asked.Goals as goal
 
 pub returns : goal.returns
-returns c = from_none c.args.self.now (IsAsked c.args.query) _ c.push_asked.new.numbers.items c.in_ok-push_asked.ensures (search rules)
+returns c = asked_numbers c.args.self.now c.name.result.now c.in_ok-places.places.items c.as_slice.result.now c.as_slice.ensures.value
+    c.in_ok-places.ensures (IsAsked c.args.query) c.name.ensures c.in_ok-numbers.numbers.items c.in_ok-numbers.ensures

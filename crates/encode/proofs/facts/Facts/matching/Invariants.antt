@@ -5,4 +5,4 @@ use Rattle.encode.specs.Numbers.{AreNumbersOf}
 use Rattle.encode.proofs.facts.Facts.matching.Given as goal
 
 abbrev pub invariant-loop-atom : goal.invariant-loop-atom
-invariant-loop-atom l = AreNumbersOf l.self (λ pkg. MatchesSome pkg (take l.atom-index l.atoms)) l.numbers.items
+invariant-loop-atom l = AreNumbersOf l.self (λ pkg. MatchesSome pkg (take l.atom-index l.atoms)) l.numbers.keys

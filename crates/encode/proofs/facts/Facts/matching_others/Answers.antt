@@ -1,29 +1,8 @@
--- One atom more.
-use Rattle.std.proofs.Common.{◌≢◌, ℕ, ◌+◌, ◌⊎◌, List, get_or, rules, subst, take}
-use Rattle.std.specs.Prelude.{◌↔◌}
-use Rattle.std.specs.List.{Contains}
-use Rattle.std.proofs.lemmas.List.{take_all}
-use Rattle.rules.specs.Package.{Atom, Matches, MatchesSome}
-use Rattle.refutation.specs.Premise.{PairHas}
-use Rattle.encode.specs.Numbers.{AreNumbersOf}
-use Rattle.encode.proofs.NumberLemmas.{matches_none, numbers_more, numbers_none, others_more}
+-- Of the numbers of what matches those of other names.
+use Rattle.rules.specs.Package.{MatchesSome}
+use Rattle.encode.proofs.NumberLemmas.{others_are}
 use Rattle.encode.proofs.facts.Facts.matching_others.Goals as goal
 
-pub loop-atom-init : goal.loop-atom-init
-loop-atom-init c = numbers_none c.args.self.now (λ pkg. (pkg.name ≢ c.args.name.now) × MatchesSome pkg (take 0 c.args.atoms.now))
-    (λ pkg. λ both. matches_none pkg c.args.atoms.now both.1) _ (search rules)
-
-pub loop-atom-preserved : goal.loop-atom-preserved
-loop-atom-preserved c =
-    let Adds : Atom → Type 0 = λ atom. (number : ℕ) → Contains c.push_asked.new.numbers.items number
-    ↔ (Contains c.loop-atom.numbers.items number ⊎ PairHas c.args.self.now number (λ pkg. (pkg.name ≢ c.args.name.now) × Matches pkg atom)) in
-    numbers_more c.args.self.now (λ pkg. (pkg.name ≢ c.args.name.now) × MatchesSome pkg (take c.loop-atom.atom-index c.args.atoms.now))
-    (λ pkg. (pkg.name ≢ c.args.name.now) × Matches pkg (get_or c.args.atoms.now c.loop-atom.atom-index c.atom-item.result))
-    (λ pkg. (pkg.name ≢ c.args.name.now) × MatchesSome pkg (take (c.loop-atom.atom-index + 1) c.args.atoms.now))
-    (λ pkg. others_more c.args.name.now pkg c.args.atoms.now c.loop-atom.atom-index c.atom-item.result c.loop-atom-test.true)
-    c.loop-atom.numbers.items c.push_asked.new.numbers.items c.loop-atom.invariant (subst Adds c.atom-item.is c.in_ok-push_asked.ensures)
-
 pub returns : goal.returns
-returns c =
-    let Over : List Atom → Type 0 = λ atoms. AreNumbersOf c.args.self.now (λ pkg. (pkg.name ≢ c.args.name.now) × MatchesSome pkg atoms) c.loop-atom.numbers.items in
-    subst Over (take_all c.loop-atom.atom-index c.args.atoms.now c.loop-atom-test.false) c.loop-atom.invariant
+returns c = others_are c.args.self.now c.args.name.now (λ pkg. MatchesSome pkg c.args.atoms.now) c.in_ok-numbers.numbers.keys
+    c.as_slice.result.now c.in_ok-others.others.items c.as_slice.ensures.keys c.in_ok-numbers.ensures c.in_ok-others.ensures

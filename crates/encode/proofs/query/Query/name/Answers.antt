@@ -1,6 +1,6 @@
 -- What is asked for has or provides the name.
 use Rattle.std.proofs.Common.{subst}
-use Rattle.encode.proofs.NumberLemmas.{of_atom, of_name}
+use Rattle.encode.proofs.NumberLemmas.{of_name}
 use Rattle.encode.specs.Numbers.{IsAsked}
 use Rattle.encode.specs.declared.query.Query.{Query}
 use Rattle.encode.proofs.query.Query.name.Goals as goal
@@ -21,14 +21,3 @@ returns-in-InVersion c = λ pkg is.
     let Of : Query → Type 0 = λ query. IsAsked query pkg in
     let fits = subst Of c.in-InVersion.is is in
     of_name pkg c.in-InVersion.name.now fits.0
-
-pub returns-in-Matching : goal.returns-in-Matching
-returns-in-Matching c = λ pkg is.
-    let Of : Query → Type 0 = λ query. IsAsked query pkg in
-    rw c.name.ensures (of_atom pkg c.in-Matching.atom.now (subst Of c.in-Matching.is is))
-
-pub returns-in-OfOther : goal.returns-in-OfOther
-returns-in-OfOther c = λ pkg is.
-    let Of : Query → Type 0 = λ query. IsAsked query pkg in
-    let fits = subst Of c.in-OfOther.is is in
-    rw c.name-in-OfOther.ensures (of_atom pkg c.in-OfOther.atom.now fits.1)
