@@ -1,5 +1,5 @@
 -- Lists of literals as the clauses of premises.
-use Rattle.std.proofs.Common.{◌≡◌, ℕ, ◌+◌, ◌<◌, ◌⊎◌, List, [], ◌∷◌, ◌++◌, Option, Some, None, length, take, get_or, sym, subst, ◌∙◌}
+use Rattle.std.proofs.Common.{◌≡◌, ℕ, ◌+◌, ◌<◌, ◌⊎◌, List, [], ◌∷◌, ◌++◌, Option, Some, None, length, take, get_or, sym, ap, subst, ◌∙◌}
 use Rattle.std.specs.Prelude.{◌↔◌, ⊤}
 use Rattle.std.specs.List.{Contains}
 use Rattle.std.proofs.lemmas.List.{take_more}
@@ -12,7 +12,7 @@ use Rattle.refutation.specs.Premise.{PairHas, Selects}
 use Rattle.refutation.specs.declared.literal.Literal.{Literal}
 use Rattle.refutation.specs.declared.literal.Literal.TheVariants as literal
 use Rattle.universe.specs.Universe.{packages_of}
-use Rattle.refutecheck.specs.Answer.{IsClauseWhere, IsOutOrMatching}
+use Rattle.refutecheck.specs.Answer.{IsClauseWhere, IsNeedOf, IsOutOrMatching}
 use Rattle.refutecheck.proofs.PairLemmas.{has_at}
 use mathlib.Core.Logic.{inl, inr}
 
@@ -156,3 +156,14 @@ the_clause u field number clause pkg atoms literals is here all = (
               let (found, at, some) = has.1 there in
               subst (MatchesSome other) (same_Some found atoms (sym at ∙ sym here)) some,
         )
+
+-- the clause of the field of the pair's package
+pub need_at : (u : Universe) (field : Pkg → List (List Atom)) (number clause : ℕ) (pkg : Pkg) (clauses : List (List Atom))
+    (found : Option (List Literal)) → Some pkg ≡ item_at (packages_of u.pairs) number → clauses ≡ field pkg
+    → IsNeedOf u number (item_at clauses clause) found → IsClauseWhere (NeedsAt u field number clause) (IsInNeed u field number clause) found
+need_at u field number clause pkg clauses None is same none = λ needs.
+    let there = (has_at u number pkg (λ p. HasAt (field p) clause (λ _. ⊤)) (sym is)).1 needs in
+    let here : item_at (field pkg) clause ≡ None = ap (λ (cs : List (List Atom)). item_at cs clause) (sym same) ∙ none in
+    absurd (let e : None ≡ Some there.0 = sym here ∙ there.1 in cc)
+need_at u field number clause pkg clauses (Some literals) is same (atoms, at, all) =
+    the_clause u field number clause pkg atoms literals is (sym at ∙ ap (λ (cs : List (List Atom)). item_at cs clause) same) all

@@ -1,16 +1,18 @@
 -- The package of a pair by its number, and which pairs are those of packages that are sought.
-use Rattle.std.proofs.Common.{◌≡◌, ℕ, zero, suc, ◌+◌, ◌<◌, ◌⊎◌, Bool, List, [], ◌∷◌, ◌++◌, Option, Some, None, length, take, get_or, refl, sym, ap, subst, ◌∙◌, add-one}
+use Rattle.std.proofs.Common.{◌≡◌, ℕ, zero, suc, ◌+◌, ◌<◌, ◌⊎◌, Bool, List, [], ◌∷◌, ◌++◌, Option, Some, None, map, length, take, get_or, refl, sym, ap, subst, ◌∙◌, add-one, arith}
 use Rattle.std.specs.Prelude.{◌↔◌, IsTrue, slice_get}
-use Rattle.std.specs.List.{Any, Contains}
+use Rattle.std.specs.List.{All, Any, Contains}
 use Rattle.std.specs.Option.{option_map}
-use Rattle.std.proofs.lemmas.List.{take_more}
-use Rattle.std.proofs.lemmas.Option.{slice_get-map, same_Some}
-use Rattle.rules.specs.ElementLaws.{Any-append, Any-append_left, Any-append_right, Any-elim, Any-intro, Contains-cons, Contains-head, Contains-nil}
-use Rattle.rules.specs.Package.{Matches, Pkg}
+use Rattle.std.proofs.lemmas.List.{length-map, take_more}
+use Rattle.std.proofs.lemmas.List.Elements.{Contains-append_cases, Contains-append_left, Contains-append_right}
+use Rattle.std.proofs.lemmas.Option.{slice_get-map, slice_get_within, same_Some}
+use Rattle.rules.specs.ElementLaws.{All-intro, Any-append, Any-append_left, Any-append_right, Any-elim, Any-intro, Contains-cons, Contains-head, Contains-map, Contains-map_intro, Contains-nil}
+use Rattle.rules.specs.Package.{Atom, Matches, Pkg}
 use Rattle.rules.specs.Universe.{Pair, Universe}
 use Rattle.index.specs.Providers.{IsProviderAt, plain_atom}
-use Rattle.refutation.specs.Clause.{item_at}
-use Rattle.refutation.specs.Premise.{PairHas, Selects}
+use Rattle.providers.specs.Matching.{IsMatchAt}
+use Rattle.refutation.specs.Clause.{IsListOf, item_at}
+use Rattle.refutation.specs.Premise.{PairHas, PairsAre, Selects}
 use Rattle.refutation.specs.declared.literal.Literal.{Literal}
 use Rattle.refutation.specs.declared.literal.Literal.TheVariants as literal
 use Rattle.universe.specs.Universe.{packages_of}
@@ -55,6 +57,13 @@ pub decides_at : (u : Universe) (number : ℕ) (pkg : Pkg) (P : Pkg → Type 0) 
 decides_at u number pkg P answer is decides =
     let has = has_at u number pkg P (sym is) in
     (λ so. has.0 (decides.0 so), λ there. decides.1 (has.1 there))
+
+-- what decides of two packages decides of their pairs
+pub decides_of_two : (u : Universe) (number other : ℕ) (pkg found : Pkg) (R : Pkg → Pkg → Type 0) (answer : Bool)
+    → Some pkg ≡ item_at (packages_of u.pairs) number → Some found ≡ item_at (packages_of u.pairs) other
+    → (IsTrue answer ↔ R pkg found) → IsTrue answer ↔ PairsAre u number other R
+decides_of_two u number other pkg found R answer is here decides =
+    decides_at u number pkg (λ p. PairHas u other (R p)) answer is (decides_at u other found (R pkg) answer here decides)
 
 -- the literals of the places of all providers of a name are those of the packages with a property that has the name
 pub at_places : (u : Universe) (name : List ℕ) (places : List ℕ) (P : Pkg → Type 0)
@@ -115,17 +124,76 @@ one_place_more packages P places index within before middle after so_far adds fo
               | inr none ↦ absurd (Contains-nil place none)
             ]) there
 
--- the places of the packages that are sought, all of which have or provide the name
+-- of no literals before, those of the places of the packages that are sought, all of which have or provide the name
 pub by_places : (u : Universe) (packages : List Pkg) → packages ≡ packages_of u.pairs → (name places slice : List ℕ) → slice ≡ places
     → (P : Pkg → Type 0) → ((place : ℕ) → Contains places place ↔ IsProviderAt name packages place)
-    → ((pkg : Pkg) → P pkg → Matches pkg (plain_atom name)) → (before after : Literal → Type 0)
-    → ((found : Literal) → after found ↔ (before found ⊎ Any (λ place. IsSelectedAt (packages_of u.pairs) P place found) slice))
-    → (found : Literal) → after found ↔ (before found ⊎ Selects u P found)
-by_places u packages are name places slice is P matching named before after adds found =
+    → ((pkg : Pkg) → P pkg → Matches pkg (plain_atom name)) → (before after : List Literal) → before ≡ []
+    → ((found : Literal) → Contains after found
+    ↔ (Contains before found ⊎ Any (λ place. IsSelectedAt (packages_of u.pairs) P place found) slice))
+    → IsListOf (Selects u P) after
+by_places u packages are name places slice is P matching named before after none adds found =
     let Exact : List Pkg → Type 0 = λ ps. (place : ℕ) → Contains places place ↔ IsProviderAt name ps place in
-    let Adds : List ℕ → Type 0 = λ ps. after found ↔ (before found ⊎ Any (λ place. IsSelectedAt (packages_of u.pairs) P place found) ps) in
+    let Adds : List ℕ → Type 0 = λ ps.
+    Contains after found ↔ (Contains before found ⊎ Any (λ place. IsSelectedAt (packages_of u.pairs) P place found) ps) in
     let all = at_places u name places P (subst Exact are matching) named found in
     let here : Adds places = subst Adds is (adds found) in (
-      λ now. elim (here.0 now) [ inl was ↦ inl was | inr some ↦ inr (all.0 some) ],
-      λ either. elim either [ inl was ↦ here.1 (inl was) | inr selects ↦ here.1 (inr (all.1 selects)) ],
+      λ now. elim (here.0 now) [
+        | inl was ↦ absurd (Contains-nil found (subst (λ (ls : List Literal). Contains ls found) none was))
+        | inr some ↦ all.0 some
+      ],
+      λ selects. here.1 (inr (all.1 selects)),
     )
+
+-- the places of the packages that match an atom are those of pairs
+pub within_pairs : (u : Universe) (packages : List Pkg) → packages ≡ packages_of u.pairs → (atom : Atom) (places slice : List ℕ)
+    → slice ≡ places → ((place : ℕ) → Contains places place ↔ IsMatchAt packages atom place)
+    → All (λ place. place < length u.pairs) slice
+within_pairs u packages are atom places slice is exact =
+    subst (All (λ place. place < length u.pairs)) (sym is) (All-intro (λ place. place < length u.pairs) places within)
+  where
+    within : (place : ℕ) → Contains places place → place < length u.pairs
+    within place found =
+        let (pkg, there, holds) = (exact place).0 found in
+        let here : slice_get (packages_of u.pairs) place ≡ Some pkg = ap (λ (ps : List Pkg). slice_get ps place) (sym are) ∙ there in
+        let under : place < length (packages_of u.pairs) = slice_get_within (packages_of u.pairs) place pkg here in
+        let same : length (packages_of u.pairs) ≡ length u.pairs = length-map u.pairs (λ (pair : Pair). pair.pkg) in
+        omega (arith, under, same)
+
+-- the literals of the places of all packages that match an atom, behind those before
+pub by_matching : (u : Universe) (packages : List Pkg) → packages ≡ packages_of u.pairs → (atom : Atom) (places slice : List ℕ)
+    → slice ≡ places → ((place : ℕ) → Contains places place ↔ IsMatchAt packages atom place) → (before after : List Literal)
+    → after ≡ before ++ map (λ place. literal.Selected (place + 1)) slice
+    → (found : Literal) → Contains after found ↔ (Contains before found ⊎ Selects u (λ pkg. Matches pkg atom) found)
+by_matching u packages are atom places slice is exact before after behind found =
+    let Over : List Literal → Type 0 = λ ls. Contains ls found ↔ (Contains before found ⊎ Selects u P found) in
+    subst Over (sym (behind ∙ ap (λ (ps : List ℕ). before ++ map selected ps) is)) (to, from)
+  where
+    P : Pkg → Type 0
+    P pkg = Matches pkg atom
+
+    selected : ℕ → Literal
+    selected place = literal.Selected (place + 1)
+
+    at : (place : ℕ) → IsMatchAt packages atom place → Selects u P (selected place)
+    at place (pkg, there, holds) =
+        let here : slice_get (packages_of u.pairs) place ≡ Some pkg = ap (λ (ps : List Pkg). slice_get ps place) (sym are) ∙ there in
+        let has : PairHas u (suc place) P = (has_at u (suc place) pkg P here).0 holds in
+        let N : ℕ → Type 0 = λ n. PairHas u n P in subst N (sym (add-one place)) has
+
+    there : (f : Literal) → Selects u P f → Contains (map selected places) f
+    there (literal.Selected zero) (pair, here, holds) = absurd (let e : None ≡ Some pair = here in cc)
+    there (literal.Selected (suc place)) (pair, here, holds) =
+        let lent : slice_get packages place ≡ Some pair.pkg = ap (λ (ps : List Pkg). slice_get ps place) are ∙ pkg_there u (suc place) pair here in
+        let within : Contains places place = (exact place).1 (pair.pkg, lent, holds) in
+        subst (Contains (map selected places)) (ap literal.Selected (add-one place)) (Contains-map_intro selected places place within)
+    there (literal.Unselected number) has = absurd has
+
+    to : Contains (before ++ map selected places) found → Contains before found ⊎ Selects u P found
+    to within = elim (Contains-append_cases before (map selected places) found within) [
+      | inl was ↦ inl was
+      | inr here ↦ inr (let (place, known, same) = Contains-map selected places found here in subst (Selects u P) same (at place ((exact place).0 known)))
+    ]
+
+    from : Contains before found ⊎ Selects u P found → Contains (before ++ map selected places) found
+    from (inl was) = Contains-append_left before (map selected places) found was
+    from (inr selects) = Contains-append_right before (map selected places) found (there found selects)

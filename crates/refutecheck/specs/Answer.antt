@@ -1,5 +1,5 @@
 -- The clause of a premise and of a line, as a list of its literals.
-use Rattle.std.specs.Prelude.{◌≡◌, ℕ, List, [], ◌∷◌, ◌++◌, ◌⊎◌, ⊤, Option, Some, Bool, MatchOption, length, slice_get}
+use Rattle.std.specs.Prelude.{◌≡◌, ℕ, List, [], ◌∷◌, ◌++◌, ◌⊎◌, ⊤, Option, Some, None, Bool, MatchOption, length, slice_get}
 use Rattle.std.specs.List.{AllZip}
 use Rattle.std.specs.declared.cmp.Ordering.TheVariants.{Less}
 use Rattle.rules.specs.Package.{Atom, MatchesSome}
@@ -37,6 +37,11 @@ IsClauseOf u line literals = IsListOf (IsInLine u line) literals
 abbrev pub IsOutOrMatching : Universe → ℕ → List Atom → Literal → Type 0
 IsOutOrMatching u number atoms found =
     (found ≡ literal.Unselected number) ⊎ Selects u (λ other. MatchesSome other atoms) found
+
+-- a list is answered exactly where there is a clause of atoms, and it has just the literals of the pair and these atoms
+abbrev pub IsNeedOf : Universe → ℕ → Option (List Atom) → Option (List Literal) → Type 0
+IsNeedOf u number clause None = clause ≡ None
+IsNeedOf u number clause (Some literals) = (atoms : List Atom) × (clause ≡ Some atoms) × IsListOf (IsOutOrMatching u number atoms) literals
 
 -- the verdict on the lines: yes exactly where they are accepted, and else the number of the first bad one
 abbrev pub IsVerdict : Universe → List Line → Verdict → Type 0

@@ -1,6 +1,6 @@
 -- Which packages a literal is sought for.
 use Rattle.std.specs.Prelude.{◌≡◌, ℕ, ◌+◌, Bool, true, false, List, Some, slice_get}
-use Rattle.rules.specs.Package.{Matches, Meets, Pkg}
+use Rattle.rules.specs.Package.{Meets, Pkg}
 use Rattle.rules.specs.Universe.{IsOf}
 use Rattle.rules.specs.declared.goal.Goal.{Goal}
 use Rattle.rules.specs.declared.goal.Goal.TheVariants as goal
@@ -9,13 +9,11 @@ use Rattle.refutation.specs.declared.literal.Literal.TheVariants as literal
 use Rattle.refutecheck.specs.declared.sought.Sought.{Sought}
 use Rattle.refutecheck.specs.declared.sought.Sought.TheVariants as sought
 
--- the package is one that is sought: of the name, in a version that meets the restriction, in this version, or one that
--- matches the atom
+-- the package is one that is sought: of the name, in a version that meets the restriction, or in this version
 abbrev pub IsSought : Sought → Pkg → Type 0
 IsSought (sought.OfName name) pkg = pkg.name ≡ name.now
 IsSought (sought.Meeting name restriction) pkg = (pkg.name ≡ name.now) × Meets pkg.version restriction.now
 IsSought (sought.InVersion name version) pkg = IsOf name.now version.now pkg
-IsSought (sought.Matching atom) pkg = Matches pkg atom.now
 
 -- the literal says that the pair at this place is selected, and its package has the property
 abbrev pub IsSelectedAt : List Pkg → (Pkg → Type 0) → ℕ → Literal → Type 0

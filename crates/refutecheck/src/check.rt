@@ -21,7 +21,7 @@ use refutation::{
 };
 use rules::Items;
 use std::alloc::{AllocError, Global};
-use universe::{Universe, lend_packages};
+use universe::Universe;
 
 // The same literals.
 fn copy_of(alloc: Global, literals: &[Literal]) -> Result<Items<Literal>, AllocError>
@@ -126,9 +126,9 @@ fn judge(premises: &Premises<'_, '_, '_>, lines: &[Line]) -> Result<Verdict, All
 
 /// The verdict on the refutation: yes exactly where every line is a premise of the universe or follows from the earlier
 /// lines that it hints at, and the last one's clause is empty (docs/FORMATS.md). A yes means that no selection of the
-/// pairs is acceptable. The packages of all pairs are read once; each line then costs what its clause, or the clauses of
-/// its hints, have, and for a premise the packages that have or provide its names, or a look-up where it was a line
-/// before. Memory alone can fail.
+/// pairs is acceptable. What the packages offer is sorted once, and none of them stays parsed; each line then costs what
+/// its clause, or the clauses of its hints, have, and for a premise the packages that it names and those that have or
+/// provide its names, or a look-up where it was a line before. Memory alone can fail.
 pub fn check_refutation(
     alloc: Global,
     universe: &Universe<'_, '_>,
@@ -144,9 +144,7 @@ pub fn check_refutation(
     ensures refutes { IfOk result (Refutes universe.now) }
 {
     none_is_acceptable();
-    let packages = universe.packages(alloc)?;
-    let lent = lend_packages(alloc, packages.as_slice())?;
-    let premises = Premises::new(alloc, universe, lent.as_slice())?;
+    let premises = Premises::new(alloc, universe)?;
     let verdict = judge(&premises, refutation.as_slice())?;
     // That the pairs ascend is known from here on.
     let _ascending = universe.pairs();

@@ -17,10 +17,9 @@ use crate::premises::Premises;
 use crate::sought::{Sought, is_same};
 use debversion::Version;
 use refutation::{Literal, Premise};
-use relation::Pkg;
 use rules::{Goal, Items};
 use std::alloc::AllocError;
-use universe::Start;
+use universe::{Pair, Start};
 
 // The candidate of the name, if it is admitted.
 fn candidate_clause(
@@ -94,26 +93,26 @@ fn is_lower_than_candidate(
     }
 }
 
-// Whether the package upgrades what the start says.
-fn is_upgrade_from(premises: &Premises<'_, '_, '_>, pkg: &Pkg<'_>, start: &Start<'_>) -> bool
-    ensures { IsTrue result ↔ ((start.now.name ≡ pkg.now.name) × (IsTrue start.now.is_held → ⊥)
-        × IsLowerThanCandidate start.now.standing (candidate_of premises.now start.now.name) pkg.now.version) }
+// Whether the package of the pair upgrades what the start says.
+fn is_upgrade_from(premises: &Premises<'_, '_, '_>, pair: &Pair<'_, '_>, start: &Start<'_>) -> bool
+    ensures { IsTrue result ↔ ((start.now.name ≡ pair.now.pkg.name) × (IsTrue start.now.is_held → ⊥)
+        × IsLowerThanCandidate start.now.standing (candidate_of premises.now start.now.name) pair.now.pkg.version) }
 {
-    is_same(start.name(), pkg.name())
+    is_same(start.name(), pair.name())
         && !start.is_held()
         && is_lower_than_candidate(
             start.standing(),
             premises.candidate(start.name()),
-            pkg.version(),
+            pair.version(),
         )
 }
 
-fn is_upgrade(premises: &Premises<'_, '_, '_>, pkg: &Pkg<'_>) -> bool
-    ensures { IsTrue result ↔ Any (IsUpgradeFrom premises.now pkg.now) premises.now.starts }
+fn is_upgrade(premises: &Premises<'_, '_, '_>, pair: &Pair<'_, '_>) -> bool
+    ensures { IsTrue result ↔ Any (IsUpgradeFrom premises.now pair.now.pkg) premises.now.starts }
 {
-    match premises.start(pkg.name()) {
+    match premises.start(pair.name()) {
         None => false,
-        Some(start) => is_upgrade_from(premises, pkg, start),
+        Some(start) => is_upgrade_from(premises, pair, start),
     }
 }
 
@@ -121,9 +120,9 @@ fn is_pair_of_upgrade(premises: &Premises<'_, '_, '_>, number: u32) -> bool
     ensures { IsTrue result
         ↔ PairHas premises.now number (λ pkg. Any (IsUpgradeFrom premises.now pkg) premises.now.starts) }
 {
-    match premises.pkg_at(number) {
+    match premises.pair_at(number) {
         None => false,
-        Some(pkg) => is_upgrade(premises, pkg),
+        Some(pair) => is_upgrade(premises, pair),
     }
 }
 

@@ -3,10 +3,9 @@
 ghost use Rattle.std.specs.Prelude.{◌≡◌, IfOk};
 ghost use Rattle.std.specs.Option.{option_copied};
 ghost use Rattle.refutation.specs.Clause.{IsListOf, item_at};
-ghost use Rattle.refutecheck.specs.Answer.{IsAnswer, IsOutOrMatching};
+ghost use Rattle.refutecheck.specs.Answer.{IsAnswer, IsNeedOf, IsOutOrMatching};
 
 use crate::premises::Premises;
-use crate::sought::Sought;
 use refutation::{Literal, Premise};
 use relation::{Atom, Clause};
 use rules::Items;
@@ -31,13 +30,29 @@ fn out_or_matching(
     let mut literals = Vec::new(premises.alloc());
     literals.push(Literal::Unselected(number))?;
     for atom in atoms {
-        premises.push_sought(&mut literals, Sought::Matching(atom))?;
+        premises.push_matching(&mut literals, atom)?;
     }
     Ok(Items::new(literals))
 }
 
-/// The clause of a pair and a clause of its Pre-Depends. Memory alone can fail. For each atom linear in the packages that
-/// have or provide its name.
+// The clause of a pair and of the clause of this number of a field of its package, if there is one.
+fn need_of(
+    premises: &Premises<'_, '_, '_>,
+    number: u32,
+    clauses: &[Clause<'_>],
+    clause: u32,
+) -> Result<Option<Items<Literal>>, AllocError>
+    ensures { IfOk result (IsNeedOf premises.now number (item_at clauses.now clause)) }
+{
+    let Some(atoms) = clause_at(clauses, clause) else {
+        return Ok(None);
+    };
+    let literals = out_or_matching(premises, number, atoms.as_slice())?;
+    Ok(Some(literals))
+}
+
+/// The clause of a pair and a clause of its Pre-Depends. Memory alone can fail. Linear in the package, with two binary
+/// searches for each atom, and m log m in the m packages that match it.
 pub fn pre_depends_clause(
     premises: &Premises<'_, '_, '_>,
     number: u32,
@@ -45,20 +60,15 @@ pub fn pre_depends_clause(
 ) -> Result<Option<Items<Literal>>, AllocError>
     ensures { IfOk result (IsAnswer premises.now (Premise.PreDepends number clause)) }
 {
-    match premises.pkg_at(number) {
-        None => Ok(None),
-        Some(pkg) => match clause_at(pkg.pre_depends(), clause) {
-            None => Ok(None),
-            Some(atoms) => {
-                let literals = out_or_matching(premises, number, atoms.as_slice())?;
-                Ok(Some(literals))
-            }
-        },
-    }
+    let Some(read) = premises.read_at(number)? else {
+        return Ok(None);
+    };
+    let found = need_of(premises, number, read.pkg().pre_depends(), clause)?;
+    Ok(found)
 }
 
-/// The clause of a pair and a clause of its Depends. Memory alone can fail. For each atom linear in the packages that have
-/// or provide its name.
+/// The clause of a pair and a clause of its Depends. Memory alone can fail. Linear in the package, with two binary searches
+/// for each atom, and m log m in the m packages that match it.
 pub fn depends_clause(
     premises: &Premises<'_, '_, '_>,
     number: u32,
@@ -66,14 +76,9 @@ pub fn depends_clause(
 ) -> Result<Option<Items<Literal>>, AllocError>
     ensures { IfOk result (IsAnswer premises.now (Premise.Depends number clause)) }
 {
-    match premises.pkg_at(number) {
-        None => Ok(None),
-        Some(pkg) => match clause_at(pkg.depends(), clause) {
-            None => Ok(None),
-            Some(atoms) => {
-                let literals = out_or_matching(premises, number, atoms.as_slice())?;
-                Ok(Some(literals))
-            }
-        },
-    }
+    let Some(read) = premises.read_at(number)? else {
+        return Ok(None);
+    };
+    let found = need_of(premises, number, read.pkg().depends(), clause)?;
+    Ok(found)
 }

@@ -17,18 +17,18 @@ use std::alloc::AllocError;
 pub fn is_named(premises: &Premises<'_, '_, '_>, number: u32, name: &[u8]) -> bool
     ensures { IsTrue result ↔ PairHas premises.now number (λ pkg. pkg.name ≡ name.now) }
 {
-    match premises.pkg_at(number) {
+    match premises.pair_at(number) {
         None => false,
-        Some(pkg) => is_same(pkg.name(), name),
+        Some(pair) => is_same(pair.name(), name),
     }
 }
 
 fn are_of_one_name(premises: &Premises<'_, '_, '_>, number: u32, other: u32) -> bool
     ensures { IsTrue result ↔ PairsAre premises.now number other (λ pkg found. found.name ≡ pkg.name) }
 {
-    match premises.pkg_at(number) {
+    match premises.pair_at(number) {
         None => false,
-        Some(pkg) => is_named(premises, other, pkg.name()),
+        Some(pair) => is_named(premises, other, pair.name()),
     }
 }
 
@@ -54,46 +54,10 @@ fn breaks_another(pkg: &Pkg<'_>, other: &Pkg<'_>) -> bool
     !is_same(other.name(), pkg.name()) && matches_some(other, pkg.breaks())
 }
 
-fn conflicts_with_pair(premises: &Premises<'_, '_, '_>, pkg: &Pkg<'_>, other: u32) -> bool
-    ensures { IsTrue result ↔ PairHas premises.now other (ConflictsWithOther pkg.now) }
-{
-    match premises.pkg_at(other) {
-        None => false,
-        Some(found) => conflicts_with_other(pkg, found),
-    }
-}
-
-fn breaks_pair(premises: &Premises<'_, '_, '_>, pkg: &Pkg<'_>, other: u32) -> bool
-    ensures { IsTrue result ↔ PairHas premises.now other (BreaksAnother pkg.now) }
-{
-    match premises.pkg_at(other) {
-        None => false,
-        Some(found) => breaks_another(pkg, found),
-    }
-}
-
 fn is_same_premise(premises: &Premises<'_, '_, '_>, number: u32, other: u32) -> bool
     ensures { IsTrue result ↔ IsPremise premises.now (Premise.Same number other) }
 {
     number < other && are_of_one_name(premises, number, other)
-}
-
-fn is_conflicts_premise(premises: &Premises<'_, '_, '_>, number: u32, other: u32) -> bool
-    ensures { IsTrue result ↔ IsPremise premises.now (Premise.Conflicts number other) }
-{
-    match premises.pkg_at(number) {
-        None => false,
-        Some(pkg) => conflicts_with_pair(premises, pkg, other),
-    }
-}
-
-fn is_breaks_premise(premises: &Premises<'_, '_, '_>, number: u32, other: u32) -> bool
-    ensures { IsTrue result ↔ IsPremise premises.now (Premise.Breaks number other) }
-{
-    match premises.pkg_at(number) {
-        None => false,
-        Some(pkg) => breaks_pair(premises, pkg, other),
-    }
 }
 
 /// The clause of two pairs of one name, the lower number first. Memory alone can fail. Linear in the name.
@@ -109,8 +73,8 @@ pub fn same_clause(
     Ok(found)
 }
 
-/// The clause of a pair and one that it conflicts with. Memory alone can fail. Linear in the atoms, for each in what the
-/// other provides.
+/// The clause of a pair and one that it conflicts with. Memory alone can fail. Linear in both packages, and for each atom
+/// in what the other provides.
 pub fn conflicts_clause(
     premises: &Premises<'_, '_, '_>,
     number: u32,
@@ -118,13 +82,19 @@ pub fn conflicts_clause(
 ) -> Result<Option<Items<Literal>>, AllocError>
     ensures { IfOk result (IsAnswer premises.now (Premise.Conflicts number other)) }
 {
-    let is_premise = is_conflicts_premise(premises, number, other);
+    let Some(one) = premises.read_at(number)? else {
+        return Ok(None);
+    };
+    let Some(two) = premises.read_at(other)? else {
+        return Ok(None);
+    };
+    let is_premise = conflicts_with_other(one.pkg(), two.pkg());
     let found = either_out_if(premises.alloc(), is_premise, number, other)?;
     Ok(found)
 }
 
-/// The clause of a pair and one that it breaks. Memory alone can fail. Linear in the atoms, for each in what the other
-/// provides.
+/// The clause of a pair and one that it breaks. Memory alone can fail. Linear in both packages, and for each atom in what
+/// the other provides.
 pub fn breaks_clause(
     premises: &Premises<'_, '_, '_>,
     number: u32,
@@ -132,7 +102,13 @@ pub fn breaks_clause(
 ) -> Result<Option<Items<Literal>>, AllocError>
     ensures { IfOk result (IsAnswer premises.now (Premise.Breaks number other)) }
 {
-    let is_premise = is_breaks_premise(premises, number, other);
+    let Some(one) = premises.read_at(number)? else {
+        return Ok(None);
+    };
+    let Some(two) = premises.read_at(other)? else {
+        return Ok(None);
+    };
+    let is_premise = breaks_another(one.pkg(), two.pkg());
     let found = either_out_if(premises.alloc(), is_premise, number, other)?;
     Ok(found)
 }

@@ -1,8 +1,9 @@
-// The premises of a universe: what their clauses are found in.
+// The premises of a universe: what their clauses are found in. No package is read but those that a premise asks for.
 
-ghost use Rattle.std.specs.Prelude.{◌≡◌, ◌↔◌, ◌⊎◌, ◌+◌, ◌^◌, ◌<◌, ℕ, IfOk, IsTrue, OnOk, length, map};
-ghost use Rattle.std.specs.List.{Any, Contains, list_any, slice_get};
-ghost use Rattle.std.specs.Option.{option_copied};
+ghost use Rattle.std.specs.Prelude.{◌≡◌, ◌↔◌, ◌⊎◌, ◌+◌, ◌++◌, ◌^◌, ◌<◌, ℕ, IfOk, IsTrue, OnOk, length, map};
+ghost use Rattle.std.specs.List.{All, Any, Contains, list_any, slice_get};
+ghost use Rattle.std.specs.Option.{option_copied, option_map};
+ghost use Rattle.rules.specs.Package.{Matches};
 ghost use Rattle.rules.specs.Universe.{candidate_of, start_in};
 ghost use Rattle.refutation.specs.Clause.{IsListOf, item_at};
 ghost use Rattle.refutation.specs.Premise.{PairHas, PairsAre, Selects};
@@ -10,29 +11,28 @@ ghost use Rattle.refutation.specs.declared.literal.Literal.{Literal};
 ghost use Rattle.universe.specs.Universe.{HaveDistinctNames, packages_of};
 ghost use Rattle.refutecheck.specs.Sought.{IsSelectedAt, IsSought, is_no_remove};
 
-use crate::sought::{Sought, is_same, is_sought, name_of};
+use crate::sought::{Sought, is_sought, name_of};
 use debversion::Version;
-use index::Providers;
+use providers::{Providers, Ticks};
 use refutation::Literal;
-use relation::Pkg;
+use relation::Atom;
 use rules::{Goal, Items};
 use std::alloc::{AllocError, Global};
 use std::marker::Model;
-use universe::{Start, Universe};
+use universe::{CountingPkg, Pair, Start, Universe};
 
-/// The premises of a universe: its parts, with its packages and who has or provides a name.
+/// The premises of a universe: its parts, with who has or provides a name and who matches an atom.
 #[derive(Drop)]
 pub struct Premises<'u, 'p, 'a> {
     alloc: Global,
     universe: &'u Universe<'p, 'a>,
-    packages: &'u [&'u Pkg<'a>],
-    providers: Providers<'u, 'a>,
+    providers: Providers<'a>,
     keeps: bool,
 }
 
 impl<'u, 'p, 'a> Model for Premises<'u, 'p, 'a> {
-    ghost use Rattle.std.specs.Prelude.{◌≡◌, ◌^◌, ◌<◌, length, map};
-    ghost use Rattle.std.specs.List.{AllPairs, list_any};
+    ghost use Rattle.std.specs.Prelude.{◌≡◌, ◌^◌, ◌<◌, length};
+    ghost use Rattle.std.specs.List.{list_any};
     ghost use Rattle.rules.specs.Universe.{Universe as UniverseValue};
     ghost use Rattle.universe.specs.Universe.{HaveDistinctNames, packages_of};
     ghost use Rattle.refutecheck.specs.Sought.{is_no_remove};
@@ -41,8 +41,7 @@ impl<'u, 'p, 'a> Model for Premises<'u, 'p, 'a> {
 
     ghost view = { λ p. p.universe.now };
 
-    ghost invariant = { λ p. (map (λ pkg. pkg.now) p.packages.now ≡ packages_of p.universe.now.pairs)
-        × (p.providers ≡ packages_of p.universe.now.pairs)
+    ghost invariant = { λ p. (p.providers ≡ packages_of p.universe.now.pairs)
         × (p.keeps ≡ list_any is_no_remove p.universe.now.goals)
         × (length p.universe.now.pairs < 2 ^ 32)
         × HaveDistinctNames p.universe.now.starts };
@@ -62,34 +61,21 @@ fn has_no_remove(goals: &[Goal]) -> bool
     goals.iter().any(|goal| is_no_remove(goal))
 }
 
-// The package that is lent at this place.
-fn lent_at<'u, 'a>(packages: &'u [&'u Pkg<'a>], place: usize) -> Option<&'u Pkg<'a>>
-    ensures { option_copied result ≡ slice_get (map (λ pkg. pkg.now) packages.now) place }
-{
-    match packages.get(place) {
-        None => None,
-        Some(pkg) => Some(*pkg),
-    }
-}
-
 impl<'u, 'p, 'a> Premises<'u, 'p, 'a> {
-    /// The premises of the universe, whose packages these are. Memory alone can fail. About n log n comparisons of the n
-    /// names that they have and provide.
+    /// The premises of the universe. Memory alone can fail. About n log n comparisons of the n names that its packages have
+    /// and provide.
     pub fn new(
         alloc: Global,
         universe: &'u Universe<'p, 'a>,
-        packages: &'u [&'u Pkg<'a>],
     ) -> Result<Premises<'u, 'p, 'a>, AllocError>
-        requires packages { map (λ pkg. pkg.now) packages.now ≡ packages_of universe.now.pairs }
         requires few { length universe.now.pairs < 2 ^ 32 }
         requires distinct { HaveDistinctNames universe.now.starts }
         ensures { IfOk result (λ premises. premises ≡ universe.now) }
     {
-        let providers = Providers::build(alloc, packages)?;
+        let providers = Providers::of_universe(alloc, universe)?;
         Ok(Premises {
             alloc,
             universe,
-            packages,
             providers,
             keeps: has_no_remove(universe.goals()),
         })
@@ -100,19 +86,32 @@ impl<'u, 'p, 'a> Premises<'u, 'p, 'a> {
         self.alloc
     }
 
-    // The package at this place, counted from 0.
-    fn pkg_in(&self, place: usize) -> Option<&'u Pkg<'a>>
-        ensures { option_copied result ≡ slice_get (packages_of self.now.pairs) place }
+    // The pair at this place, counted from 0. Its package isn't read.
+    fn pair_in(&self, place: usize) -> Option<&'u Pair<'p, 'a>>
+        ensures { option_map (λ pair. pair.now.pkg) result ≡ slice_get (packages_of self.now.pairs) place }
     {
-        lent_at(self.packages, place)
+        self.universe.pairs().get(place)
     }
 
-    /// The package of the pair of this number.
-    pub fn pkg_at(&self, number: u32) -> Option<&'u Pkg<'a>>
-        ensures { option_copied result ≡ item_at (packages_of self.now.pairs) number }
+    /// The pair of this number. Its package isn't read.
+    pub fn pair_at(&self, number: u32) -> Option<&'u Pair<'p, 'a>>
+        ensures { option_map (λ pair. pair.now.pkg) result ≡ item_at (packages_of self.now.pairs) number }
     {
         let place = number.checked_sub(1)?;
-        self.pkg_in(place as usize)
+        self.pair_in(place as usize)
+    }
+
+    /// The package of the pair of this number, which is read if it doesn't stand. Memory alone can fail. Linear in it.
+    pub fn read_at(&self, number: u32) -> Result<Option<CountingPkg<'u, 'a>>, AllocError>
+        ensures { IfOk result (λ found. found ≡ item_at (packages_of self.now.pairs) number) }
+    {
+        match self.pair_at(number) {
+            None => Ok(None),
+            Some(pair) => {
+                let pkg = CountingPkg::of_pair(self.alloc, pair)?;
+                Ok(Some(pkg))
+            }
+        }
     }
 
     // The number of the pair at this place, at which there is one.
@@ -134,10 +133,10 @@ impl<'u, 'p, 'a> Premises<'u, 'p, 'a> {
         ensures { OnOk result ((found : Literal) → Contains literals.new.items found ↔ (Contains literals.old.items found
             ⊎ IsSelectedAt (packages_of self.now.pairs) (IsSought sought.entry) place found)) }
     {
-        match self.pkg_in(place) {
+        match self.pair_in(place) {
             None => Ok(()),
-            Some(pkg) => {
-                if !is_sought(pkg, sought) {
+            Some(pair) => {
+                if !is_sought(pair, sought) {
                     return Ok(());
                 }
                 literals.push(Literal::Selected(self.number_at(place)))?;
@@ -162,29 +161,44 @@ impl<'u, 'p, 'a> Premises<'u, 'p, 'a> {
         Ok(())
     }
 
-    /// Puts the pairs behind the literals whose packages are sought. Memory alone can fail. Linear in the packages that
-    /// have or provide the name.
-    pub fn push_sought(
-        &self,
-        literals: &mut Vec<Literal>,
-        sought: Sought<'_, '_>,
-    ) -> Result<(), AllocError>
-        ensures { OnOk result ((found : Literal) → Contains literals.new.items found ↔ (Contains literals.old.items found
-            ⊎ Selects self.now (IsSought sought.entry) found)) }
-    {
-        let places = self.providers.of(self.alloc, name_of(sought))?;
-        self.push_places(literals, places.as_slice(), sought)?;
-        Ok(())
-    }
-
     /// The pairs whose packages are sought, selected. Memory alone can fail. Linear in the packages that have or provide
     /// the name.
     pub fn all_sought(&self, sought: Sought<'_, '_>) -> Result<Items<Literal>, AllocError>
         ensures { IfOk result (IsListOf (Selects self.now (IsSought sought.entry))) }
     {
         let mut literals = Vec::new(self.alloc);
-        self.push_sought(&mut literals, sought)?;
+        let places = self.providers.of(self.alloc, name_of(sought))?;
+        self.push_places(&mut literals, places.as_slice(), sought)?;
         Ok(Items::new(literals))
+    }
+
+    // Puts the pairs at these places behind the literals.
+    fn push_all(&self, literals: &mut Vec<Literal>, places: &[usize]) -> Result<(), AllocError>
+        requires { All (λ place. place < length self.now.pairs) places.now }
+        ensures { OnOk result (literals.new.items
+            ≡ literals.old.items ++ map (λ place. Literal.Selected (place + 1)) places.now) }
+    {
+        for place in places {
+            literals.push(Literal::Selected(self.number_at(*place)))?;
+        }
+        Ok(())
+    }
+
+    /// Puts the pairs whose packages match the atom behind the literals. Memory alone can fail. Two binary searches among
+    /// the versions of the name, and m log m in the m that match.
+    pub fn push_matching(
+        &self,
+        literals: &mut Vec<Literal>,
+        atom: &Atom<'_>,
+    ) -> Result<(), AllocError>
+        ensures { OnOk result ((found : Literal) → Contains literals.new.items found ↔ (Contains literals.old.items found
+            ⊎ Selects self.now (λ pkg. Matches pkg atom.now) found)) }
+    {
+        let places = self
+            .providers
+            .matching(self.alloc, atom, &mut Ticks::new())?;
+        self.push_all(literals, places.as_slice())?;
+        Ok(())
     }
 
     /// The goal of this number.

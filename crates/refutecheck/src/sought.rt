@@ -1,4 +1,4 @@
-// Which packages the pairs of a clause are those of.
+// Which packages a goal or a name seeks, by their names and versions alone.
 
 ghost use Rattle.std.specs.Prelude.{◌≡◌, ◌↔◌, IsTrue};
 ghost use Rattle.rules.specs.Package.{Matches, Meets, Pkg as PkgValue};
@@ -7,10 +7,10 @@ ghost use Rattle.index.specs.Providers.{plain_atom};
 ghost use Rattle.refutecheck.specs.Sought.{IsSought};
 
 use debversion::Version;
-use relation::{Atom, Pkg};
 use rules::{Restriction, VersionText};
+use universe::Pair;
 
-/// The packages that are sought. All have or provide one name.
+/// The packages that are sought. All have one name.
 #[derive(Clone, Copy)]
 pub enum Sought<'q, 'a> {
     /// Those of this name.
@@ -19,8 +19,6 @@ pub enum Sought<'q, 'a> {
     Meeting(&'q [u8], &'q Option<Restriction>),
     /// Those of this name in this version.
     InVersion(&'q [u8], &'q Version<'a>),
-    /// Those that match this atom.
-    Matching(&'q Atom<'a>),
 }
 
 /// Whether two names are equal.
@@ -48,32 +46,31 @@ fn meets(version: &Version<'_>, restriction: &Option<Restriction>) -> bool
 }
 
 // Whether the package is of the name, in a version that meets the restriction, if there is one.
-fn is_meeting(pkg: &Pkg<'_>, name: &[u8], restriction: &Option<Restriction>) -> bool
-    ensures { IsTrue result ↔ ((pkg.now.name ≡ name.now) × Meets pkg.now.version restriction.now) }
+fn is_meeting(pair: &Pair<'_, '_>, name: &[u8], restriction: &Option<Restriction>) -> bool
+    ensures { IsTrue result ↔ ((pair.now.pkg.name ≡ name.now) × Meets pair.now.pkg.version restriction.now) }
 {
-    is_same(pkg.name(), name) && meets(pkg.version(), restriction)
+    is_same(pair.name(), name) && meets(pair.version(), restriction)
 }
 
 // Whether the package is of the name and in the version.
-fn is_of(pkg: &Pkg<'_>, name: &[u8], version: &Version<'_>) -> bool
-    ensures { IsTrue result ↔ IsOf name.now version.now pkg.now }
+fn is_of(pair: &Pair<'_, '_>, name: &[u8], version: &Version<'_>) -> bool
+    ensures { IsTrue result ↔ IsOf name.now version.now pair.now.pkg }
 {
-    is_same(pkg.name(), name) && pkg.version() == version
+    is_same(pair.name(), name) && pair.version() == version
 }
 
-/// Whether the package is one that is sought.
-pub fn is_sought(pkg: &Pkg<'_>, sought: Sought<'_, '_>) -> bool
-    ensures { IsTrue result ↔ IsSought sought.entry pkg.now }
+/// Whether the package of the pair is one that is sought.
+pub fn is_sought(pair: &Pair<'_, '_>, sought: Sought<'_, '_>) -> bool
+    ensures { IsTrue result ↔ IsSought sought.entry pair.now.pkg }
 {
     match sought {
-        Sought::OfName(name) => is_same(pkg.name(), name),
-        Sought::Meeting(name, restriction) => is_meeting(pkg, name, restriction),
-        Sought::InVersion(name, version) => is_of(pkg, name, version),
-        Sought::Matching(atom) => atom.matched_by(pkg),
+        Sought::OfName(name) => is_same(pair.name(), name),
+        Sought::Meeting(name, restriction) => is_meeting(pair, name, restriction),
+        Sought::InVersion(name, version) => is_of(pair, name, version),
     }
 }
 
-/// The name that all packages have or provide that are sought.
+/// The name that all packages have that are sought.
 pub fn name_of<'q>(sought: Sought<'q, '_>) -> &'q [u8]
     ensures { (pkg : PkgValue) → IsSought sought.entry pkg → Matches pkg (plain_atom result.now) }
 {
@@ -81,6 +78,5 @@ pub fn name_of<'q>(sought: Sought<'q, '_>) -> &'q [u8]
         Sought::OfName(name) => name,
         Sought::Meeting(name, _) => name,
         Sought::InVersion(name, _) => name,
-        Sought::Matching(atom) => atom.name(),
     }
 }

@@ -13,10 +13,9 @@ use crate::premises::Premises;
 use crate::sought::{Sought, is_same};
 use debversion::Version;
 use refutation::{Literal, Premise};
-use relation::Pkg;
 use rules::Items;
 use std::alloc::AllocError;
-use universe::Start;
+use universe::{Pair, Start};
 
 fn is_version(standing: Option<&Version<'_>>, version: &Version<'_>) -> bool
     ensures { IsTrue result ↔ MatchOption (option_copied standing.entry) ⊥ (SameVersion version.now) }
@@ -27,13 +26,13 @@ fn is_version(standing: Option<&Version<'_>>, version: &Version<'_>) -> bool
     }
 }
 
-fn is_held_at(start: &Start<'_>, pkg: &Pkg<'_>) -> bool
-    ensures { IsTrue result ↔ ((start.now.name ≡ pkg.now.name) × IsTrue start.now.is_held
-        × MatchOption start.now.standing ⊥ (SameVersion pkg.now.version)) }
+fn is_held_at(start: &Start<'_>, pair: &Pair<'_, '_>) -> bool
+    ensures { IsTrue result ↔ ((start.now.name ≡ pair.now.pkg.name) × IsTrue start.now.is_held
+        × MatchOption start.now.standing ⊥ (SameVersion pair.now.pkg.version)) }
 {
-    is_same(start.name(), pkg.name())
+    is_same(start.name(), pair.name())
         && start.is_held()
-        && is_version(start.standing(), pkg.version())
+        && is_version(start.standing(), pair.version())
 }
 
 fn is_essential_at(start: &Start<'_>, name: &[u8]) -> bool
@@ -48,12 +47,12 @@ fn is_standing_at(start: &Start<'_>, name: &[u8]) -> bool
     is_same(start.name(), name) && start.standing().is_some()
 }
 
-fn is_held_version(premises: &Premises<'_, '_, '_>, pkg: &Pkg<'_>) -> bool
-    ensures { IsTrue result ↔ IsHeldVersion premises.now pkg.now }
+fn is_held_version(premises: &Premises<'_, '_, '_>, pair: &Pair<'_, '_>) -> bool
+    ensures { IsTrue result ↔ IsHeldVersion premises.now pair.now.pkg }
 {
-    match premises.start(pkg.name()) {
+    match premises.start(pair.name()) {
         None => false,
-        Some(start) => is_held_at(start, pkg),
+        Some(start) => is_held_at(start, pair),
     }
 }
 
@@ -78,9 +77,9 @@ fn stands_at_start(premises: &Premises<'_, '_, '_>, name: &[u8]) -> bool
 fn is_hold_premise(premises: &Premises<'_, '_, '_>, number: u32) -> bool
     ensures { IsTrue result ↔ IsPremise premises.now (Premise.Hold number) }
 {
-    match premises.pkg_at(number) {
+    match premises.pair_at(number) {
         None => false,
-        Some(pkg) => is_held_version(premises, pkg),
+        Some(pair) => is_held_version(premises, pair),
     }
 }
 

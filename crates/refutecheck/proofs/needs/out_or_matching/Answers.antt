@@ -20,11 +20,11 @@ loop-atom-init c = λ found.
 
 pub loop-atom-preserved : goal.loop-atom-preserved
 loop-atom-preserved c =
-    let Adds : Atom → Type 0 = λ atom. (found : Literal) → Contains c.push_sought.new.literals.items found
+    let Adds : Atom → Type 0 = λ atom. (found : Literal) → Contains c.push_matching.new.literals.items found
     ↔ (Contains c.loop-atom.literals.items found ⊎ Selects c.args.premises.now (λ pkg. Matches pkg atom) found) in
     one_atom_more c.args.premises.now c.args.number c.args.atoms.now c.loop-atom.atom-index c.atom-item.result c.loop-atom-test.true
-    (Contains c.loop-atom.literals.items) (Contains c.push_sought.new.literals.items) c.loop-atom.invariant
-    (subst Adds c.atom-item.is c.in_ok-push_sought.ensures)
+    (Contains c.loop-atom.literals.items) (Contains c.push_matching.new.literals.items) c.loop-atom.invariant
+    (subst Adds c.atom-item.is c.in_ok-push_matching.ensures)
 
 pub returns : goal.returns
 returns c =

@@ -7,5 +7,5 @@ use Rattle.refutecheck.proofs.pairs.is_named.Goals as goal
 pub returns-in-Some : goal.returns-in-Some
 returns-in-Some c =
     let Of : List ℕ → Type 0 = λ name. IsTrue c.is_same.result ↔ (name ≡ c.args.name.now) in
-    decides_at c.args.premises.now c.args.number c.in-Some.pkg.now (λ pkg. pkg.name ≡ c.args.name.now) c.is_same.result c.in-Some.ensures
+    decides_at c.args.premises.now c.args.number c.in-Some.pair.now.pkg (λ pkg. pkg.name ≡ c.args.name.now) c.is_same.result c.in-Some.ensures
     (subst Of c.name.ensures c.is_same.ensures)

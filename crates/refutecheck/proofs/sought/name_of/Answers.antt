@@ -1,6 +1,6 @@
 -- What is sought has or provides the name.
 use Rattle.std.proofs.Common.{subst}
-use Rattle.refutecheck.proofs.SoughtLemmas.{of_atom, of_name}
+use Rattle.refutecheck.proofs.SoughtLemmas.{of_name}
 use Rattle.refutecheck.specs.Sought.{IsSought}
 use Rattle.refutecheck.specs.declared.sought.Sought.{Sought}
 use Rattle.refutecheck.proofs.sought.name_of.Goals as goal
@@ -21,8 +21,3 @@ returns-in-InVersion c = λ pkg is.
     let Of : Sought → Type 0 = λ sought. IsSought sought pkg in
     let fits = subst Of c.in-InVersion.is is in
     of_name pkg c.in-InVersion.name.now fits.0
-
-pub returns-in-Matching : goal.returns-in-Matching
-returns-in-Matching c = λ pkg is.
-    let Of : Sought → Type 0 = λ sought. IsSought sought pkg in
-    rw c.name.ensures (of_atom pkg c.in-Matching.atom.now (subst Of c.in-Matching.is is))

@@ -1,8 +1,0 @@
--- What holds of the package of the first pair.
-use Rattle.refutation.specs.Premise.{ConflictsWithOther, PairHas}
-use Rattle.refutecheck.proofs.PairLemmas.{decides_at}
-use Rattle.refutecheck.proofs.pairs.is_conflicts_premise.Goals as goal
-
-pub returns-in-Some : goal.returns-in-Some
-returns-in-Some c = decides_at c.args.premises.now c.args.number c.in-Some.pkg.now
-    (λ pkg. PairHas c.args.premises.now c.args.other (ConflictsWithOther pkg)) c.conflicts_with_pair.result c.in-Some.ensures c.conflicts_with_pair.ensures
