@@ -194,9 +194,8 @@ impl<'u, 'p, 'a> Premises<'u, 'p, 'a> {
         ensures { OnOk result ((found : Literal) → Contains literals.new.items found ↔ (Contains literals.old.items found
             ⊎ Selects self.now (λ pkg. Matches pkg atom.now) found)) }
     {
-        let places = self
-            .providers
-            .matching(self.alloc, atom, &mut Ticks::new())?;
+        let mut ticks = Ticks::new();
+        let places = self.providers.matching(self.alloc, atom, &mut ticks)?;
         self.push_all(literals, places.as_slice())?;
         Ok(())
     }
