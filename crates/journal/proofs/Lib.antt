@@ -1,0 +1,10 @@
+mod CommitLemmas
+mod CrashLemmas
+mod FaultLemmas
+mod HeaderLemmas
+mod HistoryLemmas
+mod LineLemmas
+mod NumberLemmas
+mod OnceLemmas
+mod PayloadLemmas
+mod RecordLemmas

@@ -1,0 +1,9 @@
+pub mod File
+pub mod Payload
+pub mod History
+pub mod Fault
+pub mod Commit
+pub mod Ledger
+pub mod Reading
+pub mod Adding
+pub mod Creating
