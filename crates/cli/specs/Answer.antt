@@ -21,7 +21,7 @@ use Rattle.solver.specs.declared.solved.Undecided.TheVariants as undecided
 abbrev pub undecided_line : Undecided → List ℕ
 undecided_line (undecided.Limit limit) = codes "undecided limit " ++ (decimal limit ++ codes "\n")
 undecided_line undecided.Start = codes "undecided blocked start\n"
-undecided_line undecided.Stuck = codes "undecided blocked stuck\n"
+undecided_line (undecided.Stuck steps) = codes "undecided blocked stuck\n"
 undecided_line undecided.Unchecked = codes "undecided unchecked\n"
 
 -- the answer to a request: a plan, a refutation, or why it is undecided

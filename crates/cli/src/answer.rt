@@ -49,18 +49,18 @@ pub fn solved_text(alloc: Global, solved: &Solved) -> Result<Vec<u8>, AllocError
             let text = write_refutation(alloc, refutation)?;
             Ok(text)
         }
-        Solved::Undecided(why) => undecided_line(alloc, *why),
+        Solved::Undecided(why) => undecided_line(alloc, why),
     }
 }
 
 // The line that says why a request is undecided.
-fn undecided_line(alloc: Global, why: Undecided) -> Result<Vec<u8>, AllocError>
-    ensures { IfOk result (λ line. line.items ≡ Spec.undecided_line why) }
+fn undecided_line(alloc: Global, why: &Undecided) -> Result<Vec<u8>, AllocError>
+    ensures { IfOk result (λ line. line.items ≡ Spec.undecided_line why.now) }
 {
     match why {
         Undecided::Limit(limit) => Ok(format!(in alloc; "undecided limit {limit}\n")?.into_bytes()),
         Undecided::Start => b"undecided blocked start\n".to_vec(alloc),
-        Undecided::Stuck => b"undecided blocked stuck\n".to_vec(alloc),
+        Undecided::Stuck(_) => b"undecided blocked stuck\n".to_vec(alloc),
         Undecided::Unchecked => b"undecided unchecked\n".to_vec(alloc),
     }
 }

@@ -17,7 +17,7 @@ use Rattle.cli_engine.specs.declared.refusal.Fault.{Fault}
 use Rattle.cli_engine.specs.declared.refusal.Fault.TheVariants as fault
 
 -- what is read with faults is what is read
-read-ok : {A E : Type 0} (as_fault : E → Fault) (reading : Result A E) (value : A) → with_fault as_fault reading ≡ Ok value
+pub read-ok : {A E : Type 0} (as_fault : E → Fault) (reading : Result A E) (value : A) → with_fault as_fault reading ≡ Ok value
     → reading ≡ Ok value
 read-ok as_fault (Ok read) value is = let e : read ≡ value = cc in cc
 read-ok as_fault (Err refused) value is = absurd (let e : Err (as_fault refused) ≡ Ok value = is in cc)

@@ -13,9 +13,10 @@ use Rattle.universe_build.specs.Build.{first_unknown, goals_of}
 use Rattle.universe_build.specs.Error.{IsTooLarge}
 use Rattle.universe_request.specs.Request.{read_request}
 use Rattle.cli_engine.specs.Answer.{Denotes, IsAsked, IsFault, IsRequestFault, IsRequested}
-use Rattle.cli_engine.specs.Before.{AreListed, AreRead}
+use Rattle.cli_engine.specs.Before.{AreListed, AreRead, IsFaultBefore}
 use Rattle.cli_engine.specs.Indices.{read_indices}
 use Rattle.cli_engine.specs.Meaning.{HasOneMeaning, MeaningIsNotRefused}
+use Rattle.cli_engine.specs.Refuted.{IsRefutationFault, MeaningIsNotRefusedBeside}
 use Rattle.cli_engine.specs.Texts.{Texts, preferences_of, sources_of, status_of}
 use Rattle.cli_engine.specs.declared.refusal.Fault.{Fault}
 use Rattle.cli_engine.specs.declared.refusal.Fault.TheVariants as fault
@@ -113,24 +114,54 @@ not_asked texts u start found is asked = not_requested texts.arch texts.request 
     (subst (λ db. IsRequestFault texts.arch texts.request db asked.indices asked.prefs found)
     (one_start texts asked.start start asked.indices is.indices asked.read.listed is.read.listed) asked.refused)))
 
--- texts that have a meaning have no fault before the plan
-not_refused : (texts : Texts) (u : Universe) (start : List Record) (plan : List ℕ) (where_ : Input) (found : Fault)
-    → Denotes texts u start → IsFault texts plan where_ found → (where_ ≡ place.Plan) ⊎ (where_ ≡ place.Memory)
-not_refused texts u start plan (place.Version number) found is refused = absurd refused
-not_refused texts u start plan place.Status found is refused =
+-- texts that have a meaning have no fault before the request but want of memory
+not_before : (texts : Texts) (u : Universe) (start : List Record) (where_ : Input) (found : Fault)
+    → Denotes texts u start → IsFaultBefore texts where_ found → where_ ≡ place.Memory
+not_before texts u start (place.Version number) found is refused = absurd refused
+not_before texts u start place.Status found is refused =
     absurd (let e : Ok is.read.listed.slots ≡ Err found = sym is.read.listed.status ∙ refused in cc)
-not_refused texts u start plan place.Sources found is refused =
+not_before texts u start place.Sources found is refused =
     absurd (let e : Ok is.read.listed.sources ≡ Err found = sym is.read.listed.sources_are ∙ refused.1 in cc)
-not_refused texts u start plan (place.Index number) found is refused =
+not_before texts u start (place.Index number) found is refused =
     let same = ok-same is.read.listed.sources refused.sources (sources_of texts.sources) is.read.listed.sources_are refused.sources_are in
     absurd (let e : Ok is.indices ≡ Err (record { place = place.Index number; fault = found }) =
     sym is.read.listed.indices_are ∙ ap (λ named. read_indices texts.arch named texts.indices) same ∙ refused.refused in cc)
-not_refused texts u start plan place.Preferences found is refused =
+not_before texts u start place.Preferences found is refused =
     absurd (let e : Ok is.prefs ≡ Err found = sym is.read.preferred ∙ refused.refused in cc)
+not_before texts u start place.Request found is refused = absurd refused
+not_before texts u start place.Plan found is refused = absurd refused
+not_before texts u start place.Refutation found is refused = absurd refused
+not_before texts u start place.Memory found is refused = refl
+
+-- texts that have a meaning have no fault before the plan
+not_refused : (texts : Texts) (u : Universe) (start : List Record) (plan : List ℕ) (where_ : Input) (found : Fault)
+    → Denotes texts u start → IsFault texts plan where_ found → (where_ ≡ place.Plan) ⊎ (where_ ≡ place.Memory)
+not_refused texts u start plan (place.Version number) found is refused = inr (not_before texts u start (place.Version number) found is refused)
+not_refused texts u start plan place.Status found is refused = inr (not_before texts u start place.Status found is refused)
+not_refused texts u start plan place.Sources found is refused = inr (not_before texts u start place.Sources found is refused)
+not_refused texts u start plan (place.Index number) found is refused = inr (not_before texts u start (place.Index number) found is refused)
+not_refused texts u start plan place.Preferences found is refused = inr (not_before texts u start place.Preferences found is refused)
 not_refused texts u start plan place.Request found is refused = absurd (not_asked texts u start found is refused)
 not_refused texts u start plan place.Plan found is refused = inl refl
-not_refused texts u start plan place.Refutation found is refused = absurd refused
+not_refused texts u start plan place.Refutation found is refused = inr (not_before texts u start place.Refutation found is refused)
 not_refused texts u start plan place.Memory found is refused = inr refl
+
+-- and none before the refutation
+not_refused_beside : (texts : Texts) (u : Universe) (start : List Record) (refutation : List ℕ) (where_ : Input) (found : Fault)
+    → Denotes texts u start → IsRefutationFault texts refutation where_ found → (where_ ≡ place.Refutation) ⊎ (where_ ≡ place.Memory)
+not_refused_beside texts u start refutation (place.Version number) found is refused = inr (not_before texts u start (place.Version number) found is refused)
+not_refused_beside texts u start refutation place.Status found is refused = inr (not_before texts u start place.Status found is refused)
+not_refused_beside texts u start refutation place.Sources found is refused = inr (not_before texts u start place.Sources found is refused)
+not_refused_beside texts u start refutation (place.Index number) found is refused = inr (not_before texts u start (place.Index number) found is refused)
+not_refused_beside texts u start refutation place.Preferences found is refused = inr (not_before texts u start place.Preferences found is refused)
+not_refused_beside texts u start refutation place.Request found is refused = absurd (not_asked texts u start found is refused)
+not_refused_beside texts u start refutation place.Plan found is refused = inr (not_before texts u start place.Plan found is refused)
+not_refused_beside texts u start refutation place.Refutation found is refused = inl refl
+not_refused_beside texts u start refutation place.Memory found is refused = inr refl
 
 pub meaning_is_not_refused : MeaningIsNotRefused
 meaning_is_not_refused texts u start plan refused is first = not_refused texts u start plan refused.place refused.fault is first
+
+pub meaning_is_not_refused_beside : MeaningIsNotRefusedBeside
+meaning_is_not_refused_beside texts u start refutation refused is first =
+    not_refused_beside texts u start refutation refused.place refused.fault is first

@@ -1,5 +1,6 @@
 -- What is answered of a refutation by the texts, which refusal comes first, and what the answer yes says.
-use Rattle.std.specs.Prelude.{◌≡◌, ℕ, Bool, List, Ok, Err}
+use Rattle.std.specs.Prelude.{◌≡◌, ◌⊎◌, ℕ, Bool, List, Result, Ok, Err}
+use Rattle.refutation.specs.Refutation.{IsAccepted}
 use Rattle.refutation.specs.declared.line.Line.{Line}
 use Rattle.refutecheck.specs.Answer.{IsVerdict}
 use Rattle.refutecheck.specs.declared.verdict.Verdict.{Verdict}
@@ -9,6 +10,7 @@ use Rattle.rules.specs.Sound.{IsAcceptable}
 use Rattle.rules.specs.Universe.{Universe}
 use Rattle.cli_engine.specs.Answer.{Denotes, IsAsked}
 use Rattle.cli_engine.specs.Before.{IsFaultBefore}
+use Rattle.cli_engine.specs.Reading.{out_of_memory}
 use Rattle.cli_engine.specs.Texts.{Texts, refutation_of}
 use Rattle.cli_engine.specs.declared.refusal.Fault.{Fault}
 use Rattle.cli_engine.specs.declared.refusal.Input.{Input}
@@ -52,3 +54,20 @@ YesRefutes = (texts : Texts) (refutation : List ℕ) → IsRefutationAnswer text
 abbrev pub RefutationHasOneAnswer : Type 0
 RefutationHasOneAnswer = (texts : Texts) (refutation : List ℕ) (first second : Verdict)
     → IsRefutationAnswer texts refutation first → IsRefutationAnswer texts refutation second → first ≡ second
+
+-- texts that have a meaning aren't refused: what is refused beside it is the refutation, or memory was wanting
+abbrev pub MeaningIsNotRefusedBeside : Type 0
+MeaningIsNotRefusedBeside = (texts : Texts) (u : Universe) (start : List Record) (refutation : List ℕ) (refused : Refusal)
+    → Denotes texts u start → IsFirstRefutationRefusal texts refutation refused
+    → (refused.place ≡ place.Refutation) ⊎ (refused.place ≡ place.Memory)
+
+-- what is said of a refutation: its answer, or the first refusal
+abbrev pub IsSaidOf : Texts → List ℕ → Result Verdict Refusal → Type 0
+IsSaidOf texts refutation (Ok found) = IsRefutationAnswer texts refutation found
+IsSaidOf texts refutation (Err refused) = IsFirstRefutationRefusal texts refutation refused
+
+-- of a refutation that is read and accepted, over what the texts denote, yes is said, or that memory was wanting
+abbrev pub AcceptedRefutationIsAnswered : Type 0
+AcceptedRefutationIsAnswered = (texts : Texts) (refutation : List ℕ) (u : Universe) (start : List Record) (lines : List Line)
+    (said : Result Verdict Refusal) → Denotes texts u start → refutation_of refutation ≡ Ok lines → IsAccepted u lines
+    → IsSaidOf texts refutation said → (said ≡ Ok verdict.Yes) ⊎ (said ≡ Err out_of_memory)

@@ -1,8 +1,8 @@
 // What follows from what texts denote: each function's contract is the law.
 
 ghost use Rattle.cli_engine.specs.Meaning.{GoodPlanIsAnswered, HasOneAnswer, HasOneMeaning, MeaningIsNotRefused, YesKeepsPromise};
-ghost use Rattle.cli_engine.specs.Refuted.{RefutationHasOneAnswer, YesRefutes};
-ghost use Rattle.cli_engine.specs.Solution.{MeaningHasNeededPairs, MeaningIsCounted};
+ghost use Rattle.cli_engine.specs.Refuted.{AcceptedRefutationIsAnswered, MeaningIsNotRefusedBeside, RefutationHasOneAnswer, YesRefutes};
+ghost use Rattle.cli_engine.specs.Solution.{MeaningIsAnswered, MeaningIsSolvable};
 
 /// Texts have one meaning: the universe and the start that they denote.
 pub fn texts_have_one_meaning()
@@ -14,14 +14,10 @@ pub fn a_meaning_is_not_refused()
     ensures { MeaningIsNotRefused }
 {}
 
-/// The pairs of the universe that texts denote ascend, and those that must be selected are there.
-pub fn a_meaning_has_needed_pairs()
-    ensures { MeaningHasNeededPairs }
-{}
-
-/// The universe that texts denote is counted by their start.
-pub fn a_meaning_is_counted()
-    ensures { MeaningIsCounted }
+/// What texts denote can be solved: the universe is built on the start and counted by it, its pairs ascend, those that must be
+/// selected are there, and names are package names.
+pub fn a_meaning_is_solvable()
+    ensures { MeaningIsSolvable }
 {}
 
 /// A plan has one answer over texts.
@@ -49,4 +45,19 @@ pub fn a_refutation_has_one_answer()
 /// If the refutation checker says yes, no selection of the admitted versions satisfies the request.
 pub fn yes_refutes()
     ensures { YesRefutes }
+{}
+
+/// Texts that have a meaning aren't refused beside a refutation: a refusal is the refutation's, or memory was wanting.
+pub fn a_meaning_is_not_refused_beside()
+    ensures { MeaningIsNotRefusedBeside }
+{}
+
+/// The refutation checker says yes to every refutation that is accepted, unless memory is wanting.
+pub fn an_accepted_refutation_is_answered_with_yes()
+    ensures { AcceptedRefutationIsAnswered }
+{}
+
+/// A request of texts that have a meaning is answered, unless memory is wanting.
+pub fn a_meaning_is_answered()
+    ensures { MeaningIsAnswered }
 {}

@@ -29,8 +29,9 @@ pub use check_refutation::check_refutation_bytes;
 pub use comparison::{Comparison, compare};
 pub use inputs::Inputs;
 pub use laws::{
-    a_good_plan_is_answered_with_yes, a_meaning_has_needed_pairs, a_meaning_is_counted,
-    a_meaning_is_not_refused, a_plan_has_one_answer, a_refutation_has_one_answer,
+    a_good_plan_is_answered_with_yes, a_meaning_is_answered, a_meaning_is_not_refused,
+    a_meaning_is_not_refused_beside, a_meaning_is_solvable, a_plan_has_one_answer,
+    a_refutation_has_one_answer, an_accepted_refutation_is_answered_with_yes,
     texts_have_one_meaning, yes_keeps_its_promise, yes_refutes,
 };
 pub use refusal::{Fault, Input, Refusal};

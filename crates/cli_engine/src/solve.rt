@@ -1,12 +1,9 @@
 // A request solved by texts, read in the order status, sources, indices, preferences and request.
 
-ghost use Rattle.std.specs.Prelude.{◌<◌, ◌^◌, IfErr, IfOk, length};
+ghost use Rattle.std.specs.Prelude.{IfErr, IfOk};
 ghost use Rattle.candidates.specs.Inputs.{indices_of};
-ghost use Rattle.plain.specs.Counted.{IsCounted};
-ghost use Rattle.refutation.specs.Laws.{HasAscendingPairs, HasNeededPairs};
-ghost use Rattle.rules.specs.Verdict.{IsBuiltOn};
 ghost use Rattle.status_store.specs.Slots.{slot_records};
-ghost use Rattle.universe.specs.Universe.{HaveDistinctNames};
+ghost use Rattle.solver.specs.Solvable.{IsSolvable};
 ghost use Rattle.solver.specs.Solved.{IsSolved};
 ghost use Rattle.cli_engine.specs.Answer.{HasItsIndices};
 ghost use Rattle.cli_engine.specs.Before.{AreRead};
@@ -16,7 +13,7 @@ ghost use Rattle.cli_engine.specs.Texts.{sources_of};
 
 use crate::check::universe_of;
 use crate::inputs::Inputs;
-use crate::laws::{a_meaning_has_needed_pairs, a_meaning_is_counted};
+use crate::laws::a_meaning_is_solvable;
 use crate::read::{ReadTexts, read_texts};
 use crate::refusal::Refusal;
 use solver::{Solved, solve};
@@ -32,12 +29,7 @@ fn solve_from<'a>(
     universe: &Universe<'_, 'a>,
     limit: u32,
 ) -> Result<Solved, AllocError>
-    requires built { IsBuiltOn (slot_records database.now.slots) universe.now }
-    requires counted { IsCounted (slot_records database.now.slots) universe.now }
-    requires few { length universe.now.pairs < 2 ^ 32 }
-    requires distinct { HaveDistinctNames universe.now.starts }
-    requires ascending { HasAscendingPairs universe.now }
-    requires needed { HasNeededPairs universe.now }
+    requires { IsSolvable (slot_records database.now.slots) universe.now }
     ensures { IfOk result (λ solved. IsSolved universe.now (slot_records database.now.slots) limit solved) }
 {
     let records = database.records(alloc)?;
@@ -58,8 +50,7 @@ fn solve_by<'a>(
     ensures answer { IfOk result (λ solved. IsSolution (texts_of inputs.now) limit solved) }
     ensures refused { IfErr result (λ refused. IsFirstRequestRefusal (texts_of inputs.now) refused) }
 {
-    a_meaning_has_needed_pairs();
-    a_meaning_is_counted();
+    a_meaning_is_solvable();
     let ReadTexts {
         database,
         indices,

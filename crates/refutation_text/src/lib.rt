@@ -11,10 +11,12 @@ mod line;
 mod number;
 mod premise;
 mod read;
+mod writable;
 mod write;
 
 pub use error::{RefutationError, RefutationFault};
 pub use laws::a_refutation_is_the_text_of_its_lines;
 pub use limits::{LINES, NUMBER, PAIR, WIDTH};
 pub use read::read_refutation;
+pub use writable::is_writable;
 pub use write::write_refutation;

@@ -1,3 +1,2 @@
 pub mod ChoiceLemmas
 pub mod LiftLemmas
-pub mod PlanLemmas

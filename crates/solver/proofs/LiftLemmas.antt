@@ -2,7 +2,10 @@
 use Rattle.std.proofs.Common.{◌≡◌, ℕ, zero, suc, ◌+◌, ◌-◌, ◌<◌, ◌≤◌, ◌++◌, List, [], ◌∷◌, Some, length, get_or, take, refl, sym, ap, subst, ◌∙◌, arith}
 use Rattle.std.specs.Prelude.{slice_get}
 use Rattle.std.proofs.Math.Seq.{take-length, take-suc}
-use Rattle.std.specs.List.{All, AllZip}
+use Rattle.std.specs.List.{All, AllPairs, AllZip}
+use Rattle.std.proofs.lemmas.List.Elements.{All-cons, All-head, All-nil, All-tail}
+use Rattle.std.proofs.lemmas.List.Kept.{AllPairs-cons}
+use Rattle.rules.proofs.Rising.{pairs_head, pairs_tail}
 use Rattle.refutation.specs.Clause.{item_at}
 use Rattle.rules.specs.Universe.{Start, Universe}
 use Rattle.encode.specs.Encoding.{Encoding, IsEncoding}
@@ -95,3 +98,45 @@ lifted_all numbers chosen index lifted past within zip =
     let same : index ≡ length chosen = omega (arith, past, within) in
     subst (λ (ns : List ℕ). AllZip (λ place number. item_at numbers place ≡ Some number) ns lifted)
     (ap (λ (n : ℕ). take n chosen) same ∙ take-length chosen) zip
+
+-- the place of an item is within the list
+place_within : (items : List ℕ) (number item : ℕ) → item_at items number ≡ Some item
+    → (below : ℕ) × (number ≡ suc below) × (below < length items) × (get_or items below 0 ≡ item)
+place_within items zero item is = absurd (let e = is in cc)
+place_within items (suc below) item is = let (within, same) = get_there items below is in (below, refl, within, same)
+  where
+    get_there : (xs : List ℕ) (k : ℕ) → slice_get xs k ≡ Some item → (k < length xs) × (get_or xs k 0 ≡ item)
+    get_there [] k is = absurd (let e = is in cc)
+    get_there (x ∷ xs) zero is = (omega arith, (let e : Some x ≡ Some item = is in cc))
+    get_there (x ∷ xs) (suc k) is = let (within, same) = get_there xs k is in (omega arith, same)
+
+-- of ascending numbers the later one is greater
+lifted_one : (numbers : List ℕ) (place later number other : ℕ) → AllPairs (λ earlier later. earlier < later) numbers
+    → place < later → item_at numbers place ≡ Some number → item_at numbers later ≡ Some other → number < other
+lifted_one numbers place later number other ascending before one two =
+    let (low, low_is, low_in, low_get) = place_within numbers place number one in
+    let (high, high_is, high_in, high_get) = place_within numbers later other two in
+    let below : low < high = omega (arith, before, low_is, high_is) in
+    let less : get_or numbers low 0 < get_or numbers high 0 = ascending low high 0 below high_in in
+    omega (arith, less, low_get, high_get)
+
+-- ascending places of ascending numbers have ascending numbers
+pub lifted_ascend : (numbers chosen lifted : List ℕ) → AllPairs (λ earlier later. earlier < later) numbers
+    → AllPairs (λ earlier later. earlier < later) chosen → AllZip (λ place number. item_at numbers place ≡ Some number) chosen lifted
+    → AllPairs (λ earlier later. earlier < later) lifted
+lifted_ascend numbers [] [] ascending apart all = λ i j d before within. absurd (omega arith)
+lifted_ascend numbers [] (number ∷ lifted) ascending apart all = absurd all
+lifted_ascend numbers (place ∷ chosen) [] ascending apart all = absurd all
+lifted_ascend numbers (place ∷ chosen) (number ∷ lifted) ascending apart all =
+    AllPairs-cons (λ (earlier later : ℕ). earlier < later) number lifted
+    (later_ones chosen lifted (pairs_head (λ (earlier later : ℕ). earlier < later) place chosen apart) all.1)
+    (lifted_ascend numbers chosen lifted ascending (pairs_tail (λ (earlier later : ℕ). earlier < later) place chosen apart) all.1)
+  where
+    later_ones : (places others : List ℕ) → All (λ later. place < later) places
+        → AllZip (λ one other. item_at numbers one ≡ Some other) places others → All (λ other. number < other) others
+    later_ones [] [] above zip = All-nil (λ (other : ℕ). number < other)
+    later_ones [] (other ∷ others) above zip = absurd zip
+    later_ones (later ∷ places) [] above zip = absurd zip
+    later_ones (later ∷ places) (other ∷ others) above zip = All-cons (λ (o : ℕ). number < o) other others
+        (lifted_one numbers place later number other ascending (All-head (λ (l : ℕ). place < l) later places above) all.0 zip.0)
+        (later_ones places others (All-tail (λ (l : ℕ). place < l) later places above) zip.1)

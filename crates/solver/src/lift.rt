@@ -5,6 +5,7 @@ ghost use Rattle.std.specs.List.{All, AllZip};
 ghost use Rattle.clauses.specs.Clause.{MakesAllTrue};
 ghost use Rattle.encode.specs.Encoding.{IsEncoding};
 ghost use Rattle.encode.specs.Selection.{selects};
+ghost use Rattle.ordering.specs.Ordering.{AreAscending};
 ghost use Rattle.part.specs.Part.{IsClosedPart, IsPart};
 ghost use Rattle.refutation.specs.Clause.{item_at};
 ghost use Rattle.refutation.specs.Laws.{HasAscendingPairs, HasNeededPairs};
@@ -34,7 +35,7 @@ fn lifted(alloc: Global, numbers: &[u32], chosen: &[u32]) -> Result<Vec<u32>, Al
 }
 
 /// Has settled a selection of the part that makes all clauses true: the numbers in the universe of a selection that is
-/// acceptable and locally minimal. Memory alone can fail.
+/// acceptable and locally minimal, ascending. Memory alone can fail.
 pub(crate) fn settled(
     alloc: Global,
     universe: &Universe<'_, '_>,
@@ -53,6 +54,7 @@ pub(crate) fn settled(
     requires makes_true { MakesAllTrue selection.now encoding.now.clauses.clauses }
     ensures acceptable { IfOk result (λ settled. IsAcceptable universe.now (selects settled.items)) }
     ensures minimal { IfOk result (λ settled. IsLocallyMinimal universe.now (selects settled.items)) }
+    ensures numbers { IfOk result (λ settled. AreAscending settled.items) }
 {
     list_is_lifted();
     part_has_needed_pairs();

@@ -1,15 +1,12 @@
 // The request solved: the start, the clauses, the search, and what is made of what it found.
 
-ghost use Rattle.std.specs.Prelude.{◌^◌, ◌<◌, IfOk, length};
-ghost use Rattle.refutation.specs.Laws.{HasAscendingPairs, HasNeededPairs};
-ghost use Rattle.rules.specs.Database.{IsQuiet};
-ghost use Rattle.rules.specs.Verdict.{IsBuiltOn};
-ghost use Rattle.universe.specs.Universe.{HaveDistinctNames};
-ghost use Rattle.plain.specs.Counted.{IsCounted};
+ghost use Rattle.std.specs.Prelude.{IfOk};
 ghost use Rattle.encode.specs.Encoding.{IsEncoding};
 ghost use Rattle.part.specs.Part.{IsClosedPart, IsPart};
+ghost use Rattle.rules.specs.Database.{IsQuiet};
 ghost use Rattle.search.specs.Found.{IsAnswer};
-ghost use Rattle.solver.specs.Solved.{IsSolved};
+ghost use Rattle.solver.specs.Solvable.{IsSolvable};
+ghost use Rattle.solver.specs.Solved.{IsAnswerTo, IsOfRefutation, IsSolved};
 
 use crate::convert::refutation_of;
 use crate::lift::settled;
@@ -19,6 +16,8 @@ use encode::{Encoding, encode_part};
 use part::choice_of_part;
 use plancheck::is_quiet;
 use reach::{Reached, reach};
+use refutation::one_answer;
+use refutation_text::is_writable;
 use refutecheck::{Verdict, check_refutation};
 use search::{Found, Refutation, search};
 use search_settle::standing_records_are_present;
@@ -36,13 +35,18 @@ fn judged(
     found: &Refutation,
     limit: u32,
 ) -> Result<Solved, AllocError>
+    requires solvable { IsSolvable start.now universe.now }
     requires quiet { IsQuiet start.now }
-    requires few { length universe.now.pairs < 2 ^ 32 }
-    requires distinct { HaveDistinctNames universe.now.starts }
-    ensures { IfOk result (λ solved. IsSolved universe.now start.now limit solved) }
+    ensures solved { IfOk result (λ solved. IsSolved universe.now start.now limit solved) }
+    ensures answer { IfOk result (λ solved. IsOfRefutation solved) }
 {
+    one_answer();
     let _start = start;
     let refutation = refutation_of(alloc, reached, encoding, found)?;
+    let writable = is_writable(alloc, &refutation)?;
+    if !writable {
+        return Ok(Solved::Undecided(Undecided::Unchecked));
+    }
     match check_refutation(alloc, universe, &refutation)? {
         Verdict::Yes => Ok(Solved::Refuted(refutation)),
         Verdict::No(_) => Ok(Solved::Undecided(Undecided::Unchecked)),
@@ -59,18 +63,14 @@ fn answer_of<'p, 'a>(
     found: &Found,
     limit: u32,
 ) -> Result<Solved, AllocError>
-    requires built { IsBuiltOn start.now universe.now }
-    requires counted { IsCounted start.now universe.now }
+    requires solvable { IsSolvable start.now universe.now }
     requires quiet { IsQuiet start.now }
     requires part { IsPart universe.now reached.now.numbers.items reached.now.part }
     requires closed { IsClosedPart universe.now reached.now.numbers.items }
     requires encoding { IsEncoding reached.now.part encoding.now }
     requires found { IsAnswer encoding.now.clauses limit found.now }
-    requires few { length universe.now.pairs < 2 ^ 32 }
-    requires distinct { HaveDistinctNames universe.now.starts }
-    requires ascending { HasAscendingPairs universe.now }
-    requires needed { HasNeededPairs universe.now }
-    ensures { IfOk result (λ solved. IsSolved universe.now start.now limit solved) }
+    ensures solved { IfOk result (λ solved. IsSolved universe.now start.now limit solved) }
+    ensures answer { IfOk result (λ solved. IsAnswerTo found.now solved) }
 {
     choice_of_part();
     standing_records_are_present();
@@ -97,16 +97,11 @@ fn search_by<'p, 'a>(
     encoding: &Encoding<'_>,
     limit: u32,
 ) -> Result<Solved, AllocError>
-    requires built { IsBuiltOn start.now universe.now }
-    requires counted { IsCounted start.now universe.now }
+    requires solvable { IsSolvable start.now universe.now }
     requires quiet { IsQuiet start.now }
     requires part { IsPart universe.now reached.now.numbers.items reached.now.part }
     requires closed { IsClosedPart universe.now reached.now.numbers.items }
     requires encoding { IsEncoding reached.now.part encoding.now }
-    requires few { length universe.now.pairs < 2 ^ 32 }
-    requires distinct { HaveDistinctNames universe.now.starts }
-    requires ascending { HasAscendingPairs universe.now }
-    requires needed { HasNeededPairs universe.now }
     ensures { IfOk result (λ solved. IsSolved universe.now start.now limit solved) }
 {
     let clauses = encoding.clauses();
@@ -123,15 +118,10 @@ fn search_over<'p, 'a>(
     reached: &Reached<'_, '_, '_>,
     limit: u32,
 ) -> Result<Solved, AllocError>
-    requires built { IsBuiltOn start.now universe.now }
-    requires counted { IsCounted start.now universe.now }
+    requires solvable { IsSolvable start.now universe.now }
     requires quiet { IsQuiet start.now }
     requires part { IsPart universe.now reached.now.numbers.items reached.now.part }
     requires closed { IsClosedPart universe.now reached.now.numbers.items }
-    requires few { length universe.now.pairs < 2 ^ 32 }
-    requires distinct { HaveDistinctNames universe.now.starts }
-    requires ascending { HasAscendingPairs universe.now }
-    requires needed { HasNeededPairs universe.now }
     ensures { IfOk result (λ solved. IsSolved universe.now start.now limit solved) }
 {
     let encoding = encode_part(alloc, &reached.part)?;
@@ -139,7 +129,7 @@ fn search_over<'p, 'a>(
 }
 
 /// Solves the request of the universe from this start, with at most so many conflicts of the search above level 0: a plan
-/// that is judged good; a refutation that is accepted, so that no selection is acceptable; or why it is undecided. A start
+/// that is judged good; a refutation that is accepted and can be written, so that no selection is acceptable; or why it is undecided. A start
 /// in which packages conflict isn't searched. What the request can reach is searched alone, and what is found is judged over
 /// the whole universe. Costs what `reach` costs, what `encode_part` and `search` cost over what is reached, and then `settle`,
 /// `order` and `check_plan`, or `check_refutation`. Memory alone can fail.
@@ -149,17 +139,7 @@ pub fn solve<'p, 'a>(
     universe: &Universe<'_, 'a>,
     limit: u32,
 ) -> Result<Solved, AllocError>
-    // the universe is built on the start
-    requires built { IsBuiltOn start.now universe.now }
-    // and counts each pair by the record that stands, or else by the indices
-    requires counted { IsCounted start.now universe.now }
-    // pairs have numbers of 32 bits, as those of a request have (`rules::PAIRS`)
-    requires few { length universe.now.pairs < 2 ^ 32 }
-    // no two facts of the start are about one name, as of a status file
-    requires distinct { HaveDistinctNames universe.now.starts }
-    // the pairs ascend, and those that must be selected are there, as in the universe of inputs
-    requires ascending { HasAscendingPairs universe.now }
-    requires needed { HasNeededPairs universe.now }
+    requires { IsSolvable start.now universe.now }
     ensures { IfOk result (λ solved. IsSolved universe.now start.now limit solved) }
 {
     if !is_quiet(start) {

@@ -15,14 +15,14 @@ pub enum Solved {
 }
 
 /// Why a request is undecided.
-#[derive(Clone, Copy, Debug, Eq, PartialEq)]
+#[derive(Drop)]
 pub enum Undecided {
     /// The search met more conflicts than this limit, which was handed in.
     Limit(u32),
     /// Two packages that are present at the start conflict.
     Start,
-    /// A selection was found, and no order of steps for it.
-    Stuck,
-    /// What was found isn't accepted.
+    /// A selection was found, and behind these steps none that leads to it is allowed.
+    Stuck(Vec<Step>),
+    /// A refutation was found that isn't accepted.
     Unchecked,
 }

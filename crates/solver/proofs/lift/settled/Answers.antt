@@ -2,7 +2,7 @@
 use Rattle.std.proofs.Common.{subst, sym}
 use Rattle.encode.specs.Selection.{selects}
 use Rattle.universe.specs.Universe.{HaveDistinctNames}
-use Rattle.solver.proofs.LiftLemmas.{lifted_lists, standing_in_part, standing_were, within_part}
+use Rattle.solver.proofs.LiftLemmas.{lifted_ascend, lifted_lists, standing_in_part, standing_were, within_part}
 use Rattle.solver.proofs.lift.settled.Goals as goal
 
 pub settle-requires-clause-ascending : goal.settle-requires-clause-ascending
@@ -52,3 +52,11 @@ returns-clause-minimal c =
     (c.list_is_lifted.ensures reached.numbers.items c.in_ok-chosen.chosen.items c.in_ok-numbers.numbers.items
     (lifted_lists reached.numbers.items c.as_slice.result.now c.in_ok-chosen.chosen.items c.as_slice-2.result.now c.in_ok-numbers.numbers.items
     c.as_slice.ensures.value c.as_slice-2.ensures.value c.in_ok-numbers.ensures)) c.in_ok-chosen.ensures.minimal
+
+pub returns-clause-numbers : goal.returns-clause-numbers
+returns-clause-numbers c =
+    let reached = c.args.reached.now in
+    lifted_ascend reached.numbers.items c.in_ok-chosen.chosen.items c.in_ok-numbers.numbers.items c.requires.part.ascending
+    c.in_ok-chosen.ensures.selection.0
+    (lifted_lists reached.numbers.items c.as_slice.result.now c.in_ok-chosen.chosen.items c.as_slice-2.result.now c.in_ok-numbers.numbers.items
+    c.as_slice.ensures.value c.as_slice-2.ensures.value c.in_ok-numbers.ensures)

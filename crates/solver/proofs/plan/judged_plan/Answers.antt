@@ -7,8 +7,8 @@ use Rattle.rules.specs.declared.step.Verdict.{Verdict}
 use Rattle.rules.specs.declared.step.Verdict.TheVariants as verdict
 use Rattle.solver.proofs.plan.judged_plan.Goals as goal
 
-pub returns-in-Yes : goal.returns-in-Yes
-returns-in-Yes c =
+pub returns-in-Yes-clause-solved : goal.returns-in-Yes-clause-solved
+returns-in-Yes-clause-solved c =
     let Is : Verdict → Type 0 = λ found. IsVerdict c.args.universe.now c.args.start.now c.as_slice.result.now found in
     let Good : List Step → Type 0 = λ steps. IsGoodPlan c.args.universe.now c.args.start.now steps in
     let yes : Is verdict.Yes = subst Is c.in-Yes.is c.in_ok-verdict.ensures in

@@ -20,10 +20,10 @@ settled-requires-clause-makes_true c =
     subst (λ (xs : List ℕ). MakesAllTrue xs c.args.encoding.now.clauses.clauses) (sym c.as_slice.ensures.value) answer.1
 
 pub settled-requires-clause-present : goal.settled-requires-clause-present
-settled-requires-clause-present c = c.standing_records_are_present.ensures c.args.start.now c.args.universe.now c.requires.built.starts
+settled-requires-clause-present c = c.standing_records_are_present.ensures c.args.start.now c.args.universe.now c.requires.solvable.built.starts
 
-pub returns-in-Limit : goal.returns-in-Limit
-returns-in-Limit c =
+pub returns-in-Limit-clause-solved : goal.returns-in-Limit-clause-solved
+returns-in-Limit-clause-solved c =
     let Is : Found → Type 0 = λ f. IsAnswer c.args.encoding.now.clauses c.args.limit f in
     let answer : Is (found.Limit c.in-Limit.spent) = subst Is c.in-Limit.is c.requires.found in
     let reached = c.args.reached.now in (

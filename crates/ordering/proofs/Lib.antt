@@ -1,0 +1,4 @@
+pub mod LeadingLemmas
+pub mod OneEachLemmas
+pub mod OrderLemmas
+pub mod PlanLemmas
