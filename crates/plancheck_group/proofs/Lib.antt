@@ -1,2 +1,4 @@
+pub mod DropLemmas
+pub mod NameSetLemmas
 pub mod PartLemmas
 pub mod SingleLemmas

@@ -63,37 +63,6 @@ pub group_from : (db : List Record) (group : List (List ℕ)) → All (IsReady d
 group_from db group ready supplied = GroupPasses-from_each db group (λ name within. passes_from db group name
     (All-contains (IsReady db) group name ready within) (All-contains (IsSupplied db group) group name supplied within))
 
--- the greatest part of the ready names is that of all
-pub greatest_elsewhere : (db : List Record) (names kept part : List (List ℕ))
-    → ((name : List ℕ) → Contains kept name → Contains names name)
-    → ((name : List ℕ) → Contains names name → IsReady db name → Contains kept name)
-    → IsGreatestPart db kept part → IsGreatestPart db names part
-greatest_elsewhere db names kept part down up found = record {
-  within = All-weaker (Contains kept) (Contains names) down part found.within;
-  passes = found.passes;
-  greatest = λ other within passes. found.greatest other (All-intro (Contains kept) other (λ name there.
-      up name (All-contains (Contains names) other name within there) (ready_in db other passes name there))) passes;
-}
-
-pub greatest_of_ready : (db : List Record) (names ready part : List (List ℕ)) → IsPartWith (IsReady db) names ready
-    → IsGreatestPart db ready part → IsGreatestPart db names part
-greatest_of_ready db names ready part is found = greatest_elsewhere db names ready part
-    (λ name within. ((is name).0 within).0) (λ name within here. (is name).1 (within, here)) found
-
-pub greatest_of_others : (db : List Record) (ready others part : List (List ℕ)) (name : List ℕ)
-    → IsPartWith (λ other. other ≢ name) ready others → IsGreatestPart db others part → IsGreatestPart db (others_of name ready) part
-greatest_of_others db ready others part name is found = greatest_elsewhere db (others_of name ready) others part
-    (λ other within. let both = (is other).0 within in contains-others_of name ready other both.0 both.1)
-    (λ other within here. (is other).1 (others_of-contains name ready other within)) found
-
-pub greatest_of_ready_others : (db : List Record) (names ready part : List (List ℕ)) (name : List ℕ) → IsPartWith (IsReady db) names ready
-    → IsGreatestPart db (others_of name ready) part → IsGreatestPart db (others_of name names) part
-greatest_of_ready_others db names ready part name is found = greatest_elsewhere db (others_of name names) (others_of name ready) part
-    (λ other within. let both = others_of-contains name ready other within in
-    contains-others_of name names other ((is other).0 both.0).0 both.1)
-    (λ other within here. let both = others_of-contains name names other within in
-    contains-others_of name ready other ((is other).1 (both.0, here)) both.1) found
-
 -- all names of a part with a property have it
 pub part_has : (P : List ℕ → Type 0) (names part : List (List ℕ)) → IsPartWith P names part → All P part
 part_has P names part is = All-intro P part (λ name within. ((is name).0 within).1)
@@ -154,119 +123,15 @@ ready_has db names ready is = record {
       (is name).1 (All-contains (Contains names) other name within there, ready_in db other passes name there));
 }
 
--- what is left of ready names is ready
-pub still_ready : (db : List Record) (names part : List (List ℕ)) → All (IsReady db) names → HasWhatPasses db names part → All (IsReady db) part
-still_ready db names part ready has = All-weaker (Contains names) (IsReady db)
-    (λ name there. All-contains (IsReady db) names name ready there) part has.within
-
 -- all names are narrowed to themselves
 pub whole_narrowed : (db : List Record) (names : List (List ℕ)) → IsNarrowed db names names
 whole_narrowed db names = record { has = whole_has db names; no_longer = omega arith }
-
--- a part that passes and has what passes is the greatest
-pub greatest_from : (db : List Record) (names part : List (List ℕ)) → HasWhatPasses db names part → All (IsReady db) part
-    → All (IsSupplied db part) part → IsGreatestPart db names part
-greatest_from db names part has ready supplied = record {
-  within = has.within;
-  passes = group_from db part ready supplied;
-  greatest = has.greatest;
-}
-
--- the greatest part is found where what is supplied is left, then what is ready, and then what is supplied
-pub greatest_by_steps : (db : List Record) (names supplied ready part : List (List ℕ)) → IsSuppliedPart db names supplied
-    → IsPartWith (IsReady db) supplied ready → IsSuppliedPart db ready part → IsGreatestPart db names part
-greatest_by_steps db names supplied ready part first is last = greatest_from db names part
-    (has_through db names supplied part first.has (has_through db supplied ready part (ready_has db supplied ready is) last.has))
-    (still_ready db ready part (part_has (IsReady db) supplied ready is) last.has) last.supplied
 
 -- a name that isn't supplied in a group is in no part of it that passes
 pub unsupplied_in : (db : List Record) (group other : List (List ℕ)) (name : List ℕ) → ¬ IsSupplied db group name
     → All (Contains group) other → GroupPasses db other → ¬ Contains other name
 unsupplied_in db group other name lacks within passes there = lacks (supplied_from db group name (MemberPasses-more db other group
     (λ n inside. All-contains (Contains group) other n within inside) name (GroupPasses-each db other passes name there)))
-
--- a part without a name that isn't supplied still has what passes
-pub has_without : (db : List Record) (names front back : List (List ℕ)) (name : List ℕ) → HasWhatPasses db names (front ++ name ∷ back)
-    → ¬ IsSupplied db (front ++ name ∷ back) name → HasWhatPasses db names (front ++ back)
-has_without db names front back name has lacks = record {
-  within = All-intro (Contains names) (front ++ back) (λ n there. All-contains (Contains names) (front ++ name ∷ back) n has.within (more n there));
-  greatest = λ other within passes. All-intro (Contains (front ++ back)) other (λ n there.
-      fewer n (All-contains (Contains (front ++ name ∷ back)) other n (has.greatest other within passes) there)
-      (λ same. unsupplied_in db (front ++ name ∷ back) other name lacks (has.greatest other within passes) passes
-      (subst (Contains other) (sym same) there)));
-}
-  where
-    more : (n : List ℕ) → Contains (front ++ back) n → Contains (front ++ name ∷ back) n
-    more n there = elim (Contains-append_cases front back n there) [
-      | inl here ↦ Contains-append_left front (name ∷ back) n here
-      | inr here ↦ Contains-append_right front (name ∷ back) n (Contains-rest name back n here)
-    ]
-
-    fewer : (n : List ℕ) → Contains (front ++ name ∷ back) n → name ≢ n → Contains (front ++ back) n
-    fewer n there differs = elim (Contains-append_cases front (name ∷ back) n there) [
-      | inl here ↦ Contains-append_left front back n here
-      | inr here ↦ elim (Contains-cons name back n here)
-          [ inl same ↦ absurd (differs same) | inr later ↦ Contains-append_right front back n later ]
-    ]
-
--- a list is what stands before a place, the element there, and what stands behind it
-pub parted : (names : List (List ℕ)) (place : ℕ) → place < length names
-    → names ≡ take place names ++ get_or names place [] ∷ drop (place + 1) names
-parted names place within = sym (take-append-drop place names)
-    ∙ ap (λ rest. take place names ++ rest) (drop_more names place [] within)
-
--- a list without the element at a place has one less
-pub length_without_at : (names : List (List ℕ)) (place : ℕ) → place < length names
-    → length (take place names ++ drop (place + 1) names) + 1 ≡ length names
-length_without_at names place within =
-    let parts : length (take place names ++ drop (place + 1) names) ≡ length (take place names) + length (drop (place + 1) names)
-    = length-append (take place names) (drop (place + 1) names) in
-    let front : length (take place names) ≡ place = length-take-le place names (omega arith) in
-    let back : length (drop (place + 1) names) ≡ length names - (place + 1) = length-drop (place + 1) names in
-    omega arith
-
--- so has a part without the name at a place, where that isn't supplied
-pub has_without_at : (db : List Record) (names part : List (List ℕ)) (place : ℕ) → place < length part
-    → ((d : List ℕ) → ¬ IsSupplied db part (get_or part place d)) → HasWhatPasses db names part
-    → HasWhatPasses db names (take place part ++ drop (place + 1) part)
-has_without_at db names part place within lacks has =
-    let name : List ℕ = get_or part place [] in
-    let whole : part ≡ take place part ++ name ∷ drop (place + 1) part = parted part place within in
-    let Lacks : List (List ℕ) → Type 0 = λ group. ¬ IsSupplied db group name in
-    has_without db names (take place part) (drop (place + 1) part) name (subst (HasWhatPasses db names) whole has)
-    (subst Lacks whole (lacks []))
-
--- where the name at a place isn't supplied, what is read there isn't
-pub lacks_at : (db : List Record) (part : List (List ℕ)) (place : ℕ) (name : List ℕ) → place < length part → name ≡ get_or part place name
-    → ¬ IsSupplied db part name → (d : List ℕ) → ¬ IsSupplied db part (get_or part place d)
-lacks_at db part place name within is lacks d there = lacks (subst (IsSupplied db part) (get_or_default part place d name within ∙ sym is) there)
-
--- a part narrowed further by a name that isn't supplied
-pub narrowed_without_at : (db : List Record) (names part : List (List ℕ)) (place : ℕ) → place < length part
-    → ((d : List ℕ) → ¬ IsSupplied db part (get_or part place d)) → IsNarrowed db names part
-    → IsNarrowed db names (take place part ++ drop (place + 1) part)
-narrowed_without_at db names part place within lacks narrowed = record {
-  has = has_without_at db names part place within lacks narrowed.has;
-  no_longer = let long = length_without_at part place within in let longer = narrowed.no_longer in omega arith;
-}
-
--- what two walks leave of a part without a name that isn't supplied has what passes, and is shorter than the part
-pub walked_on : (db : List Record) (names part fewer up down : List (List ℕ)) (place : ℕ) → HasWhatPasses db names part
-    → place < length part → ((d : List ℕ) → ¬ IsSupplied db part (get_or part place d))
-    → fewer ≡ take place part ++ drop (place + 1) part → IsNarrowed db fewer up → IsNarrowed db up down
-    → HasWhatPasses db names down × (length down < length part)
-walked_on db names part fewer up down place has within lacks is first second =
-    let left : HasWhatPasses db names fewer = subst (HasWhatPasses db names) (sym is) (has_without_at db names part place within lacks has) in
-    let shorter : length fewer + 1 ≡ length part = ap (λ (ns : List (List ℕ)). length ns + 1) is ∙ length_without_at part place within in (
-      has_through db names up down (has_through db names fewer up left first.has) second.has,
-      (let one = first.no_longer in let two = second.no_longer in omega arith),
-    )
-
--- what holds of all names of a part holds of those but for one
-pub all_without_at : (P : List ℕ → Type 0) (part : List (List ℕ)) (place : ℕ) → All P part
-    → All P (take place part ++ drop (place + 1) part)
-all_without_at P part place all = All-append P (take place part) (drop (place + 1) part)
-    (All-take P place part all) (All-drop P (place + 1) part all)
 
 -- what holds of the names before a place and the one there holds of those before the next
 pub up_to_next : (P : List (List ℕ) → Type 0) (names : List (List ℕ)) (place : ℕ) (name : List ℕ) → place < length names
@@ -285,10 +150,3 @@ empty_test {X} xs len is = (
   λ passes. nil_from_length xs (sym is ∙ eqb-true len 0 passes),
   λ empty. eq-eqb len 0 (is ∙ ap (λ (ys : List X). length ys) empty),
 )
-
--- of the others of a name nothing passes where their greatest part is empty, and only there
-pub no_part : (db : List Record) (names part : List (List ℕ)) (name : List ℕ) → IsGreatestPart db (others_of name names) part
-    → part ≡ [] → HasNoPartWithout db names name
-no_part db names part name found empty other is = empty_from_none other (λ n there. Contains-nil n
-    (let P : List (List ℕ) → Type 0 = λ group. Contains group n in
-    subst P empty (All-contains (Contains part) other n (found.greatest other is.within is.passes) there)))

@@ -1,5 +1,5 @@
 -- The parts of a group, name by name (Policy 7.2 and 7.3).
-use Rattle.std.specs.Prelude.{◌≡◌, ℕ, ◌≤◌, List, [], ◌∷◌, ◌++◌, ◌↔◌, length}
+use Rattle.std.specs.Prelude.{◌≡◌, ℕ, ◌+◌, ◌≤◌, List, [], ◌∷◌, ◌++◌, ◌↔◌, length}
 use Rattle.std.specs.List.{All, Contains}
 use Rattle.rules.specs.Configure.{AreConfigurable, ArePreDependsInstalled, AreUnbroken, GroupPasses, IsGreatestPart, members_of, others_of}
 use Rattle.rules.specs.Database.{Record, ForMembers, IsPresent, installed_of, pkg_of}
@@ -27,6 +27,10 @@ IsSupplied db part name = AreSupplied db part (name ∷ [])
 abbrev pub IsPartWith : (List ℕ → Type 0) → List (List ℕ) → List (List ℕ) → Type 0
 IsPartWith P names part = (name : List ℕ) → Contains part name ↔ (Contains names name × P name)
 
+-- each name of the one list is in the other, and the other way round
+abbrev pub HaveSameNames : List (List ℕ) → List (List ℕ) → Type 0
+HaveSameNames names others = (name : List ℕ) → Contains names name ↔ Contains others name
+
 -- the part has names of the group alone, and each name of every part of the group that passes
 pub record HasWhatPasses (db : List Record) (names part : List (List ℕ)) : Type 0 where
   pub within : All (Contains names) part
@@ -41,6 +45,28 @@ pub record IsNarrowed (db : List Record) (names part : List (List ℕ)) : Type 0
 pub record IsSuppliedPart (db : List Record) (names part : List (List ℕ)) : Type 0 where
   pub has : HasWhatPasses db names part
   pub supplied : All (IsSupplied db part) part
+
+-- a walk over the names has left the part and dropped so many: where it dropped none, each of the names that is left is supplied
+pub record IsWalked (db : List Record) (names before left : List (List ℕ)) (count : ℕ) : Type 0 where
+  pub narrowed : IsNarrowed db before left
+  pub shorter : length left + count ≤ length before
+  pub settled : count ≡ 0 → All (λ name. Contains left name → IsSupplied db left name) names
+
+-- what is left has what passes, and is shorter by as many as the count of those that went has grown
+pub record IsDroppedTo (db : List Record) (before left : List (List ℕ)) (old new : ℕ) : Type 0 where
+  pub narrowed : IsNarrowed db before left
+  pub shorter : length left + new ≤ length before + old
+
+-- the name was looked at: it was dropped and counted, or all is as it was and it is supplied, if it is left
+pub record IsLookedAt (db : List Record) (name : List ℕ) (before left : List (List ℕ)) (old new : ℕ) : Type 0 where
+  pub dropped : IsDroppedTo db before left old new
+  pub grown : old ≤ new
+  pub settled : new ≡ old → (left ≡ before) × (Contains left name → IsSupplied db left name)
+
+-- no part of the names that passes is without this one
+abbrev pub NothingWithout : List Record → List (List ℕ) → List ℕ → Type 0
+NothingWithout db names name =
+    (part : List (List ℕ)) → All (Contains names) part → GroupPasses db part → ¬ Contains part name → part ≡ []
 
 -- the greatest part that passes of the group's names but for this one is empty
 abbrev pub HasNoPartWithout : List Record → List (List ℕ) → List ℕ → Type 0

@@ -6,9 +6,9 @@ ghost use Rattle.rules.specs.Configure.{AreConfigurable, HasConfigurable, AreDep
 ghost use Rattle.rules.specs.Database.{ForMembers, ForOthers, HasRecord, IsInstalled, installed_of, pkg_of};
 ghost use Rattle.rules.specs.Package.{Matches, MatchesSome, MeetsClause};
 ghost use Rattle.rules.specs.Sound.{MeetsClauses};
-ghost use Rattle.rules.specs.Step.{is_among};
 ghost use Rattle.plancheck_group.specs.Part.{AreSupplied, DoesNotBreak};
 
+use crate::part::{Among, is_among};
 use plancheck_end::{are_met, breaks_other, is_met, is_same};
 use relation::{Atom, Clause, Pkg};
 use rules::Name;
@@ -41,13 +41,6 @@ pub fn are_configurable(db: &Records<'_, '_>, names: &[Name]) -> bool
     names
         .iter()
         .all(|name| has_configurable(db, name.as_bytes()))
-}
-
-// Whether the record is of one of the names.
-fn is_among(names: &[Name], found: &StateRecord<'_, '_>) -> bool
-    ensures { result ≡ is_among names.now found.now }
-{
-    names.iter().any(|name| found.name() == name.as_bytes())
 }
 
 // Whether the names contain the record's.
@@ -153,63 +146,63 @@ pub fn are_unbroken(db: &Records<'_, '_>, names: &[Name]) -> bool
 }
 
 // Whether the record is present, of one of the names, and matches the atom.
-fn matches_among(names: &[Name], found: &StateRecord<'_, '_>, atom: &Atom<'_>) -> bool
+fn matches_among(part: &Among<'_, '_>, found: &StateRecord<'_, '_>, atom: &Atom<'_>) -> bool
     ensures { IsTrue result
-        ↔ ((is_present_among names.now found.now ≡ true) × Matches (pkg_of found.now) atom.now) }
+        ↔ ((is_present_among part.now found.now ≡ true) × Matches (pkg_of found.now) atom.now) }
 {
     match found.present_pkg() {
-        Some(there) => is_among(names, found) && atom.matched_by(there),
+        Some(there) => part.has_record(found) && atom.matched_by(there),
         None => false,
     }
 }
 
-fn some_holder_matches(mut found: Holders<'_, '_, '_>, names: &[Name], atom: &Atom<'_>) -> bool
-    ensures { IsTrue result ↔ Any (λ found. (is_present_among names.now found ≡ true)
+fn some_holder_matches(mut found: Holders<'_, '_, '_>, part: &Among<'_, '_>, atom: &Atom<'_>) -> bool
+    ensures { IsTrue result ↔ Any (λ found. (is_present_among part.now found ≡ true)
         × Matches (pkg_of found) atom.now) found.entry }
 {
-    found.any(|found| matches_among(names, found, atom))
+    found.any(|found| matches_among(part, found, atom))
 }
 
-fn is_atom_met_among(db: &Records<'_, '_>, names: &[Name], atom: &Atom<'_>) -> bool
-    ensures { IsTrue result ↔ Any (λ found. (is_present_among names.now found ≡ true)
+fn is_atom_met_among(db: &Records<'_, '_>, part: &Among<'_, '_>, atom: &Atom<'_>) -> bool
+    ensures { IsTrue result ↔ Any (λ found. (is_present_among part.now found ≡ true)
         × Matches (pkg_of found) atom.now) db.now }
 {
-    some_holder_matches(db.holders(atom.name()), names, atom)
+    some_holder_matches(db.holders(atom.name()), part, atom)
 }
 
-fn some_atom_is_met_among(db: &Records<'_, '_>, names: &[Name], atoms: &[Atom<'_>]) -> bool
-    ensures { IsTrue result ↔ Any (λ atom. Any (λ found. (is_present_among names.now found ≡ true)
+fn some_atom_is_met_among(db: &Records<'_, '_>, part: &Among<'_, '_>, atoms: &[Atom<'_>]) -> bool
+    ensures { IsTrue result ↔ Any (λ atom. Any (λ found. (is_present_among part.now found ≡ true)
         × Matches (pkg_of found) atom) db.now) atoms.now }
 {
-    atoms.iter().any(|atom| is_atom_met_among(db, names, atom))
+    atoms.iter().any(|atom| is_atom_met_among(db, part, atom))
 }
 
 // Whether a member matches the clause.
-fn some_matches_among(db: &Records<'_, '_>, names: &[Name], clause: &Clause<'_>) -> bool
-    ensures { IsTrue result ↔ Any (λ found. (is_present_among names.now found ≡ true)
+fn some_matches_among(db: &Records<'_, '_>, part: &Among<'_, '_>, clause: &Clause<'_>) -> bool
+    ensures { IsTrue result ↔ Any (λ found. (is_present_among part.now found ≡ true)
         × MatchesSome (pkg_of found) clause.now) db.now }
 {
-    some_atom_is_met_among(db, names, clause.as_slice())
+    some_atom_is_met_among(db, part, clause.as_slice())
 }
 
 // Whether an installed package or a member matches the clause.
-fn is_met_with(db: &Records<'_, '_>, names: &[Name], clause: &Clause<'_>) -> bool
-    ensures { IsTrue result ↔ MeetsClause (installed_of db.now ++ members_of names.now db.now) clause.now }
+fn is_met_with(db: &Records<'_, '_>, part: &Among<'_, '_>, clause: &Clause<'_>) -> bool
+    ensures { IsTrue result ↔ MeetsClause (installed_of db.now ++ members_of part.now db.now) clause.now }
 {
-    is_met(db, clause) || some_matches_among(db, names, clause)
+    is_met(db, clause) || some_matches_among(db, part, clause)
 }
 
 #[tactic(auto, unfolding(rules::specs::Sound::MeetsClauses))]
-fn are_met_with(db: &Records<'_, '_>, names: &[Name], clauses: &[Clause<'_>]) -> bool
-    ensures { IsTrue result ↔ MeetsClauses (installed_of db.now ++ members_of names.now db.now) clauses.now }
+fn are_met_with(db: &Records<'_, '_>, part: &Among<'_, '_>, clauses: &[Clause<'_>]) -> bool
+    ensures { IsTrue result ↔ MeetsClauses (installed_of db.now ++ members_of part.now db.now) clauses.now }
 {
-    clauses.iter().all(|clause| is_met_with(db, names, clause))
+    clauses.iter().all(|clause| is_met_with(db, part, clause))
 }
 
 // Whether the record is of another name, or its Depends are met by installed packages and the part's.
 fn is_other_or_supplied(
     db: &Records<'_, '_>,
-    part: &[Name],
+    part: &Among<'_, '_>,
     name: &[u8],
     member: &StateRecord<'_, '_>,
 ) -> bool
@@ -221,7 +214,7 @@ fn is_other_or_supplied(
 
 fn are_others_or_supplied(
     db: &Records<'_, '_>,
-    part: &[Name],
+    part: &Among<'_, '_>,
     mut members: Holders<'_, '_, '_>,
     name: &[u8],
 ) -> bool
@@ -231,15 +224,16 @@ fn are_others_or_supplied(
     members.all(|member| is_other_or_supplied(db, part, name, member))
 }
 
-// Whether the Depends of the name's package are met by installed packages and the part's.
-fn is_supplied(db: &Records<'_, '_>, part: &[Name], name: &[u8]) -> bool
+/// Whether the Depends of the name's package are met by installed packages and the part's. For each atom linear in the
+/// records that have or provide its name.
+pub fn is_supplied(db: &Records<'_, '_>, part: &Among<'_, '_>, name: &[u8]) -> bool
     ensures { IsTrue result ↔ All (λ member. member.name ≡ name.now
         → MeetsClauses (installed_of db.now ++ members_of part.now db.now) member.relations.depends) db.now }
 {
     are_others_or_supplied(db, part, db.holders(name), name)
 }
 
-fn are_each_supplied(db: &Records<'_, '_>, part: &[Name], names: &[Name]) -> bool
+fn are_each_supplied(db: &Records<'_, '_>, part: &Among<'_, '_>, names: &[Name]) -> bool
     ensures { IsTrue result ↔ All (λ name. All (λ member. member.name ≡ name
         → MeetsClauses (installed_of db.now ++ members_of part.now db.now) member.relations.depends) db.now) names.now }
 {
@@ -248,9 +242,8 @@ fn are_each_supplied(db: &Records<'_, '_>, part: &[Name], names: &[Name]) -> boo
         .all(|name| is_supplied(db, part, name.as_bytes()))
 }
 
-/// Whether each Depends clause of the packages of these names is met by installed packages and those of the
-/// part. For each atom linear in the records that have or provide its name, for each in the part.
-pub fn are_supplied(db: &Records<'_, '_>, part: &[Name], names: &[Name]) -> bool
+// Whether each Depends clause of the packages of these names is met by installed packages and those of the part.
+fn are_supplied(db: &Records<'_, '_>, part: &Among<'_, '_>, names: &[Name]) -> bool
     ensures { IsTrue result ↔ AreSupplied db.now part.now names.now }
 {
     are_each_supplied(db, part, names)
@@ -262,5 +255,5 @@ pub fn are_supplied(db: &Records<'_, '_>, part: &[Name], names: &[Name]) -> bool
 pub fn are_depends_installed(db: &Records<'_, '_>, names: &[Name]) -> bool
     ensures { IsTrue result ↔ AreDependsInstalled db.now names.now }
 {
-    are_supplied(db, names, names)
+    are_supplied(db, &Among::listed(names), names)
 }

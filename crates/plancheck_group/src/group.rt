@@ -1,33 +1,22 @@
 // The greatest part of a group that could be configured by itself, and whether a proper part could (Policy 7.2
 // and 7.3).
 
-ghost use Rattle.std.specs.Prelude.{◌≡◌, ◌↔◌, IfOk, IsTrue};
-ghost use Rattle.std.specs.List.{All};
-ghost use Rattle.rules.specs.Configure.{IsGreatestPart, IsIndivisible, others_of};
-ghost use Rattle.plancheck_group.specs.Part.{HasNoPartWithout, IsPartWith, IsReady, IsSuppliedPart};
+ghost use Rattle.std.specs.Prelude.{◌≡◌, ◌≢◌, ◌↔◌, true, IfOk, IsTrue, OnOk};
+ghost use Rattle.std.specs.List.{All, Any, Contains};
+ghost use Rattle.rules.specs.Configure.{IsGreatestPart, IsIndivisible};
+ghost use Rattle.plancheck_group.specs.Part.{HasNoPartWithout, IsNarrowed, IsPartWith, IsReady, NothingWithout};
 
-use crate::part::{copies_of, drop_downward, drop_upward, first_unsupplied, others_of, ready_of};
+use crate::lacking::{drop_after, keep_supplied};
+use crate::needs::Needs;
+use crate::part::Part;
+use crate::ready::{keep_ready, names_left, ready_of};
 use rules::{Name, indivisible_by_others};
 use status::Records;
 use std::alloc::{AllocError, Global};
 
-// Drops the names whose Depends the others don't meet: what such a name lacks is lacking in every part of the group, so no part
-// that passes has it. The walks go up and down, since a name is often dropped for one that stands behind it.
-fn keep_supplied(db: &Records<'_, '_>, part: &mut Vec<Name>)
-    ensures { IsSuppliedPart db.now part.old.items part.new.items }
-{
-    drop_downward(db, part);
-    while let Some(place) = first_unsupplied(db, part.as_slice()) {
-        part.remove(place);
-        drop_upward(db, part, place);
-        drop_downward(db, part);
-    }
-}
-
 /// The names of the greatest part of the group that passes the tests of a configuring together, but for the one of its
-/// parts: it has each name of every part that does. Names are tested in walks over them, down and up, of which each but the
-/// last two drops one or more; a test costs what `are_supplied` says, and for what is left then what `ready_of` says. Memory
-/// alone can fail.
+/// parts: it has each name of every part that does. A name's Depends are tested once, and again when a name that it needs has
+/// gone; for what is left then the other tests cost what `keep_ready` says. Memory alone can fail.
 pub fn greatest_part(
     alloc: Global,
     db: &Records<'_, '_>,
@@ -35,29 +24,152 @@ pub fn greatest_part(
 ) -> Result<Vec<Name>, AllocError>
     ensures { IfOk result (λ part. IsGreatestPart db.now names.now part.items) }
 {
-    let mut supplied = copies_of(alloc, names)?;
-    keep_supplied(db, &mut supplied);
-    let mut part = ready_of(alloc, db, supplied.as_slice())?;
-    keep_supplied(db, &mut part);
-    Ok(part)
+    let needs = Needs::read(alloc, db, names)?;
+    let mut part = Part::of(alloc, names)?;
+    keep_supplied(alloc, db, names, &needs, &mut part)?;
+    keep_ready(db, names, &mut part);
+    keep_supplied(alloc, db, names, &needs, &mut part)?;
+    let left = names_left(alloc, names, &part)?;
+    Ok(left)
 }
 
-// The names of the greatest part that passes of these names but for one.
-fn part_without(
+// The ready names but for this one.
+fn others<'n>(alloc: Global, ready: &'n [Name], name: &[u8]) -> Result<Part<'n>, AllocError>
+    ensures { IfOk result (λ others. IsPartWith (λ other. other ≢ name.now) ready.now others) }
+{
+    let mut others = Part::of(alloc, ready)?;
+    others.leave_out(name);
+    Ok(others)
+}
+
+// Drops what is lacking since the name went, up to one of the lost ones. Answers whether one of them is gone.
+fn drop_without<'n>(
     alloc: Global,
     db: &Records<'_, '_>,
-    ready: &[Name],
-    name: &Name,
-) -> Result<Vec<Name>, AllocError>
-    requires { All (IsReady db.now) ready.now }
-    ensures { IfOk result (λ part. IsGreatestPart db.now (others_of name.now ready.now) part.items) }
+    needs: &Needs<'n>,
+    lost: &Part<'_>,
+    part: &mut Part<'n>,
+    name: &'n [u8],
+) -> Result<bool, AllocError>
+    ensures narrowed { OnOk result (IsNarrowed db.now part.old part.new) }
+    ensures lost { IfOk result (λ hit. hit ≡ true → Any (λ name. ¬ Contains part.new name) lost.now) }
 {
-    let mut part = others_of(alloc, ready, name)?;
-    keep_supplied(db, &mut part);
-    Ok(part)
+    let mut gone = Vec::new(alloc);
+    gone.push(name)?;
+    let hit = drop_after(alloc, db, needs, lost, part, gone)?;
+    Ok(hit)
 }
 
-// Whether for each of these names the greatest part of the others that passes is empty.
+// Whether nothing passes of the ready names without this one, where nothing does without one of the lost ones.
+fn is_lost_without<'n>(
+    alloc: Global,
+    db: &Records<'_, '_>,
+    ready: &'n [Name],
+    needs: &Needs<'n>,
+    lost: &Part<'_>,
+    name: &'n [u8],
+) -> Result<bool, AllocError>
+    requires ready { All (IsReady db.now) ready.now }
+    requires lost { All (NothingWithout db.now ready.now) lost.now }
+    ensures { IfOk result (λ answer. IsTrue answer ↔ NothingWithout db.now ready.now name.now) }
+{
+    let mut part = others(alloc, ready, name)?;
+    let hit = drop_without(alloc, db, needs, lost, &mut part, name)?;
+    if hit {
+        return Ok(true);
+    }
+    keep_supplied(alloc, db, ready, needs, &mut part)?;
+    Ok(part.is_empty())
+}
+
+// Adds the name to the lost ones, if nothing passes without it. Answers whether.
+fn lose_one<'n>(
+    alloc: Global,
+    db: &Records<'_, '_>,
+    ready: &'n [Name],
+    needs: &Needs<'n>,
+    lost: &mut Part<'n>,
+    name: &'n [u8],
+) -> Result<bool, AllocError>
+    requires ready { All (IsReady db.now) ready.now }
+    requires lost { All (NothingWithout db.now ready.now) lost.old }
+    ensures { OnOk result (All (NothingWithout db.now ready.now) lost.new) }
+{
+    let known = is_lost_without(alloc, db, ready, needs, lost, name)?;
+    if !known {
+        return Ok(false);
+    }
+    lost.insert(name)?;
+    Ok(true)
+}
+
+// Adds the names to the lost ones, one after another, up to the first that isn't lost.
+fn lose<'n>(
+    alloc: Global,
+    db: &Records<'_, '_>,
+    ready: &'n [Name],
+    needs: &Needs<'n>,
+    turn: &[&'n [u8]],
+    lost: &mut Part<'n>,
+) -> Result<(), AllocError>
+    requires ready { All (IsReady db.now) ready.now }
+    requires lost { All (NothingWithout db.now ready.now) lost.old }
+    ensures { OnOk result (All (NothingWithout db.now ready.now) lost.new) }
+{
+    for name in turn {
+        let known = lose_one(alloc, db, ready, needs, lost, *name)?;
+        if !known {
+            return Ok(());
+        }
+    }
+    Ok(())
+}
+
+// The same of a name that may be one of the lost ones.
+fn is_lost_name<'n>(
+    alloc: Global,
+    db: &Records<'_, '_>,
+    ready: &'n [Name],
+    needs: &Needs<'n>,
+    lost: &Part<'_>,
+    name: &'n Name,
+) -> Result<bool, AllocError>
+    requires ready { All (IsReady db.now) ready.now }
+    requires lost { All (NothingWithout db.now ready.now) lost.now }
+    ensures { IfOk result (λ answer. IsTrue answer ↔ NothingWithout db.now ready.now name.now) }
+{
+    let text = name.as_bytes();
+    if lost.has(text) {
+        return Ok(true);
+    }
+    let answer = is_lost_without(alloc, db, ready, needs, lost, text)?;
+    Ok(answer)
+}
+
+// Whether nothing passes of the ready names without any one of these.
+fn are_lost<'n>(
+    alloc: Global,
+    db: &Records<'_, '_>,
+    names: &'n [Name],
+    ready: &'n [Name],
+    needs: &Needs<'n>,
+    lost: &Part<'_>,
+) -> Result<bool, AllocError>
+    requires ready { All (IsReady db.now) ready.now }
+    requires lost { All (NothingWithout db.now ready.now) lost.now }
+    ensures { IfOk result (λ answer. IsTrue answer ↔ All (NothingWithout db.now ready.now) names.now) }
+{
+    for name in names {
+        let known = is_lost_name(alloc, db, ready, needs, lost, name)?;
+        if !known {
+            return Ok(false);
+        }
+    }
+    Ok(true)
+}
+
+// Whether for each of these names the greatest part of the others that passes is empty. The names are left out in the order in
+// which one asks for the next, so that the one before it is soon dropped.
 fn has_no_part(
     alloc: Global,
     db: &Records<'_, '_>,
@@ -67,17 +179,18 @@ fn has_no_part(
     requires { IsPartWith (IsReady db.now) names.now ready.now }
     ensures { IfOk result (λ answer. IsTrue answer ↔ All (HasNoPartWithout db.now names.now) names.now) }
 {
-    for name in names {
-        let part = part_without(alloc, db, ready, name)?;
-        if !part.is_empty() {
-            return Ok(false);
-        }
-    }
-    Ok(true)
+    let needs = Needs::read(alloc, db, ready)?;
+    let turn = needs.in_turn(alloc)?;
+    let mut lost = Part::new(alloc);
+    lose(alloc, db, ready, &needs, turn.as_slice(), &mut lost)?;
+    let answer = are_lost(alloc, db, names, ready, &needs, &lost)?;
+    Ok(answer)
 }
 
-/// Whether no proper part of the group could be configured by itself. A group of one name needs no test; of another the
-/// greatest part of the others is looked for once for each name. Memory alone can fail.
+/// Whether no proper part of the group could be configured by itself. A group of one name needs no test; in another each name
+/// is left out in turn, and what is lacking then is dropped, until a name is gone without which nothing passes. So a group
+/// whose names need each other is linear in what they ask for, and no group costs more than that for each name. Memory alone
+/// can fail.
 pub fn is_indivisible(
     alloc: Global,
     db: &Records<'_, '_>,

@@ -6,7 +6,10 @@
 
 mod configure;
 mod group;
+mod lacking;
+mod needs;
 mod part;
+mod ready;
 
 pub use configure::{
     are_configurable, are_depends_installed, are_pre_depends_installed, are_unbroken,

@@ -1,114 +1,135 @@
-// The names of a group that pass alone, or beside the other members (Policy 7.2 and 7.3).
+// The names of a group that are left, with a table of them, and names as a package is looked for among them.
 
-ghost use Rattle.std.specs.Prelude.{◌≡◌, ◌≢◌, ◌↔◌, ◌∷◌, [], ℕ, ◌<◌, List, get_or, length, IfOk, IsTrue, MatchOption};
-ghost use Rattle.std.specs.List.{All};
-ghost use Rattle.plancheck_group.specs.Part.{IsNarrowed, IsPartWith, IsReady, IsSupplied};
+ghost use Rattle.std.specs.Prelude.{◌≡◌, ◌≢◌, ◌↔◌, ◌<◌, ◌≤◌, [], length, IfOk, IsTrue, OnOk};
+ghost use Rattle.std.specs.List.{Contains};
+ghost use Rattle.index.specs.Names.{with_name};
+ghost use Rattle.rules.specs.Step.{is_among};
+ghost use Rattle.plancheck_group.specs.Part.{HaveSameNames, IsPartWith};
 
-use crate::configure::{are_configurable, are_pre_depends_installed, are_supplied, are_unbroken};
-use plancheck_end::is_same;
+use indexmap::IndexSet;
 use rules::Name;
-use status::Records;
+use status::StateRecord;
 use std::alloc::{AllocError, Global};
-use std::slice::from_ref;
+use std::marker::Model;
 
-// Whether the name passes the tests that ask nothing of other names.
-#[tactic(auto, unfolding(crate::specs::Part::IsReady))]
-fn is_ready(db: &Records<'_, '_>, name: &Name) -> bool
-    ensures { IsTrue result ↔ IsReady db.now name.now }
-{
-    let alone = from_ref(name);
-    are_configurable(db, alone) && are_pre_depends_installed(db, alone) && are_unbroken(db, alone)
+/// Names of a group, each once.
+#[derive(Drop)]
+pub struct Part<'n> {
+    names: IndexSet<&'n [u8]>,
 }
 
-/// The names that pass the tests which ask nothing of other names. For each name linear in the records. Memory
-/// alone can fail.
-pub fn ready_of(
-    alloc: Global,
-    db: &Records<'_, '_>,
-    names: &[Name],
-) -> Result<Vec<Name>, AllocError>
-    ensures { IfOk result (λ ready. IsPartWith (IsReady db.now) names.now ready.items) }
-{
-    let mut ready = Vec::new(alloc);
-    for name in names {
-        if is_ready(db, name) {
-            ready.push(name.try_copy(alloc)?)?;
+impl<'n> Model for Part<'n> {
+    ghost use Rattle.std.specs.Prelude.{List, ℕ, map};
+
+    ghost Value = { List (List ℕ) };
+
+    ghost view = { λ part. map (λ name. name.now) part.names.keys };
+}
+
+impl<'n> Part<'n> {
+    /// No names.
+    pub fn new(alloc: Global) -> Part<'n>
+        ensures { result ≡ [] }
+    {
+        Part {
+            names: IndexSet::new(alloc),
         }
     }
-    Ok(ready)
-}
 
-/// The names, copied. Memory alone can fail.
-pub fn copies_of(alloc: Global, names: &[Name]) -> Result<Vec<Name>, AllocError>
-    ensures { IfOk result (λ copies. copies.items ≡ names.now) }
-{
-    let mut copies = Vec::new(alloc);
-    for name in names {
-        copies.push(name.try_copy(alloc)?)?;
+    /// Adds the name, unless it is there. Memory alone can fail.
+    pub fn insert(&mut self, name: &'n [u8]) -> Result<(), AllocError>
+        ensures { OnOk result (self.new ≡ with_name self.old name.now) }
+    {
+        self.names.insert(name)?;
+        Ok(())
     }
-    Ok(copies)
+
+    /// These names. Memory alone can fail. Linear in them.
+    pub fn of(alloc: Global, names: &'n [Name]) -> Result<Part<'n>, AllocError>
+        ensures { IfOk result (λ part. HaveSameNames part names.now) }
+    {
+        let mut part = Part::new(alloc);
+        for name in names {
+            part.insert(name.as_bytes())?;
+        }
+        Ok(part)
+    }
+
+    /// Whether the name is one of them. Linear in the name alone.
+    pub fn has(&self, name: &[u8]) -> bool
+        ensures { IsTrue result ↔ Contains self.now name.now }
+    {
+        self.names.contains(name)
+    }
+
+    /// Leaves the name out. Linear in the name alone.
+    pub fn leave_out(&mut self, name: &[u8])
+        ensures without { IsPartWith (λ other. other ≢ name.now) self.old self.new }
+        ensures fewer { Contains self.old name.now → length self.new < length self.old }
+        ensures no_more { length self.new ≤ length self.old }
+    {
+        let _was_there = self.names.swap_remove(name);
+    }
+
+    /// Whether there are none.
+    pub fn is_empty(&self) -> bool
+        ensures { IsTrue result ↔ (self.now ≡ []) }
+    {
+        self.names.is_empty()
+    }
 }
 
-/// The names but for this one. Linear in them. Memory alone can fail.
-pub fn others_of(alloc: Global, names: &[Name], name: &Name) -> Result<Vec<Name>, AllocError>
-    ensures { IfOk result (λ others. IsPartWith (λ other. other ≢ name.now) names.now others.items) }
+/// Whether the record is of one of the names.
+pub fn is_among(names: &[Name], found: &StateRecord<'_, '_>) -> bool
+    ensures { result ≡ is_among names.now found.now }
 {
-    let mut others = Vec::new(alloc);
-    for other in names {
-        if !is_same(other.as_bytes(), name.as_bytes()) {
-            others.push(other.try_copy(alloc)?)?;
+    names.iter().any(|name| found.name() == name.as_bytes())
+}
+
+/// Names among which a package is looked for: a list as it is given, or what is left of a group.
+#[derive(Drop)]
+pub struct Among<'g, 'n> {
+    listed: &'g [Name],
+    left: Option<&'g Part<'n>>,
+}
+
+impl<'g, 'n> Model for Among<'g, 'n> {
+    ghost use Rattle.std.specs.Prelude.{List, ℕ};
+    ghost use Rattle.std.specs.Option.{option_map_or};
+
+    ghost Value = { List (List ℕ) };
+
+    ghost view = { λ among. option_map_or (λ part. part.now) among.left among.listed.now };
+}
+
+impl<'g, 'n> Among<'g, 'n> {
+    /// The names of a list.
+    pub fn listed(names: &'g [Name]) -> Among<'g, 'n>
+        ensures { result ≡ names.now }
+    {
+        Among {
+            listed: names,
+            left: None,
         }
     }
-    Ok(others)
-}
 
-// Whether the Depends of the name's package are met by installed packages and the part.
-fn is_supplied(db: &Records<'_, '_>, part: &[Name], name: &Name) -> bool
-    ensures { IsTrue result ↔ IsSupplied db.now part.now name.now }
-{
-    are_supplied(db, part, from_ref(name))
-}
-
-/// The place of the first name whose package has a Depends clause that neither installed packages nor the
-/// part's meet, if there is one. For each name the cost is that
-/// of `are_supplied`.
-pub fn first_unsupplied(db: &Records<'_, '_>, part: &[Name]) -> Option<usize>
-    ensures { MatchOption result (All (IsSupplied db.now part.now) part.now)
-        (λ place. (place < length part.now)
-        × ((d : List ℕ) → ¬ IsSupplied db.now part.now (get_or part.now place d))) }
-{
-    for (place, name) in part.iter().enumerate() {
-        if !is_supplied(db, part, name) {
-            return Some(place);
+    /// The names that are left.
+    pub fn left(part: &'g Part<'n>) -> Among<'g, 'n>
+        ensures { result ≡ part.now }
+    {
+        Among {
+            listed: &[],
+            left: Some(part),
         }
     }
-    None
-}
 
-/// Drops names whose Depends aren't met in what is left then, in one walk from the last to the first. What passes stays. For
-/// each name the cost is that of `are_supplied`.
-pub fn drop_downward(db: &Records<'_, '_>, part: &mut Vec<Name>)
-    ensures { IsNarrowed db.now part.old.items part.new.items }
-{
-    let mut place = part.len();
-    while place > 0 {
-        place -= 1;
-        if !is_supplied(db, part.as_slice(), &part[place]) {
-            part.remove(place);
-        }
-    }
-}
-
-/// The same in one walk from this place to the last.
-pub fn drop_upward(db: &Records<'_, '_>, part: &mut Vec<Name>, from: usize)
-    ensures { IsNarrowed db.now part.old.items part.new.items }
-{
-    let mut place = from;
-    while place < part.len() {
-        if is_supplied(db, part.as_slice(), &part[place]) {
-            place += 1;
-        } else {
-            part.remove(place);
+    /// Whether the record is of one of the names. Linear in the names of a list; in the name alone among what is left.
+    pub fn has_record(&self, found: &StateRecord<'_, '_>) -> bool
+        ensures { result ≡ is_among self.now found.now }
+    {
+        match self.left {
+            None => is_among(self.listed, found),
+            Some(part) => part.has(found.name()),
         }
     }
 }

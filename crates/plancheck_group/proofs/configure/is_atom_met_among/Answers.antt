@@ -9,7 +9,7 @@ use Rattle.plancheck_group.proofs.configure.is_atom_met_among.Goals as goal
 
 pub returns : goal.returns
 returns c =
-    let P : Record → Type 0 = λ found. (is_present_among c.args.names.now found ≡ true) × Matches (pkg_of found) c.args.atom.now in
+    let P : Record → Type 0 = λ found. (is_present_among c.args.part.now found ≡ true) × Matches (pkg_of found) c.args.atom.now in
     let both = holders-any P c.args.atom.now.name c.args.db.now c.holders.result
     (subst (λ name. AreHolders name c.args.db.now c.holders.result) c.name.ensures c.holders.ensures)
     (λ found has. matching-holds found c.args.atom.now has.1) in (

@@ -11,7 +11,7 @@ pub returns-then-is_met : goal.returns-then-is_met
 unfolding MeetsClause
 returns-then-is_met c = (
   λ met. Any-append_left (λ member. MatchesSome member c.args.clause.now) (installed_of c.args.db.now)
-      (members_of c.args.names.now c.args.db.now) (c.is_met.ensures.0 met),
+      (members_of c.args.part.now c.args.db.now) (c.is_met.ensures.0 met),
   λ _. c.if-is_met.true,
 )
 
@@ -19,13 +19,13 @@ pub returns-else-is_met : goal.returns-else-is_met
 unfolding MeetsClause
 returns-else-is_met c = (
   λ met. Any-append_right (λ member. MatchesSome member c.args.clause.now) (installed_of c.args.db.now)
-      (members_of c.args.names.now c.args.db.now)
-      (Any-map_filter (λ member. MatchesSome member c.args.clause.now) pkg_of (is_present_among c.args.names.now) c.args.db.now
+      (members_of c.args.part.now c.args.db.now)
+      (Any-map_filter (λ member. MatchesSome member c.args.clause.now) pkg_of (is_present_among c.args.part.now) c.args.db.now
       (c.some_matches_among.ensures.0 met)),
   λ whole. elim (Any-append (λ member. MatchesSome member c.args.clause.now) (installed_of c.args.db.now)
-      (members_of c.args.names.now c.args.db.now) whole) [
+      (members_of c.args.part.now c.args.db.now) whole) [
         | inl here ↦ absurd (let e : true ≡ false = sym (c.is_met.ensures.1 here) ∙ c.if-is_met.false in cc)
         | inr there ↦ c.some_matches_among.ensures.1 (Any-filter_map (λ member. MatchesSome member c.args.clause.now) pkg_of
-            (is_present_among c.args.names.now) c.args.db.now there)
+            (is_present_among c.args.part.now) c.args.db.now there)
       ],
 )

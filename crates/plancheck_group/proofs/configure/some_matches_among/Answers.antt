@@ -10,7 +10,7 @@ use Rattle.plancheck_group.proofs.configure.some_matches_among.Goals as goal
 
 pub returns : goal.returns
 returns c =
-    let P : Record → Type 0 = λ found. is_present_among c.args.names.now found ≡ true in
+    let P : Record → Type 0 = λ found. is_present_among c.args.part.now found ≡ true in
     let Decides : List Atom → Type 0 = λ atoms. IsTrue c.some_atom_is_met_among.result
     ↔ Any (λ (found : Record). P found × MatchesSome (pkg_of found) atoms) c.args.db.now in
     let both = some-by-atoms P c.args.db.now c.as_slice.result.now in
