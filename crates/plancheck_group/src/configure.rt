@@ -156,7 +156,11 @@ fn matches_among(part: &Among<'_, '_>, found: &StateRecord<'_, '_>, atom: &Atom<
     }
 }
 
-fn some_holder_matches(mut found: Holders<'_, '_, '_>, part: &Among<'_, '_>, atom: &Atom<'_>) -> bool
+fn some_holder_matches(
+    mut found: Holders<'_, '_, '_>,
+    part: &Among<'_, '_>,
+    atom: &Atom<'_>,
+) -> bool
     ensures { IsTrue result ↔ Any (λ found. (is_present_among part.now found ≡ true)
         × Matches (pkg_of found) atom.now) found.entry }
 {

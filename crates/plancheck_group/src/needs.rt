@@ -81,7 +81,10 @@ impl<'n> Needs<'n> {
     ) -> Result<(), AllocError> {
         for atom in atoms {
             for found in db.holders(atom.name()) {
-                if found.present_pkg().is_some_and(|there| atom.matched_by(there)) {
+                if found
+                    .present_pkg()
+                    .is_some_and(|there| atom.matched_by(there))
+                {
                     if let Some(asked) = self.names.get_index_of(found.name()) {
                         self.note(asking, asked)?;
                     }
@@ -107,7 +110,12 @@ impl<'n> Needs<'n> {
     }
 
     // The same in the Depends of the package of the name.
-    fn read_of(&mut self, db: &Records<'_, '_>, asking: usize, name: &[u8]) -> Result<(), AllocError> {
+    fn read_of(
+        &mut self,
+        db: &Records<'_, '_>,
+        asking: usize,
+        name: &[u8],
+    ) -> Result<(), AllocError> {
         for found in db.holders(name) {
             if is_same(found.name(), name) {
                 self.read_clauses(db, asking, found.depends())?;
