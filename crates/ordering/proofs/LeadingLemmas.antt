@@ -160,15 +160,21 @@ pub forward_beside : (u : Universe) (selected : List Pkg) (db : List Record) (ta
 unfolding IsAtRest HasVersion IsSelectedIn IsOfSelected Allowed
 forward_beside u selected db (step.Unpack name version) members names rest leads allowed = Any-elim (IsOf name version) selected ⊥
     (λ pkg within is. let Named : List ℕ → Type 0 = λ n. IsTrue (is_name n) in
-    rest (step.Unpack name pkg.version)
-    (subst Named is.0 (All-contains (λ (p : Pkg). IsTrue (is_name p.name)) selected pkg members within),
-    Any-intro (λ (p : Pkg). (p.name ≡ name) × (p.version ≡ pkg.version)) selected pkg within (is.0, refl))
+    rest (step.Unpack name pkg.version) (
+      subst Named is.0 (All-contains (λ (p : Pkg). IsTrue (is_name p.name)) selected pkg members within),
+      Any-intro (λ (p : Pkg). (p.name ≡ name) × (p.version ≡ pkg.version)) selected pkg within (is.0, refl),
+    )
     (unpack_alike u db name version pkg.version is.1 allowed)) leads
 forward_beside u selected db (step.Deconfigure name) members names rest leads allowed = leads
 forward_beside u selected db (step.Configure group) members names rest leads allowed =
-    rest (step.Configure group) (leads.0, All-weaker (IsSelectedIn selected db) (IsOfSelected selected db) (λ name is.
-    (Any-elim (λ (found : Record). (found.name ≡ name) × HasVersion name found.version selected) db (IsTrue (is_name name))
-    (λ found within has. member_named selected name found.version members has.1) is, is)) group leads.1) allowed
+    rest (step.Configure group) (
+      leads.0,
+      All-weaker (IsSelectedIn selected db) (IsOfSelected selected db) (λ name is. (
+        Any-elim (λ (found : Record). (found.name ≡ name) × HasVersion name found.version selected) db (IsTrue (is_name name))
+            (λ found within has. member_named selected name found.version members has.1) is,
+        is,
+      )) group leads.1,
+    ) allowed
 forward_beside u selected db (step.Remove name) members names rest leads allowed =
     rest (step.Remove name) (removed_name, leads) allowed
   where
