@@ -1,0 +1,4 @@
+pub mod AlikeLemmas
+pub mod BothLemmas
+pub mod EndLemmas
+pub mod SelectionLemmas
