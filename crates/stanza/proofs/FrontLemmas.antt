@@ -35,7 +35,7 @@ SkipsGap-more commented text rest line after lines skips cut gap = record {
 -- ---- the stanza
 
 -- two texts of whole lines are one
-IsWhole-append : (a b : List ℕ) → IsWhole a → IsWhole b → IsWhole (a ++ b)
+pub IsWhole-append : (a b : List ℕ) → IsWhole a → IsWhole b → IsWhole (a ++ b)
 IsWhole-append a b whole_a whole_b rest =
     ap lines_of (append_assoc a b rest) ∙ whole_a (b ++ rest) ∙ ap (λ x. lines_of a ++ x) (whole_b rest)
     ∙ sym (append_assoc (lines_of a) (lines_of b) (lines_of rest)) ∙ ap (λ x. x ++ lines_of rest) (sym (whole_a b))

@@ -1,9 +1,10 @@
 -- What is refused in control text, and at which line first (Debian Policy 5.1, "Syntax of control files").
-use Rattle.std.specs.Prelude.{ℕ, ◌+◌, Bool, false, ◌&&◌, not, List, [], ◌∷◌, ◌++◌, Option, None, Some, codes, if◌then◌else◌}
+use Rattle.std.specs.Prelude.{◌≡◌, ℕ, ◌+◌, Bool, true, false, ◌&&◌, not, List, [], ◌∷◌, ◌++◌, Option, None, Some, codes, if◌then◌else◌}
 use Rattle.std.specs.List.{list_any}
+use Rattle.std.specs.Borrow.{Bor}
 use Rattle.stanza.specs.declared.error.StanzaError.{StanzaError}
 use Rattle.stanza.specs.declared.error.StanzaError.TheVariants.{BadLine, BadFieldName, DuplicateField}
-use Rattle.stanza.specs.Line.{is_comment, is_continuation}
+use Rattle.stanza.specs.Line.{begins_field, is_comment, is_continuation}
 use Rattle.stanza.specs.Field.{is_colon, name_of, is_name, same_name, names_of}
 
 -- the last of these lines belongs to a field, which the next line may continue
@@ -46,3 +47,17 @@ abbrev pub first_fault : Bool → List (List ℕ) → ℕ → List (List ℕ) �
 first_fault commented before n [] = None
 first_fault commented before n (line ∷ lines) =
     or_then (fault_of commented before n line) (first_fault commented (before ++ line ∷ []) (n + 1) lines)
+
+-- the line begins a field of this name
+pub record IsNameOn (commented : Bool) (line name : List ℕ) : Type 0 where
+  pub begins : begins_field commented line ≡ true
+  pub colon : list_any is_colon line ≡ true
+  pub is : name ≡ name_of line
+  pub good : is_name name ≡ true
+
+-- what was found on line n, behind an open field or not: a name that begins a field there, or none, and then the line has no
+-- fault
+abbrev pub FindsName : Bool → Bool → ℕ → List ℕ → Option (Bor (List ℕ)) → Type 0
+FindsName commented opened n line None =
+    (begins_field commented line ≡ false) × ((before : List (List ℕ)) → opened ≡ is_open commented before → fault_of commented before n line ≡ None)
+FindsName commented opened n line (Some name) = IsNameOn commented line name.now

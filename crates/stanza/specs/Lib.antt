@@ -7,3 +7,6 @@ pub mod Stanza
 pub mod Front
 pub mod File
 pub mod Collect
+pub mod Streamed
+pub mod Starts
+pub mod Reading

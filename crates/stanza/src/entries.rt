@@ -24,6 +24,14 @@ impl<'a> Model for Field<'a> {
 }
 
 impl<'a> Field<'a> {
+    // The field of this name and value, which begins on this line.
+    #[inline]
+    pub(crate) fn new(name: &'a [u8], value: &'a [u8], line: usize) -> Field<'a>
+        ensures { result ≡ record { name = name.now; value = value.now; line = line } }
+    {
+        Field { name, value, line }
+    }
+
     /// The name, as it is spelled.
     #[inline]
     pub fn name(&self) -> &'a [u8]
@@ -153,7 +161,7 @@ fn skip_to_field(commented: bool, text: &[u8]) -> (&[u8], usize)
 }
 
 /// How many bytes at the front go on with the field before them, and how many lines.
-fn continuations(text: &[u8]) -> (usize, usize)
+pub(crate) fn continuations(text: &[u8]) -> (usize, usize)
     ensures { CutsContinuations text.now result.0 result.1 }
 {
     let mut rest = text;

@@ -1,4 +1,9 @@
-//! What is refused in control text.
+//! What is refused in control text, and why none was read.
+ghost use Rattle.std.specs.Prelude.{◌≡◌};
+ghost use Rattle.stanza.specs.declared.error.ReadError.TheVariants as read_error;
+
+use crate::source::ReadFailed;
+use std::alloc::{AllocError, AllocFailed};
 use thiserror::Error;
 
 /// A refusal, with the number of its line, counted from 1 in the whole text.
@@ -13,4 +18,53 @@ pub enum StanzaError {
     /// A second field of one name in a stanza.
     #[error("E4 DuplicateField {0}")]
     DuplicateField(usize),
+}
+
+/// Why no stanza was read.
+#[derive(Clone, Copy, Debug, PartialEq, Eq, Error)]
+pub enum ReadError {
+    /// No control text goes on so.
+    #[error("{0}")]
+    Refused(StanzaError),
+    /// The text is longer than may be read.
+    #[error("E10 TooLarge")]
+    TooLarge,
+    /// The source failed.
+    #[error("E5 Read")]
+    Read,
+    /// A growth was refused.
+    #[error("E1 OutOfMemory")]
+    OutOfMemory,
+}
+
+impl From<StanzaError> for ReadError {
+    ghost from_gives = { λ fault e. e ≡ read_error.Refused fault };
+
+    fn from(fault: StanzaError) -> ReadError {
+        ReadError::Refused(fault)
+    }
+}
+
+impl From<ReadFailed> for ReadError {
+    ghost from_gives = { λ _ e. e ≡ read_error.Read };
+
+    fn from(_e: ReadFailed) -> ReadError {
+        ReadError::Read
+    }
+}
+
+impl From<AllocError> for ReadError {
+    ghost from_gives = { λ _ e. e ≡ read_error.OutOfMemory };
+
+    fn from(_e: AllocError) -> ReadError {
+        ReadError::OutOfMemory
+    }
+}
+
+impl<T: Drop> From<AllocFailed<T>> for ReadError {
+    ghost from_gives = { λ _ e. e ≡ read_error.OutOfMemory };
+
+    fn from(_e: AllocFailed<T>) -> ReadError {
+        ReadError::OutOfMemory
+    }
 }

@@ -1,9 +1,9 @@
 //! The first stanza of a text: its lines are tested in turn, up to a separator.
-ghost use Rattle.std.specs.Prelude.{◌≡◌, ◌<◌, ◌≤◌, ◌+◌, ◌^◌, ◌∷◌, ◌++◌, [], ℕ, Bool, List, length, MatchResult, None, Some, if◌then◌else◌};
-ghost use Rattle.stanza.specs.Line.{lines_of, is_comment};
+ghost use Rattle.std.specs.Prelude.{◌≡◌, ◌<◌, ◌≤◌, ◌+◌, ◌^◌, ◌∷◌, ◌++◌, [], ℕ, Bool, false, List, length, MatchOption, MatchResult, None, Some, if◌then◌else◌};
+ghost use Rattle.stanza.specs.Line.{lines_of, begins_field, is_comment};
 ghost use Rattle.std.specs.List.{list_any};
 ghost use Rattle.stanza.specs.Field.{names_of, fields_of, same_name};
-ghost use Rattle.stanza.specs.Fault.{is_open, may_repeat, is_repeated, fault_of};
+ghost use Rattle.stanza.specs.Fault.{FindsName, is_open, may_repeat, is_repeated, fault_of};
 ghost use Rattle.stanza.specs.Seen.{AreSeen};
 ghost use Rattle.stanza.specs.Front.{BeginsStanza, IsFront, HasFault};
 
@@ -59,10 +59,41 @@ pub fn first_stanza<'a>(
 }
 
 /// Where the fields read so far end.
-fn end_after(opened: bool, end: usize, offset: usize) -> usize
+pub(crate) fn end_after(opened: bool, end: usize, offset: usize) -> usize
     ensures { result ≡ (if opened then offset else end) }
 {
     if opened { offset } else { end }
+}
+
+/// The name on the line, which stands behind an open field or not, where it begins a field.
+pub(crate) fn name_on<'a>(
+    commented: bool,
+    opened: bool,
+    number: usize,
+    line: &'a [u8],
+) -> Result<Option<&'a [u8]>, StanzaError>
+    ensures { MatchResult result
+        (λ found. FindsName commented opened number line.now found)
+        (λ fault. (before : List (List ℕ)) → opened ≡ is_open commented before → fault_of commented before number line.now ≡ Some fault) }
+{
+    if is_comment(commented, line) {
+        return Ok(None);
+    }
+    if is_continuation(line) {
+        return if opened {
+            Ok(None)
+        } else {
+            Err(StanzaError::BadLine(number))
+        };
+    }
+    let name = match name_before_colon(line) {
+        Some(name) => name,
+        None => return Err(StanzaError::BadLine(number)),
+    };
+    if !is_name(name) {
+        return Err(StanzaError::BadFieldName(number));
+    }
+    Ok(Some(name))
 }
 
 /// Tests the line, which stands after `done` in its stanza, and takes the slot of a new name.
@@ -81,23 +112,9 @@ fn test_line(
         × AreSeen seen.new.slots (names_of commented (lines_of done.now ++ line.now ∷ [])))
         (λ fault. fault_of commented (lines_of done.now) number line.now ≡ Some fault) }
 {
-    if is_comment(commented, line) {
+    let Some(name) = name_on(commented, opened, number, line)? else {
         return Ok(());
-    }
-    if is_continuation(line) {
-        return if opened {
-            Ok(())
-        } else {
-            Err(StanzaError::BadLine(number))
-        };
-    }
-    let name = match name_before_colon(line) {
-        Some(name) => name,
-        None => return Err(StanzaError::BadLine(number)),
     };
-    if !is_name(name) {
-        return Err(StanzaError::BadFieldName(number));
-    }
     if is_known(commented, done, seen, name) {
         return Err(StanzaError::DuplicateField(number));
     }
@@ -136,7 +153,7 @@ fn has_field(commented: bool, done: &[u8], name: &[u8]) -> bool
 }
 
 /// Whether a stanza may have several fields of the name.
-fn may_repeat(commented: bool, name: &[u8]) -> bool
+pub(crate) fn may_repeat(commented: bool, name: &[u8]) -> bool
     ensures { result ≡ may_repeat commented name.now }
 {
     commented && same_name(name, b"Explanation")

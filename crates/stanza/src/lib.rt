@@ -4,18 +4,25 @@
 //! The definitions that the contracts cite stand in `specs/`, `Stanza.antt` last.
 #![tactic(auto)]
 
+mod ahead;
 mod entries;
 mod error;
 mod front;
 pub mod laws;
 mod lines;
 mod names;
+mod reader;
 mod seen;
+mod source;
+mod starts;
 mod values;
 mod view;
 mod walk;
 
 pub use entries::{Field, Fields};
-pub use error::StanzaError;
+pub use error::{ReadError, StanzaError};
+pub use reader::Reader;
+pub use source::{ReadFailed, Source};
+pub use starts::{FieldAt, ReadFields, ReadStanza};
 pub use view::Stanza;
 pub use walk::Stanzas;

@@ -7,6 +7,8 @@ mod collecting;
 #[cfg(test)]
 mod plans;
 #[cfg(test)]
+mod reading;
+#[cfg(test)]
 mod requests;
 #[cfg(test)]
 mod stanzas;

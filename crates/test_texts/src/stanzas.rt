@@ -1,4 +1,5 @@
 //! Control texts, each with its stanzas and its fault, after Debian Policy 5.1 and by hand.
+use crate::reading;
 use crate::texts::{write_part, write_printed};
 use rows::unescaped;
 use stanza::{Field, Stanza, Stanzas};
@@ -84,7 +85,7 @@ fn assert_rows<R: Abort + AllocGlobal>(
     for row in rows.lines() {
         assert!(rt; is_shown(rt.alloc(), commented, row)?, "{row}");
     }
-    Ok(())
+    reading::assert_rows(rt, commented, 1000, rows)
 }
 
 fn have_packages(text: &str) -> bool {

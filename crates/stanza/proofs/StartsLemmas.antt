@@ -1,0 +1,135 @@
+-- Where fields begin: the names and the fields that are found there.
+use Rattle.std.proofs.Common.{◌≡◌, ℕ, suc, zero, ◌+◌, ◌<◌, ◌≤◌, Bool, true, false, ◌||◌, List, [], ◌∷◌, ◌++◌, length, take, drop, map, refl, sym, ap, subst, ◌∙◌, arith, append_assoc, add_assoc, add-zero, eqb, Option, None, Some, inl, inr}
+use Rattle.std.specs.Borrow.{Bor}
+use Rattle.stanza.specs.Fault.{FindsName, IsNameOn}
+use Rattle.std.proofs.lemmas.Bool.{cases_Bool}
+use Rattle.std.proofs.lemmas.List.{append-nil, length-append, drop_at, map-append}
+use Rattle.std.specs.List.{concat, onto_first, list_any, AllByRecursion}
+use Rattle.stanza.specs.declared.starts.Start.{Start}
+use Rattle.stanza.specs.Line.{lines_of, begins_field}
+use Rattle.stanza.specs.Field.{FieldText, name_of, names_of, same_name, field_of, fields_of, continued}
+use Rattle.stanza.specs.Starts.{starts_of, name_at, field_at, first_field, IsWithin, AreWithin}
+use Rattle.stanza.proofs.LineLemmas.{concat-lines_of, lines_of-head}
+use Rattle.stanza.proofs.NameLemmas.{names_of-push}
+
+take-again : (k : ℕ) (l x : List ℕ) → take (length (take k l)) (l ++ x) ≡ take k l
+take-again zero l x = refl
+take-again (suc k) [] x = refl
+take-again (suc k) (b ∷ l) x = ap (λ r. b ∷ r) (take-again k l x)
+
+-- the start of a line's field, behind these bytes
+abbrev start_behind : List ℕ → ℕ → List ℕ → Start
+start_behind front n line = record { at = length front; name_len = length (name_of line); line = n }
+
+at-behind : (front line : List ℕ) (lines : List (List ℕ)) (n : ℕ) → name_at (front ++ concat (line ∷ lines)) (start_behind front n line) ≡ name_of line
+at-behind front line lines n =
+    ap (take (length (name_of line))) (drop_at front (line ++ concat lines) (length front) refl) ∙ take-again _ line (concat lines)
+
+-- the names that begin there are those of the lines
+names-from : (commented : Bool) (n : ℕ) (front : List ℕ) (lines : List (List ℕ)) → map (name_at (front ++ concat lines)) (starts_of commented (length front) n lines) ≡ names_of commented lines
+names-from commented n front [] = refl
+names-from commented n front (line ∷ lines) =
+    let same : (front ++ line) ++ concat lines ≡ front ++ (line ++ concat lines) = append_assoc front line (concat lines) in
+    let later : map (name_at (front ++ (line ++ concat lines))) (starts_of commented (length front + length line) (n + 1) lines) ≡ names_of commented lines =
+    subst (λ raw. map (name_at raw) (starts_of commented (length front + length line) (n + 1) lines) ≡ names_of commented lines) same
+    (subst (λ k. map (name_at ((front ++ line) ++ concat lines)) (starts_of commented k (n + 1) lines) ≡ names_of commented lines) (length-append front line) (names-from commented (n + 1) (front ++ line) lines)) in
+    elim (cases_Bool (begins_field commented line)) [
+      | inl h ↦ rw h (ap (λ x. x ∷ map (name_at (front ++ (line ++ concat lines))) (starts_of commented (length front + length line) (n + 1) lines)) (at-behind front line lines n) ∙ ap (λ x. name_of line ∷ x) later)
+      | inr h ↦ rw h later
+    ]
+
+pub names-at : (commented : Bool) (n : ℕ) (raw : List ℕ) → map (name_at raw) (starts_of commented 0 n (lines_of raw)) ≡ names_of commented (lines_of raw)
+names-at commented n raw = subst (λ (text : List ℕ). map (name_at text) (starts_of commented 0 n (lines_of raw)) ≡ names_of commented (lines_of raw)) (concat-lines_of raw) (names-from commented n [] (lines_of raw))
+
+-- one more line
+pub starts-push : (commented : Bool) (at n : ℕ) (lines : List (List ℕ)) (line : List ℕ) → starts_of commented at n (lines ++ line ∷ []) ≡ starts_of commented at n lines ++ starts_of commented (at + length (concat lines)) (n + length lines) (line ∷ [])
+starts-push commented at n [] line = rw (add-zero at, add-zero n) refl
+starts-push commented at n (first ∷ lines) line =
+    let bytes : at + length first + length (concat lines) ≡ at + length (first ++ concat lines) = omega (arith, length-append first (concat lines)) in
+    let count : n + 1 + length lines ≡ n + suc (length lines) = omega arith in
+    let later : starts_of commented (at + length first) (n + 1) (lines ++ line ∷ []) ≡ starts_of commented (at + length first) (n + 1) lines ++ starts_of commented (at + length (first ++ concat lines)) (n + suc (length lines)) (line ∷ []) =
+    starts-push commented (at + length first) (n + 1) lines line ∙ ap (λ k. starts_of commented (at + length first) (n + 1) lines ++ starts_of commented k (n + 1 + length lines) (line ∷ [])) bytes ∙ ap (λ k. starts_of commented (at + length first) (n + 1) lines ++ starts_of commented (at + length (first ++ concat lines)) k (line ∷ [])) count in
+    elim (cases_Bool (begins_field commented first)) [
+      | inl h ↦ rw h (ap (λ x. record { at = at; name_len = length (name_of first); line = n } ∷ x) later)
+      | inr h ↦ rw h later
+    ]
+
+-- ---- the fields
+
+nothing : {x : List ℕ} {xs : List (List ℕ)} → [] ≡ x ∷ xs → ⊥
+nothing e = cc
+
+tails : {x y : List ℕ} {xs ys : List (List ℕ)} → x ∷ xs ≡ y ∷ ys → xs ≡ ys
+tails e = cc
+
+line-ends : (b : ℕ) (bs : List ℕ) (rest ls : List (List ℕ)) → lines_of (bs ++ concat rest) ≡ ls → (b ∷ []) ∷ ls ≡ (b ∷ bs) ∷ rest → lines_of (concat rest) ≡ rest
+line-ends b [] rest ls is e = is ∙ tails e
+line-ends b (c ∷ cs) rest ls is e = cc
+
+line-goes : (b : ℕ) (bs : List ℕ) (rest : List (List ℕ)) → (lines_of (bs ++ concat rest) ≡ bs ∷ rest → lines_of (concat rest) ≡ rest) → (ls : List (List ℕ)) → lines_of (bs ++ concat rest) ≡ ls → onto_first b ls ≡ (b ∷ bs) ∷ rest → lines_of (concat rest) ≡ rest
+line-goes b bs rest left [] is e = ap (λ r. lines_of (concat r)) (sym (tails e)) ∙ tails e
+line-goes b bs rest left (l ∷ ls) is e = left (is ∙ inner l e) where
+  inner : (l : List ℕ) → (b ∷ l) ∷ ls ≡ (b ∷ bs) ∷ rest → l ∷ ls ≡ bs ∷ rest
+  inner l e = cc
+
+-- what is left of a text's lines behind the first is the lines of what is left of the text
+lines-left : (line : List ℕ) (rest : List (List ℕ)) → lines_of (line ++ concat rest) ≡ line ∷ rest → lines_of (concat rest) ≡ rest
+lines-left [] rest e = go (concat rest) e where
+  go : (text : List ℕ) → lines_of text ≡ [] ∷ rest → lines_of text ≡ rest
+  go [] e = absurd (nothing e)
+  go (b ∷ bs) e = let head = lines_of-head b bs in absurd (filled (sym head.2 ∙ e)) where
+    filled : {b : ℕ} {line : List ℕ} {lines : List (List ℕ)} → (b ∷ line) ∷ lines ≡ [] ∷ rest → ⊥
+    filled e = cc
+lines-left (b ∷ bs) rest e = elim (cases_Bool (eqb b 10)) [
+  | inl h ↦ line-ends b bs rest (lines_of (bs ++ concat rest)) refl (sym (rw h refl) ∙ e)
+  | inr h ↦ line-goes b bs rest (lines-left bs rest) (lines_of (bs ++ concat rest)) refl (sym (rw h refl) ∙ e)
+]
+
+fields-from : (commented : Bool) (n : ℕ) (front : List ℕ) (lines : List (List ℕ)) → lines_of (concat lines) ≡ lines → map (field_at (front ++ concat lines)) (starts_of commented (length front) n lines) ≡ fields_of commented n lines
+fields-from commented n front [] are = refl
+fields-from commented n front (line ∷ lines) are =
+    let same : (front ++ line) ++ concat lines ≡ front ++ (line ++ concat lines) = append_assoc front line (concat lines) in
+    let left = lines-left line lines are in
+    let later : map (field_at (front ++ (line ++ concat lines))) (starts_of commented (length front + length line) (n + 1) lines) ≡ fields_of commented (n + 1) lines =
+    subst (λ raw. map (field_at raw) (starts_of commented (length front + length line) (n + 1) lines) ≡ fields_of commented (n + 1) lines) same
+    (subst (λ k. map (field_at ((front ++ line) ++ concat lines)) (starts_of commented k (n + 1) lines) ≡ fields_of commented (n + 1) lines) (length-append front line) (fields-from commented (n + 1) (front ++ line) lines left)) in
+    let here : field_at (front ++ (line ++ concat lines)) (start_behind front n line) ≡ field_of n line (continued lines) =
+    ap (λ x. first_field n (lines_of x)) (drop_at front (line ++ concat lines) (length front) refl) ∙ ap (first_field n) are in
+    elim (cases_Bool (begins_field commented line)) [
+      | inl h ↦ rw h (ap (λ x. x ∷ map (field_at (front ++ (line ++ concat lines))) (starts_of commented (length front + length line) (n + 1) lines)) here ∙ ap (λ x. field_of n line (continued lines) ∷ x) later)
+      | inr h ↦ rw h later
+    ]
+
+pub fields-at : (commented : Bool) (n : ℕ) (raw : List ℕ) → map (field_at raw) (starts_of commented 0 n (lines_of raw)) ≡ fields_of commented n (lines_of raw)
+fields-at commented n raw = subst (λ (text : List ℕ). map (field_at text) (starts_of commented 0 n (lines_of raw)) ≡ fields_of commented n (lines_of raw)) (concat-lines_of raw)
+    (fields-from commented n [] (lines_of raw) (ap lines_of (concat-lines_of raw)))
+
+-- ---- what a reader notes
+
+any-map : (p : List ℕ → Bool) (f : Start → List ℕ) (starts : List Start) → list_any (λ start. p (f start)) starts ≡ list_any p (map f starts)
+any-map p f [] = refl
+any-map p f (start ∷ starts) = ap (λ b. p (f start) || b) (any-map p f starts)
+
+-- a name that a field before has is one of the names of the lines
+pub any-name-at : (commented : Bool) (n : ℕ) (raw name : List ℕ) (starts : List Start) → starts ≡ starts_of commented 0 n (lines_of raw) → list_any (λ start. same_name (name_at raw start) name) starts ≡ list_any (λ earlier. same_name earlier name) (names_of commented (lines_of raw))
+any-name-at commented n raw name starts are =
+    any-map (λ earlier. same_name earlier name) (name_at raw) starts ∙ ap (list_any (λ earlier. same_name earlier name)) (ap (map (name_at raw)) are ∙ names-at commented n raw)
+
+-- a line that begins no field adds none
+pub starts-other : (commented : Bool) (n : ℕ) (raw line : List ℕ) → begins_field commented line ≡ false → starts_of commented 0 n (lines_of raw ++ line ∷ []) ≡ starts_of commented 0 n (lines_of raw)
+starts-other commented n raw line other = starts-push commented 0 n (lines_of raw) line ∙ rw other (append-nil (starts_of commented 0 n (lines_of raw)))
+
+-- a line that begins one adds it
+pub starts-field : (commented : Bool) (n number : ℕ) (raw line name : List ℕ) → begins_field commented line ≡ true → name ≡ name_of line → number ≡ n + length (lines_of raw) → starts_of commented 0 n (lines_of raw ++ line ∷ []) ≡ starts_of commented 0 n (lines_of raw) ++ record { at = length raw; name_len = length name; line = number } ∷ []
+starts-field commented n number raw line name begins is count =
+        starts-push commented 0 n (lines_of raw) line
+    ∙ ap (λ k. starts_of commented 0 n (lines_of raw) ++ starts_of commented k (n + length (lines_of raw)) (line ∷ [])) (let e : 0 + length (concat (lines_of raw)) ≡ length raw = omega (arith, ap length (concat-lines_of raw)) in e)
+    ∙ rw (begins, is, count) refl
+
+-- ---- what is found on a line
+
+pub none-found : (commented opened : Bool) (number : ℕ) (line : List ℕ) (found : Option (Bor (List ℕ))) → found ≡ None → FindsName commented opened number line found → begins_field commented line ≡ false
+none-found commented opened number line found is finds = (subst (FindsName commented opened number line) is finds).0
+
+pub name-found : (commented opened : Bool) (number : ℕ) (line : List ℕ) (name : Bor (List ℕ)) (found : Option (Bor (List ℕ))) → found ≡ Some name → FindsName commented opened number line found → IsNameOn commented line name.now
+name-found commented opened number line name found is finds = subst (FindsName commented opened number line) is finds

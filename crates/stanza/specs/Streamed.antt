@@ -1,0 +1,92 @@
+-- What is read of a text that comes piece by piece. Of a text that is longer than may be read its stanzas are read as far
+-- as the line behind them is read too, and then it is too large (that limit is this project's own).
+use Rattle.std.specs.Prelude.{◌≡◌, ℕ, ◌+◌, ◌-◌, ◌<◌, ◌≤◌, Bool, true, false, List, [], ◌∷◌, ◌++◌, ◌==◌, ◌||◌, length, take, drop, filter, nat_lt, Option, None, Some, Result, Ok, Err, if◌then◌else◌}
+use Rattle.std.specs.List.{list_any, slice_split}
+use Rattle.stanza.specs.declared.error.StanzaError.{StanzaError}
+use Rattle.stanza.specs.declared.error.ReadError.{ReadError}
+use Rattle.stanza.specs.declared.error.ReadError.TheVariants.{Refused, TooLarge}
+use Rattle.stanza.specs.declared.lines.TheConstants.{NEWLINE}
+use Rattle.stanza.specs.Line.{lines_of, is_comment, is_separator, IsWhole}
+use Rattle.stanza.specs.Fault.{first_fault}
+use Rattle.stanza.specs.Stanza.{StanzaText, stanza_of, stanza_in}
+
+-- a line that has its newline
+abbrev pub has_newline : List ℕ → Bool
+has_newline line = list_any (λ b. b == NEWLINE) line
+
+-- the lines that are read of a text: all of them, or of a text that is longer than may be read those that end within
+abbrev pub lines_within : ℕ → List ℕ → List (List ℕ)
+lines_within most text =
+    if nat_lt most (length text) then filter has_newline (lines_of (take most text)) else lines_of text
+
+-- the fault of a part, or else its stanza, and then what is read after it: nothing comes after a fault
+abbrev pub before_read : Option StanzaError → Option StanzaText → List (Result StanzaText ReadError) → List (Result StanzaText ReadError)
+before_read (Some fault) stanza later = Err (Refused fault) ∷ []
+before_read None None later = later
+before_read None (Some stanza) later = Ok stanza ∷ later
+
+-- what is read of the parts between separators, of which the first begins at line n: of a text that is longer than may be
+-- read the last part isn't known to end
+abbrev pub read_parts : Bool → Bool → ℕ → List (List (List ℕ)) → List (Result StanzaText ReadError)
+read_parts longer commented n [] = []
+read_parts longer commented n (part ∷ []) =
+    before_read (first_fault commented [] n part) (if longer then None else stanza_in commented n part) (if longer then Err TooLarge ∷ [] else [])
+read_parts longer commented n (part ∷ next ∷ parts) =
+    before_read (first_fault commented [] n part) (stanza_in commented n part) (read_parts longer commented (n + length part + 1) (next ∷ parts))
+
+-- what is read of lines from number n on
+abbrev pub read_lines : Bool → Bool → ℕ → List (List ℕ) → List (Result StanzaText ReadError)
+read_lines longer commented n lines = read_parts longer commented n (slice_split is_separator lines)
+
+-- what is read of a text from line n on, of which no more than so many bytes are read
+abbrev pub read_within : Bool → ℕ → ℕ → List ℕ → List (Result StanzaText ReadError)
+read_within commented n most text = read_lines (nat_lt most (length text)) commented n (lines_within most text)
+
+-- what may follow bytes: nothing where the text is over
+abbrev pub MayFollow : Bool → List ℕ → Type 0
+MayFollow is_over later = is_over ≡ true → later ≡ []
+
+-- so many bytes at the front of the text are its first line, whatever follows
+pub record EndsLine (is_over : Bool) (text : List ℕ) (len : ℕ) : Type 0 where
+  pub some : 0 < len
+  pub within : len ≤ length text
+  pub first : (later : List ℕ) → MayFollow is_over later → lines_of (text ++ later) ≡ take len text ∷ lines_of (drop len text ++ later)
+  pub alone : lines_of (take len text) ≡ take len text ∷ []
+  pub newline : (is_over ≡ true → 0 < length (drop len text)) → has_newline (take len text) ≡ true
+  pub whole : (is_over ≡ true → 0 < length (drop len text)) → IsWhole (take len text)
+
+-- so many bytes at the front, of so many lines, are read before all else, and nothing is made of them
+pub record SkipsAhead (is_over commented : Bool) (n : ℕ) (text : List ℕ) (len lines : ℕ) : Type 0 where
+  pub items : (later : List ℕ) (most : ℕ) → MayFollow is_over later → length text ≤ most
+      → read_within commented n most (text ++ later) ≡ read_within commented (n + lines) (most - len) (drop len text ++ later)
+  pub within : len ≤ length text
+  pub each : lines ≤ len
+
+-- the first item is the stanza of the bytes up to `end`; behind it so many bytes, of so many lines, are left out
+pub record IsAhead (is_over commented : Bool) (n : ℕ) (text : List ℕ) (end len lines : ℕ) : Type 0 where
+  pub items : (later : List ℕ) (most : ℕ) → MayFollow is_over later → length text ≤ most
+      → read_within commented n most (text ++ later)
+      ≡ Ok (stanza_of commented n (lines_of (take end text))) ∷ read_within commented (n + lines) (most - len) (drop len text ++ later)
+  pub some : 0 < end
+  pub order : end ≤ len
+  pub within : len ≤ length text
+  pub each : lines ≤ len
+
+-- the first item is this fault
+abbrev pub IsFaulty : Bool → Bool → ℕ → List ℕ → StanzaError → Type 0
+IsFaulty is_over commented n text fault =
+    (later : List ℕ) (most : ℕ) → MayFollow is_over later → length text ≤ most → read_within commented n most (text ++ later) ≡ Err (Refused fault) ∷ []
+
+-- the first item isn't whole: more has to be read, and where no more may be read the text is too large
+abbrev pub IsOpen : Bool → ℕ → List ℕ → Type 0
+IsOpen commented n text =
+    (later : List ℕ) → 0 < length later → read_within commented n (length text) (text ++ later) ≡ Err TooLarge ∷ []
+
+-- nothing is left to read
+abbrev pub IsDone : Bool → ℕ → List ℕ → Type 0
+IsDone commented n text = (most : ℕ) → read_within commented n most text ≡ []
+
+-- the text's first line, where it is whole, is neither a comment nor a separator
+abbrev pub BeginsAhead : Bool → Bool → List ℕ → Type 0
+BeginsAhead is_over commented text =
+    (len : ℕ) → EndsLine is_over text len → (is_comment commented (take len text) || is_separator (take len text)) ≡ false

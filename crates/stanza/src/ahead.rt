@@ -1,0 +1,185 @@
+//! The first stanza of a text of which more may come: its lines are tested in turn, up to a separator.
+ghost use Rattle.std.specs.Prelude.{◌≡◌, ◌<◌, ◌≤◌, ◌⊎◌, ◌+◌, ◌-◌, ◌^◌, ◌∷◌, ◌++◌, ◌||◌, [], ℕ, Bool, true, false, List, length, take, drop, map, IfErr, IfOk, MatchOption, MatchResult, None, Some};
+ghost use Rattle.std.specs.List.{list_any};
+ghost use Rattle.stanza.specs.Line.{lines_of, begins_field, is_comment, is_separator};
+ghost use Rattle.stanza.specs.Field.{names_of, name_of, same_name};
+ghost use Rattle.stanza.specs.Fault.{is_open, is_repeated, fault_of};
+ghost use Rattle.stanza.specs.Seen.{AreSeen};
+ghost use Rattle.stanza.specs.Starts.{name_at, starts_of};
+ghost use Rattle.stanza.specs.Streamed.{BeginsAhead, EndsLine, IsAhead, IsFaulty, IsOpen, SkipsAhead, has_newline};
+ghost use Rattle.stanza.specs.declared.error.ReadError.TheVariants as read_error;
+
+use crate::error::{ReadError, StanzaError};
+use crate::front::{end_after, may_repeat, name_on};
+use crate::lines::{NEWLINE, is_comment, is_separator};
+use crate::names::same_name;
+use crate::seen::Seen;
+use crate::starts::{Start, part};
+use memchr::memchr;
+
+/// Where the bytes of a stanza end, and how many bytes, of how many lines, are read with it: comments behind its last field are
+/// read, and are no part of it.
+#[derive(Clone, Copy, Drop)]
+pub struct Ahead {
+    pub end: usize,
+    pub len: usize,
+    pub lines: usize,
+}
+
+/// How long the first line of a text is, where it is whole: a text that isn't over may go on with a line that has no newline.
+pub fn whole_line(text: &[u8], is_over: bool) -> Option<usize>
+    requires { 0 < length text.now }
+    ensures { MatchOption result
+        ((is_over ≡ false) × (has_newline text.now ≡ false))
+        (λ len. EndsLine is_over text.now len) }
+{
+    match memchr(NEWLINE, text) {
+        Some(at) => Some(at + 1),
+        None => {
+            if is_over {
+                Some(text.len())
+            } else {
+                None
+            }
+        }
+    }
+}
+
+// Whether the line stands between stanzas.
+fn is_gap(commented: bool, line: &[u8]) -> bool
+    ensures { result ≡ (is_comment commented line.now || is_separator line.now) }
+{
+    is_comment(commented, line) || is_separator(line)
+}
+
+/// How many bytes, of how many lines, stand before the first stanza.
+pub fn gap_ahead(commented: bool, text: &[u8], is_over: bool) -> (usize, usize)
+    ensures skipped { (n : ℕ) → SkipsAhead is_over commented n text.now result.0 result.1 }
+    ensures begins { BeginsAhead is_over commented (drop result.0 text.now) }
+{
+    let mut offset = 0;
+    let mut lines = 0;
+    while offset < text.len() {
+        let (_, rest) = text.split_at(offset);
+        let Some(len) = whole_line(rest, is_over) else {
+            return (offset, lines);
+        };
+        if !is_gap(commented, rest.split_at(len).0) {
+            return (offset, lines);
+        }
+        offset += len;
+        lines += 1;
+    }
+    (offset, lines)
+}
+
+// Whether a field that begins before has the name.
+fn has_name(done: &[u8], starts: &[Start], name: &[u8]) -> bool
+    ensures { result ≡ list_any (λ start. same_name (name_at done.now start) name.now) starts.now }
+{
+    starts
+        .iter()
+        .any(|start| same_name(part(done, start.at, start.name_len), name))
+}
+
+// Whether a field before has the name, which may stand but once: where its slot is free, none has.
+fn is_known(commented: bool, done: &[u8], starts: &[Start], seen: &Seen, name: &[u8]) -> bool
+    requires seen { AreSeen seen.now.slots (names_of commented (lines_of done.now)) }
+    requires starts { (n : ℕ) × (starts.now ≡ starts_of commented 0 n (lines_of done.now)) }
+    ensures { result ≡ is_repeated commented (lines_of done.now) name.now }
+{
+    if !seen.has_slot_of(name) || may_repeat(commented, name) {
+        return false;
+    }
+    has_name(done, starts, name)
+}
+
+// Tests the line, which stands after `done` in its stanza, and notes the field that it begins.
+fn take_line(
+    commented: bool,
+    done: &[u8],
+    opened: bool,
+    number: usize,
+    line: &[u8],
+    seen: &mut Seen,
+    starts: &mut Vec<Start>,
+) -> Result<(), ReadError>
+    requires follows { opened ≡ is_open commented (lines_of done.now) }
+    requires seen { AreSeen seen.old.slots (names_of commented (lines_of done.now)) }
+    requires starts { (n : ℕ) × (starts.old.items ≡ starts_of commented 0 n (lines_of done.now)) × (number ≡ n + length (lines_of done.now)) }
+    ensures clean { IfOk result (λ _. fault_of commented (lines_of done.now) number line.now ≡ None) }
+    ensures seen { IfOk result (λ _. AreSeen seen.new.slots (names_of commented (lines_of done.now ++ line.now ∷ []))) }
+    ensures starts { IfOk result (λ _. (n : ℕ) → number ≡ n + length (lines_of done.now)
+        → starts.new.items ≡ starts_of commented 0 n (lines_of done.now ++ line.now ∷ [])) }
+    ensures fault { IfErr result (λ e. (e ≡ read_error.OutOfMemory)
+        ⊎ ((fault : _) × (e ≡ read_error.Refused fault) × (fault_of commented (lines_of done.now) number line.now ≡ Some fault))) }
+{
+    let Some(name) = name_on(commented, opened, number, line)? else {
+        return Ok(());
+    };
+    if is_known(commented, done, starts.as_slice(), seen, name) {
+        return Err(ReadError::Refused(StanzaError::DuplicateField(number)));
+    }
+    seen.add(name);
+    starts.push(Start {
+        at: done.len(),
+        name_len: name.len(),
+        line: number,
+    })?;
+    Ok(())
+}
+
+/// The stanza at the front of a text that isn't empty, whose first line stands after `before` others, and where its fields begin:
+/// nothing where more of the text has to be read. Linear in the stanza, but for fields whose names share a slot.
+pub fn stanza_ahead(
+    commented: bool,
+    before: usize,
+    text: &[u8],
+    is_over: bool,
+    starts: &mut Vec<Start>,
+) -> Result<Option<Ahead>, ReadError>
+    requires some { 0 < length text.now }
+    requires begins { BeginsAhead is_over commented text.now }
+    requires fits { before + length text.now < 2 ^ 64 }
+    ensures found { IfOk result (λ found. MatchOption found
+        ((is_over ≡ false) × IsOpen commented (before + 1) text.now)
+        (λ ahead. IsAhead is_over commented (before + 1) text.now ahead.end ahead.len ahead.lines
+        × (starts.new.items ≡ starts_of commented 0 (before + 1) (lines_of (take ahead.end text.now))))) }
+    ensures fault { IfErr result (λ e. (e ≡ read_error.OutOfMemory)
+        ⊎ ((fault : _) × (e ≡ read_error.Refused fault) × IsFaulty is_over commented (before + 1) text.now fault)) }
+{
+    starts.clear();
+    let mut seen = Seen::new();
+    let mut offset = 0;
+    let mut lines = 0;
+    let mut end = 0;
+    let mut opened = false;
+    while offset < text.len() {
+        let (done, rest) = text.split_at(offset);
+        let Some(len) = whole_line(rest, is_over) else {
+            return Ok(None);
+        };
+        let (line, _) = rest.split_at(len);
+        if is_separator(line) {
+            return Ok(Some(Ahead {
+                end,
+                len: offset,
+                lines,
+            }));
+        }
+        take_line(commented, done, opened, before + lines + 1, line, &mut seen, starts)?;
+        offset += len;
+        lines += 1;
+        opened = !is_comment(commented, line);
+        end = end_after(opened, end, offset);
+    }
+    if is_over {
+        Ok(Some(Ahead {
+            end,
+            len: offset,
+            lines,
+        }))
+    } else {
+        Ok(None)
+    }
+}

@@ -1,0 +1,205 @@
+//! A stanza whose lines were cut when it was read: where its fields begin is known.
+ghost use Rattle.std.specs.Prelude.{◌≡◌, ◌<◌, ◌≤◌, ◌+◌, ◌^◌, ◌∷◌, ℕ, Bool, List, length, take, drop, map};
+ghost use Rattle.std.specs.Iterator.{YieldsFirst, item_count};
+ghost use Rattle.std.specs.Option.{option_copied};
+ghost use Rattle.stanza.specs.Line.{lines_of};
+ghost use Rattle.stanza.specs.Field.{FieldText, fields_of, value_named};
+ghost use Rattle.stanza.specs.Stanza.{StanzaText, stanza_of};
+ghost use Rattle.stanza.specs.Starts.{AreWithin, IsWithin, field_at, first_field, starts_of};
+
+use crate::entries::{Field, continuations};
+use crate::lines::cut_line;
+use crate::names::same_name;
+use crate::values::value_of;
+use std::marker::Model;
+
+/// Where a field begins in its stanza's bytes, how long its name is, and the number of its line.
+#[derive(Clone, Copy, Drop)]
+pub struct Start {
+    pub at: usize,
+    pub name_len: usize,
+    pub line: usize,
+}
+
+/// So many bytes behind an offset, or as many as there are.
+pub fn part(bytes: &[u8], at: usize, len: usize) -> &[u8]
+    ensures { result.now ≡ take len (drop at bytes.now) }
+{
+    let (_, rest) = bytes.split_at(at.min(bytes.len()));
+    rest.split_at(len.min(rest.len())).0
+}
+
+/// A field of a stanza that was read: its name, and the stanza's bytes from its first line on.
+#[derive(Drop)]
+pub struct FieldAt<'a> {
+    name: &'a [u8],
+    lines: &'a [u8],
+    number: usize,
+}
+
+impl<'a> Model for FieldAt<'a> {
+    ghost Value = { FieldText };
+
+    ghost view = { λ f. first_field f.number (lines_of f.lines.now) };
+
+    ghost invariant = { λ f. (0 < length f.lines.now) × (f.name.now ≡ (first_field f.number (lines_of f.lines.now)).name) };
+}
+
+impl<'a> FieldAt<'a> {
+    /// The name, as it is spelled.
+    #[inline]
+    pub fn name(&self) -> &'a [u8]
+        ensures { result.now ≡ self.now.name }
+    {
+        self.name
+    }
+
+    /// The number of the line on which it begins.
+    #[inline]
+    pub fn line(&self) -> usize
+        ensures { result ≡ self.now.line }
+    {
+        self.number
+    }
+
+    /// The value, without the spaces and tabs at its ends. Its inner newlines are kept. It is cut out of the stanza at each call.
+    pub fn value(&self) -> &'a [u8]
+        ensures { result.now ≡ self.now.value }
+    {
+        value_at_front(self.lines)
+    }
+
+    /// The field with its value cut out.
+    pub fn field(&self) -> Field<'a>
+        ensures { result ≡ self.now }
+    {
+        Field::new(self.name, self.value(), self.number)
+    }
+}
+
+// The value of the field that these lines begin with.
+fn value_at_front(lines: &[u8]) -> &[u8]
+    requires { 0 < length lines.now }
+    ensures { (n : ℕ) → result.now ≡ (first_field n (lines_of lines.now)).value }
+{
+    let (line, after) = cut_line(lines);
+    let (len, _) = continuations(after);
+    value_of(line, lines.split_at(line.len() + len).0)
+}
+
+/// The fields of a stanza that was read, from the first on.
+#[derive(Drop)]
+pub struct ReadFields<'a> {
+    raw: &'a [u8],
+    starts: &'a [Start],
+}
+
+impl<'a> Model for ReadFields<'a> {
+    ghost Value = { List FieldText };
+
+    ghost view = { λ f. map (field_at f.raw.now) f.starts.now };
+
+    ghost invariant = { λ f. AreWithin f.raw.now f.starts.now };
+}
+
+impl<'a> Iterator for ReadFields<'a> {
+    type Item = FieldAt<'a>;
+
+    ghost next_gives = { YieldsFirst (λ fields. fields) };
+
+    ghost remaining = { item_count (λ fields. fields) };
+
+    #[inline]
+    fn next(&mut self) -> Option<FieldAt<'a>> {
+        let (start, rest) = self.starts.split_first()?;
+        let field = field_of(self.raw, start);
+        self.starts = rest;
+        Some(field)
+    }
+}
+
+// The field that begins there.
+fn field_of<'a>(raw: &'a [u8], start: &Start) -> FieldAt<'a>
+    requires { IsWithin raw.now start.now }
+    ensures { result ≡ field_at raw.now start.now }
+{
+    FieldAt {
+        name: part(raw, start.at, start.name_len),
+        lines: raw.split_at(start.at).1,
+        number: start.line,
+    }
+}
+
+/// A stanza that was read, whose fields are known. It borrows what has read it.
+#[derive(Drop)]
+pub struct ReadStanza<'a> {
+    commented: bool,
+    line: usize,
+    raw: &'a [u8],
+    starts: &'a [Start],
+}
+
+impl<'a> Model for ReadStanza<'a> {
+    ghost Value = { StanzaText };
+
+    ghost view = { λ s. stanza_of s.commented s.line (lines_of s.raw.now) };
+
+    ghost invariant = { λ s. (0 < length s.raw.now) × (s.starts.now ≡ starts_of s.commented 0 s.line (lines_of s.raw.now)) };
+}
+
+impl<'a> ReadStanza<'a> {
+    // The stanza of these bytes, whose first line has this number, with where its fields begin.
+    #[inline]
+    pub(crate) fn new(commented: bool, line: usize, raw: &'a [u8], starts: &'a [Start]) -> ReadStanza<'a>
+        requires some { 0 < length raw.now }
+        requires starts { starts.now ≡ starts_of commented 0 line (lines_of raw.now) }
+        ensures { result ≡ stanza_of commented line (lines_of raw.now) }
+    {
+        ReadStanza {
+            commented,
+            line,
+            raw,
+            starts,
+        }
+    }
+
+    /// The value of the first field of this name, whatever the case of its letters. It goes over the fields.
+    pub fn get(&self, name: &[u8]) -> Option<&'a [u8]>
+        ensures { option_copied result ≡ value_named name.now self.now.fields }
+    {
+        for field in self.fields() {
+            if same_name(field.name(), name) {
+                return Some(field.value());
+            }
+        }
+        None
+    }
+
+    /// The fields, in the order of the text.
+    #[inline]
+    pub fn fields(&self) -> ReadFields<'a>
+        ensures { result ≡ self.now.fields }
+    {
+        ReadFields {
+            raw: self.raw,
+            starts: self.starts,
+        }
+    }
+
+    /// The number of the line of its first field.
+    #[inline]
+    pub fn line(&self) -> usize
+        ensures { result ≡ self.now.line }
+    {
+        self.line
+    }
+
+    /// Its bytes, from its first field's line to the end of its last field: the last newline, where
+    /// there, and comments between fields are among them.
+    #[inline]
+    pub fn raw(&self) -> &'a [u8]
+        ensures { result.now ≡ self.now.raw }
+    {
+        self.raw
+    }
+}
