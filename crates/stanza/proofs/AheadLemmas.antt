@@ -256,7 +256,8 @@ module _ (is_over commented : Bool) (n : ℕ) (text : List ℕ) (offset lines en
 
   -- before a separator
   pub IsAhead-before : (len : ℕ) → Reads is_over commented n text offset lines end opened slots starts → 0 < offset → EndsLine is_over (drop offset text) len → is_separator (take len (drop offset text)) ≡ true → IsAhead is_over commented n text end offset lines × (starts ≡ starts_of commented 0 n (lines_of (take end text)))
-  IsAhead-before len reads some ends separator = (record {
+  IsAhead-before len reads some ends separator = (
+    record {
       items = λ later most may fits.
           let d = lines_of (take offset text) in
           let line = take len (drop offset text) in
@@ -273,11 +274,14 @@ module _ (is_over commented : Bool) (n : ℕ) (text : List ℕ) (offset lines en
       order = reads.ended;
       within = reads.within;
       each = reads.each;
-    }, the-starts reads)
+    },
+    the-starts reads,
+  )
 
   -- at the text's end
   pub IsAhead-last : Reads is_over commented n text offset lines end opened slots starts → 0 < offset → length text ≤ offset → is_over ≡ true → IsAhead is_over commented n text end offset lines × (starts ≡ starts_of commented 0 n (lines_of (take end text)))
-  IsAhead-last reads some all over = (record {
+  IsAhead-last reads some all over = (
+    record {
       items = λ later most may fits.
           let d = lines_of (take offset text) in
           let split = reads.split later most may fits in
@@ -292,7 +296,9 @@ module _ (is_over commented : Bool) (n : ℕ) (text : List ℕ) (offset lines en
       order = reads.ended;
       within = reads.within;
       each = reads.each;
-    }, the-starts reads)
+    },
+    the-starts reads,
+  )
 
   -- where more is needed
   pub Reads-open : Reads is_over commented n text offset lines end opened slots starts → is_over ≡ false → has_newline (drop offset text) ≡ false → IsOpen commented n text

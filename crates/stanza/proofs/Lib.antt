@@ -12,4 +12,5 @@ pub mod AloneLemmas
 pub mod StreamLemmas
 pub mod AheadLemmas
 pub mod StartsLemmas
+pub mod HeldLemmas
 mod FileRows

@@ -122,7 +122,7 @@ starts-other commented n raw line other = starts-push commented 0 n (lines_of ra
 -- a line that begins one adds it
 pub starts-field : (commented : Bool) (n number : ℕ) (raw line name : List ℕ) → begins_field commented line ≡ true → name ≡ name_of line → number ≡ n + length (lines_of raw) → starts_of commented 0 n (lines_of raw ++ line ∷ []) ≡ starts_of commented 0 n (lines_of raw) ++ record { at = length raw; name_len = length name; line = number } ∷ []
 starts-field commented n number raw line name begins is count =
-        starts-push commented 0 n (lines_of raw) line
+    starts-push commented 0 n (lines_of raw) line
     ∙ ap (λ k. starts_of commented 0 n (lines_of raw) ++ starts_of commented k (n + length (lines_of raw)) (line ∷ [])) (let e : 0 + length (concat (lines_of raw)) ≡ length raw = omega (arith, ap length (concat-lines_of raw)) in e)
     ∙ rw (begins, is, count) refl
 
@@ -133,3 +133,37 @@ none-found commented opened number line found is finds = (subst (FindsName comme
 
 pub name-found : (commented opened : Bool) (number : ℕ) (line : List ℕ) (name : Bor (List ℕ)) (found : Option (Bor (List ℕ))) → found ≡ Some name → FindsName commented opened number line found → IsNameOn commented line name.now
 name-found commented opened number line name found is finds = subst (FindsName commented opened number line) is finds
+
+-- ---- where fields begin there are some
+
+line-some : (line : List ℕ) (rest : List (List ℕ)) → lines_of (line ++ concat rest) ≡ line ∷ rest → 0 < length line
+line-some [] rest e = absurd (go (concat rest) e) where
+  go : (text : List ℕ) → lines_of text ≡ [] ∷ rest → ⊥
+  go [] e = nothing e
+  go (b ∷ bs) e = let head = lines_of-head b bs in filled b head.0 head.1 (sym head.2 ∙ e) where
+    filled : (b : ℕ) (line : List ℕ) (lines : List (List ℕ)) → (b ∷ line) ∷ lines ≡ [] ∷ rest → ⊥
+    filled b line lines e = cc
+line-some (b ∷ bs) rest e = omega arith
+
+within-from : (commented : Bool) (n : ℕ) (front : List ℕ) (lines : List (List ℕ)) → lines_of (concat lines) ≡ lines → AreWithin (front ++ concat lines) (starts_of commented (length front) n lines)
+within-from commented n front [] are = tt
+within-from commented n front (line ∷ lines) are =
+    let same : (front ++ line) ++ concat lines ≡ front ++ (line ++ concat lines) = append_assoc front line (concat lines) in
+    let left = lines-left line lines are in
+    let later : AreWithin (front ++ (line ++ concat lines)) (starts_of commented (length front + length line) (n + 1) lines) =
+    subst (λ raw. AreWithin raw (starts_of commented (length front + length line) (n + 1) lines)) same
+    (subst (λ k. AreWithin ((front ++ line) ++ concat lines) (starts_of commented k (n + 1) lines)) (length-append front line) (within-from commented (n + 1) (front ++ line) lines left)) in
+    let here : field_at (front ++ (line ++ concat lines)) (start_behind front n line) ≡ field_of n line (continued lines) =
+    ap (λ x. first_field n (lines_of x)) (drop_at front (line ++ concat lines) (length front) refl) ∙ ap (first_field n) are in
+    let is : IsWithin (front ++ (line ++ concat lines)) (start_behind front n line) = record {
+      some = omega (arith, line-some line lines are, length-append front (line ++ concat lines), length-append line (concat lines));
+      name = at-behind front line lines n ∙ sym (ap (λ (f : FieldText). f.name) here);
+    } in
+    elim (cases_Bool (begins_field commented line)) [
+      | inl h ↦ rw h (is, later)
+      | inr h ↦ rw h later
+    ]
+
+pub within-at : (commented : Bool) (n : ℕ) (raw : List ℕ) → AreWithin raw (starts_of commented 0 n (lines_of raw))
+within-at commented n raw = subst (λ (text : List ℕ). AreWithin text (starts_of commented 0 n (lines_of raw))) (concat-lines_of raw)
+    (within-from commented n [] (lines_of raw) (ap lines_of (concat-lines_of raw)))

@@ -1,5 +1,5 @@
 -- A text that comes piece by piece: its lines one by one, and what is read of them.
-use Rattle.std.proofs.Common.{◌≡◌, ℕ, suc, zero, ◌+◌, ◌-◌, ◌<◌, ◌≤◌, Bool, true, false, cond, ◌||◌, List, [], ◌∷◌, ◌++◌, length, get_or, take, drop, filter, refl, sym, ap, subst, ◌∙◌, arith, append_assoc, add_assoc, add-zero, ltb, eqb, None, Some, Ok, Err, inl, inr}
+use Rattle.std.proofs.Common.{◌≡◌, ℕ, suc, zero, ◌+◌, ◌-◌, ◌<◌, ◌≤◌, Bool, true, false, cond, ◌||◌, List, [], ◌∷◌, ◌++◌, length, get_or, take, drop, map, filter, refl, sym, ap, subst, ◌∙◌, arith, append_assoc, add_assoc, add-zero, ltb, eqb, Option, Result, None, Some, Ok, Err, inl, inr}
 use Rattle.std.proofs.lemmas.Bool.{false≢true, cases_Bool, cases_lt, lt-ltb, le-ltb, eq-eqb, ne_eqb, eqb-true}
 use Rattle.std.proofs.lemmas.List.{append-nil, take-append-drop, drop-append-le, length-append, length-take-le, length-drop, take_all, drop_all, take_at}
 use Rattle.std.proofs.Math.Seq.{take-append-add}
@@ -10,8 +10,8 @@ use Rattle.stanza.specs.declared.error.ReadError.{ReadError}
 use Rattle.stanza.specs.declared.error.ReadError.TheVariants.{Refused, TooLarge}
 use Rattle.stanza.specs.Line.{lines_of, is_comment, is_separator}
 use Rattle.stanza.specs.Fault.{fault_of, first_fault}
-use Rattle.stanza.specs.Stanza.{StanzaText, stanza_in}
-use Rattle.stanza.specs.Streamed.{EndsLine, MayFollow, has_newline, lines_within, read_parts, read_lines, read_within}
+use Rattle.stanza.specs.Stanza.{StanzaText, stanza_in, before_items, items_of, items_of_parts}
+use Rattle.stanza.specs.Streamed.{EndsLine, EndsRefused, MayFollow, as_read, before_read, has_newline, lines_within, read_parts, read_lines, read_within}
 use Rattle.stanza.proofs.LineLemmas.{lines_of-line, lines_of-last}
 use Rattle.stanza.proofs.FaultLemmas.{first_fault-append, first_fault-comment}
 use Rattle.stanza.proofs.StanzaLemmas.{NoSeparators, split-front, split-some}
@@ -176,3 +176,38 @@ no-line-within rest later none more =
 -- nothing is read of nothing
 pub read-none : (commented : Bool) (n most : ℕ) → read_within commented n most [] ≡ []
 read-none commented n most = rw (le-ltb most 0 (omega arith)) refl
+
+-- ---- the whole text
+
+before-items-read : (fault : Option StanzaError) (stanza : Option StanzaText) (later : List (Result StanzaText StanzaError)) → before_read fault stanza (map as_read later) ≡ map as_read (before_items fault stanza later)
+before-items-read (Some fault) stanza later = refl
+before-items-read None None later = refl
+before-items-read None (Some stanza) later = refl
+
+parts-read : (commented : Bool) (n : ℕ) (parts : List (List (List ℕ))) → read_parts false commented n parts ≡ map as_read (items_of_parts commented n parts)
+parts-read commented n [] = refl
+parts-read commented n (part ∷ []) = before-items-read (first_fault commented [] n part) (stanza_in commented n part) []
+parts-read commented n (part ∷ next ∷ parts) =
+    ap (before_read (first_fault commented [] n part) (stanza_in commented n part)) (parts-read commented (n + length part + 1) (next ∷ parts))
+    ∙ before-items-read (first_fault commented [] n part) (stanza_in commented n part) (items_of_parts commented (n + length part + 1) (next ∷ parts))
+
+pub text-read : (commented : Bool) (text : List ℕ) (most : ℕ) → length text ≤ most → read_within commented 1 most text ≡ map as_read (items_of commented text)
+unfolding items_of
+text-read commented text most fits = rw (le-ltb most (length text) fits) (parts-read commented 1 (slice_split is_separator (lines_of text)))
+
+before-refused : (fault : Option StanzaError) (stanza : Option StanzaText) (later : List (Result StanzaText ReadError)) → EndsRefused later → EndsRefused (before_read fault stanza later)
+before-refused (Some fault) stanza later ends = ([], Refused fault, refl)
+before-refused None None later ends = ends
+before-refused None (Some stanza) later ends = (stanza ∷ ends.0, ends.1, ap (λ x. Ok stanza ∷ x) ends.2)
+
+parts-refused : (commented : Bool) (n : ℕ) (part : List (List ℕ)) (parts : List (List (List ℕ))) → EndsRefused (read_parts true commented n (part ∷ parts))
+parts-refused commented n part [] = before-refused (first_fault commented [] n part) None (Err TooLarge ∷ []) ([], TooLarge, refl)
+parts-refused commented n part (next ∷ parts) =
+    before-refused (first_fault commented [] n part) (stanza_in commented n part) (read_parts true commented (n + length part + 1) (next ∷ parts)) (parts-refused commented (n + length part + 1) next parts)
+
+pub text-refused : (commented : Bool) (text : List ℕ) (most : ℕ) → most < length text → EndsRefused (read_within commented 1 most text)
+text-refused commented text most long =
+    let lines = filter has_newline (lines_of (take most text)) in
+    let some = split-some lines in
+    let first : read_within commented 1 most text ≡ read_parts true commented 1 (some.0 ∷ some.1) = rw (lt-ltb most (length text) long) (ap (read_parts true commented 1) some.2) in
+    subst EndsRefused (sym first) (parts-refused commented 1 some.0 some.1)

@@ -9,4 +9,5 @@ pub mod File
 pub mod Collect
 pub mod Streamed
 pub mod Starts
+pub mod Held
 pub mod Reading

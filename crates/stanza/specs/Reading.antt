@@ -21,3 +21,11 @@ begins commented most = record { commented = commented; number = 1; pending = []
 -- what is still to be answered, where these bytes are left
 abbrev pub to_read : Reading → List ℕ → List (Result StanzaText ReadError)
 to_read reading left = read_within reading.commented reading.number (length reading.pending + reading.room) (reading.pending ++ left)
+
+-- what was answered: the stanza that was reached, or that nothing comes
+abbrev pub Reaches : Option StanzaText → List (Result StanzaText ReadError) → List (Result StanzaText ReadError) → Type 0
+Reaches None items later = (items ≡ []) × (later ≡ [])
+Reaches (Some stanza) items later = items ≡ Ok stanza ∷ later
+
+abbrev pub IsAnswer : Reading → Reading → List ℕ → List ℕ → Type 0
+IsAnswer old new left more = Reaches new.stanza (to_read old left) (to_read new more)

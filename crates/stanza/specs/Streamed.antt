@@ -1,14 +1,17 @@
 -- What is read of a text that comes piece by piece. Of a text that is longer than may be read its stanzas are read as far
 -- as the line behind them is read too, and then it is too large (that limit is this project's own).
-use Rattle.std.specs.Prelude.{◌≡◌, ℕ, ◌+◌, ◌-◌, ◌<◌, ◌≤◌, Bool, true, false, List, [], ◌∷◌, ◌++◌, ◌==◌, ◌||◌, length, take, drop, filter, nat_lt, Option, None, Some, Result, Ok, Err, if◌then◌else◌}
+use Rattle.std.specs.Prelude.{◌≡◌, ℕ, ◌+◌, ◌-◌, ◌<◌, ◌≤◌, Bool, true, false, List, [], ◌∷◌, ◌++◌, ◌==◌, ◌||◌, length, take, drop, map, filter, nat_lt, Option, None, Some, Result, Ok, Err, if◌then◌else◌}
 use Rattle.std.specs.List.{list_any, slice_split}
 use Rattle.stanza.specs.declared.error.StanzaError.{StanzaError}
 use Rattle.stanza.specs.declared.error.ReadError.{ReadError}
 use Rattle.stanza.specs.declared.error.ReadError.TheVariants.{Refused, TooLarge}
+use Rattle.stanza.specs.declared.ahead.Ahead.{Ahead}
 use Rattle.stanza.specs.declared.lines.TheConstants.{NEWLINE}
+use Rattle.stanza.specs.declared.starts.Start.{Start}
 use Rattle.stanza.specs.Line.{lines_of, is_comment, is_separator, IsWhole}
 use Rattle.stanza.specs.Fault.{first_fault}
 use Rattle.stanza.specs.Stanza.{StanzaText, stanza_of, stanza_in}
+use Rattle.stanza.specs.Starts.{starts_of}
 
 -- a line that has its newline
 abbrev pub has_newline : List ℕ → Bool
@@ -90,3 +93,18 @@ IsDone commented n text = (most : ℕ) → read_within commented n most text ≡
 abbrev pub BeginsAhead : Bool → Bool → List ℕ → Type 0
 BeginsAhead is_over commented text =
     (len : ℕ) → EndsLine is_over text len → (is_comment commented (take len text) || is_separator (take len text)) ≡ false
+
+-- what is found at the front: where a stanza ends and where its fields begin, or that more is needed
+abbrev pub FindsAhead : Bool → Bool → ℕ → List ℕ → List Start → Option Ahead → Type 0
+FindsAhead is_over commented n text starts None = (is_over ≡ false) × IsOpen commented n text
+FindsAhead is_over commented n text starts (Some ahead) =
+    IsAhead is_over commented n text ahead.end ahead.len ahead.lines × (starts ≡ starts_of commented 0 n (lines_of (take ahead.end text)))
+
+-- an item of a text as it is read
+abbrev pub as_read : Result StanzaText StanzaError → Result StanzaText ReadError
+as_read (Ok stanza) = Ok stanza
+as_read (Err fault) = Err (Refused fault)
+
+-- some stanzas, and then a refusal
+abbrev pub EndsRefused : List (Result StanzaText ReadError) → Type 0
+EndsRefused items = (stanzas : List StanzaText) × (error : ReadError) × (items ≡ map Ok stanzas ++ Err error ∷ [])

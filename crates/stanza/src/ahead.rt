@@ -6,7 +6,7 @@ ghost use Rattle.stanza.specs.Field.{names_of, name_of, same_name};
 ghost use Rattle.stanza.specs.Fault.{is_open, is_repeated, fault_of};
 ghost use Rattle.stanza.specs.Seen.{AreSeen};
 ghost use Rattle.stanza.specs.Starts.{name_at, starts_of};
-ghost use Rattle.stanza.specs.Streamed.{BeginsAhead, EndsLine, IsAhead, IsFaulty, IsOpen, SkipsAhead, has_newline};
+ghost use Rattle.stanza.specs.Streamed.{BeginsAhead, EndsLine, FindsAhead, IsFaulty, SkipsAhead, has_newline};
 ghost use Rattle.stanza.specs.declared.error.ReadError.TheVariants as read_error;
 
 use crate::error::{ReadError, StanzaError};
@@ -35,13 +35,7 @@ pub fn whole_line(text: &[u8], is_over: bool) -> Option<usize>
 {
     match memchr(NEWLINE, text) {
         Some(at) => Some(at + 1),
-        None => {
-            if is_over {
-                Some(text.len())
-            } else {
-                None
-            }
-        }
+        None => { if is_over { Some(text.len()) } else { None } }
     }
 }
 
@@ -77,9 +71,7 @@ pub fn gap_ahead(commented: bool, text: &[u8], is_over: bool) -> (usize, usize)
 fn has_name(done: &[u8], starts: &[Start], name: &[u8]) -> bool
     ensures { result ≡ list_any (λ start. same_name (name_at done.now start) name.now) starts.now }
 {
-    starts
-        .iter()
-        .any(|start| same_name(part(done, start.at, start.name_len), name))
+    starts.iter().any(|start| same_name(part(done, start.at, start.name_len), name))
 }
 
 // Whether a field before has the name, which may stand but once: where its slot is free, none has.
@@ -141,10 +133,7 @@ pub fn stanza_ahead(
     requires some { 0 < length text.now }
     requires begins { BeginsAhead is_over commented text.now }
     requires fits { before + length text.now < 2 ^ 64 }
-    ensures found { IfOk result (λ found. MatchOption found
-        ((is_over ≡ false) × IsOpen commented (before + 1) text.now)
-        (λ ahead. IsAhead is_over commented (before + 1) text.now ahead.end ahead.len ahead.lines
-        × (starts.new.items ≡ starts_of commented 0 (before + 1) (lines_of (take ahead.end text.now))))) }
+    ensures found { IfOk result (λ found. FindsAhead is_over commented (before + 1) text.now starts.new.items found) }
     ensures fault { IfErr result (λ e. (e ≡ read_error.OutOfMemory)
         ⊎ ((fault : _) × (e ≡ read_error.Refused fault) × IsFaulty is_over commented (before + 1) text.now fault)) }
 {
@@ -167,7 +156,15 @@ pub fn stanza_ahead(
                 lines,
             }));
         }
-        take_line(commented, done, opened, before + lines + 1, line, &mut seen, starts)?;
+        take_line(
+            commented,
+            done,
+            opened,
+            before + lines + 1,
+            line,
+            &mut seen,
+            starts,
+        )?;
         offset += len;
         lines += 1;
         opened = !is_comment(commented, line);

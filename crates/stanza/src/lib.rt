@@ -8,6 +8,7 @@ mod ahead;
 mod entries;
 mod error;
 mod front;
+mod held;
 pub mod laws;
 mod lines;
 mod names;

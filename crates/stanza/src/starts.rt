@@ -150,7 +150,12 @@ impl<'a> Model for ReadStanza<'a> {
 impl<'a> ReadStanza<'a> {
     // The stanza of these bytes, whose first line has this number, with where its fields begin.
     #[inline]
-    pub(crate) fn new(commented: bool, line: usize, raw: &'a [u8], starts: &'a [Start]) -> ReadStanza<'a>
+    pub(crate) fn new(
+        commented: bool,
+        line: usize,
+        raw: &'a [u8],
+        starts: &'a [Start],
+    ) -> ReadStanza<'a>
         requires some { 0 < length raw.now }
         requires starts { starts.now ≡ starts_of commented 0 line (lines_of raw.now) }
         ensures { result ≡ stanza_of commented line (lines_of raw.now) }

@@ -14,9 +14,11 @@ use Rattle.stanza.proofs.ahead.stanza_ahead.Goals as goal
 
 pub returns-in_default-clause-found : goal.returns-in_default-clause-found
 returns-in_default-clause-found c =
-    let w = c.loop-offset in
-    (c.in_default.ensures.0, Reads-open c.args.is_over c.args.commented (c.args.before + 1) c.args.text.now w.offset w.lines w.end w.opened w.seen.slots w.starts.items
-    w.invariant c.in_default.ensures.0 (ap has_newline (sym c.split_at.ensures.back) ∙ c.in_default.ensures.1))
+    let w = c.loop-offset in (
+      c.in_default.ensures.0,
+      Reads-open c.args.is_over c.args.commented (c.args.before + 1) c.args.text.now w.offset w.lines w.end w.opened w.seen.slots w.starts.items
+          w.invariant c.in_default.ensures.0 (ap has_newline (sym c.split_at.ensures.back) ∙ c.in_default.ensures.1),
+    )
 
 pub returns-then-is_separator-clause-found : goal.returns-then-is_separator-clause-found
 returns-then-is_separator-clause-found c =
@@ -40,11 +42,15 @@ returns-in_err-take_line-clause-fault c =
     let p = err_from_is_err_and c.from_residual.result c.from_residual.ensures.1 in
     rw (p.1, p.2) (elim c.in_err-take_line.ensures.fault [
       | inl memory ↦ inl memory
-      | inr f ↦ inr (f.0, f.1, Reads-fault c.args.is_over c.args.commented (c.args.before + 1) text w.offset w.lines w.end w.opened w.seen.slots w.starts.items len f.0 w.invariant ends
-          (ap is_separator (sym is-line) ∙ sym c.if-is_separator.ensures)
-          (ap (λ (d : List ℕ). fault_of c.args.commented (lines_of d) (c.args.before + 1 + w.lines) (take len (drop w.offset text))) (sym c.split_at.ensures.front)
-          ∙ ap (λ (k : ℕ). fault_of c.args.commented (lines_of c.split_at.result.0.now) k (take len (drop w.offset text))) (sym number)
-          ∙ ap (fault_of c.args.commented (lines_of c.split_at.result.0.now) (c.args.before + w.lines + 1)) (sym is-line) ∙ f.2))
+      | inr f ↦ inr (
+        f.0,
+        f.1,
+        Reads-fault c.args.is_over c.args.commented (c.args.before + 1) text w.offset w.lines w.end w.opened w.seen.slots w.starts.items len f.0 w.invariant ends
+            (ap is_separator (sym is-line) ∙ sym c.if-is_separator.ensures)
+            (ap (λ (d : List ℕ). fault_of c.args.commented (lines_of d) (c.args.before + 1 + w.lines) (take len (drop w.offset text))) (sym c.split_at.ensures.front)
+            ∙ ap (λ (k : ℕ). fault_of c.args.commented (lines_of c.split_at.result.0.now) k (take len (drop w.offset text))) (sym number)
+            ∙ ap (fault_of c.args.commented (lines_of c.split_at.result.0.now) (c.args.before + w.lines + 1)) (sym is-line) ∙ f.2),
+      )
     ])
 
 pub loop-offset-preserved : goal.loop-offset-preserved
@@ -78,6 +84,8 @@ returns-then-is_over-clause-found c =
 
 pub returns-else-is_over-clause-found : goal.returns-else-is_over-clause-found
 returns-else-is_over-clause-found c =
-    let w = c.loop-offset in
-    (c.if-is_over.false, Reads-open c.args.is_over c.args.commented (c.args.before + 1) c.args.text.now w.offset w.lines w.end w.opened w.seen.slots w.starts.items
-    w.invariant c.if-is_over.false (ap has_newline (drop_all w.offset c.args.text.now c.loop-offset-test.false)))
+    let w = c.loop-offset in (
+      c.if-is_over.false,
+      Reads-open c.args.is_over c.args.commented (c.args.before + 1) c.args.text.now w.offset w.lines w.end w.opened w.seen.slots w.starts.items
+          w.invariant c.if-is_over.false (ap has_newline (drop_all w.offset c.args.text.now c.loop-offset-test.false)),
+    )

@@ -1,0 +1,137 @@
+-- Bytes that are held while a text is read: more of them, and stanzas cut out of them.
+use Rattle.std.proofs.Common.{◌≡◌, ℕ, ◌+◌, ◌-◌, ◌<◌, ◌≤◌, Bool, true, false, List, [], ◌∷◌, ◌++◌, length, take, drop, refl, sym, ap, subst, ◌∙◌, arith, append_assoc, Option, None, Some, Ok, Err}
+use Rattle.std.proofs.lemmas.List.{append-nil, drop-append-le, drop-drop, length-append, length-drop, length-take}
+use Rattle.std.proofs.lemmas.Bool.{lt-ltb}
+use Rattle.std.specs.Io.KnownBytes.{Consumes}
+use Rattle.stanza.specs.declared.error.ReadError.TheVariants.{TooLarge}
+use Rattle.stanza.specs.declared.ahead.Ahead.{Ahead}
+use Rattle.stanza.specs.declared.held.Held.{Held}
+use Rattle.stanza.specs.declared.held.Cut.{Cut}
+use Rattle.stanza.specs.declared.held.Cut.TheVariants as cut
+use Rattle.stanza.specs.declared.starts.Start.{Start}
+use Rattle.stanza.specs.Starts.{starts_of}
+use Rattle.stanza.specs.Line.{lines_of}
+use Rattle.stanza.specs.Stanza.{stanza_of}
+use Rattle.stanza.specs.Streamed.{FindsAhead, IsAhead, IsOpen, MayFollow, SkipsAhead, read_within}
+use Rattle.stanza.specs.Held.{FillsWith, GivesStanza, IsCut, IsHeld, NeedsMore, pending_of, read_of}
+
+somes : {a b : List ℕ} → (let x : Option (List ℕ) = Some a in x) ≡ Some b → a ≡ b
+somes e = cc
+
+-- what a source had and has left, where it is known, is what was held and what is held before it
+abbrev pub Fills : Option (List ℕ) → Option (List ℕ) → Held → Held → Type 0
+Fills known now old held = (left : List ℕ) → known ≡ Some left → (more : List ℕ) × (now ≡ Some more) × FillsWith old held left more
+
+consumed : (more block : List ℕ) (after : Option (List ℕ)) → Consumes (Some more) after block → (rest : List ℕ) × (after ≡ Some rest) × (more ≡ block ++ rest)
+consumed more block None taken = absurd taken
+consumed more block (Some rest) taken = (rest, refl, taken)
+
+-- one more block
+pub Fills-more : (old held new : Held) (known before after : Option (List ℕ)) (block : List ℕ) → IsHeld held → Fills known before old held → Consumes before after block
+    → new.bytes.items ≡ held.bytes.items ++ block → new.begin ≡ held.begin → new.before ≡ held.before → new.room + length block ≡ held.room → Fills known after old new
+Fills-more old held new known before after block is fills taken bytes begin lines room = λ left e.
+    let f = fills left e in
+    let t = consumed f.0 block after (subst (λ o. Consumes o after block) f.1 taken) in
+    let pending : pending_of new ≡ pending_of held ++ block = ap (λ k. drop k new.bytes.items) begin ∙ ap (drop held.begin) bytes ∙ drop-append-le held.begin held.bytes.items block is.within in (
+      t.0,
+      t.1,
+      record {
+        text = f.2.text ∙ ap (λ x. pending_of held ++ x) t.2 ∙ sym (append_assoc (pending_of held) block t.0) ∙ ap (λ x. x ++ t.0) (sym pending);
+        most = f.2.most ∙ omega (arith, room, ap length pending, length-append (pending_of held) block);
+        before = f.2.before ∙ sym lines;
+      },
+    )
+
+pub IsHeld-more : (held new : Held) (block : List ℕ) → IsHeld held → new.bytes.items ≡ held.bytes.items ++ block → new.begin ≡ held.begin → new.before ≡ held.before → new.room + length block ≡ held.room → IsHeld new
+IsHeld-more held new block is bytes begin lines room = record {
+  within = omega (arith, is.within, begin, ap length bytes, length-append held.bytes.items block);
+  fits = omega (arith, is.within, is.fits, begin, lines, room, ap length bytes, length-append held.bytes.items block);
+}
+
+-- ---- bytes that are answered
+
+-- what is still to be answered, by the bytes that are pending and how many may be read in all
+pub read-moved : (commented : Bool) (n len lines room : ℕ) (text left : List ℕ) → len ≤ length text → read_within commented (n + lines) (length text + room - len) (drop len text ++ left) ≡ read_within commented (n + lines) (length (drop len text) + room) (drop len text ++ left)
+read-moved commented n len lines room text left within =
+    ap (λ k. read_within commented (n + lines) k (drop len text ++ left)) (let e : length text + room - len ≡ length (drop len text) + room = omega (arith, within, length-drop len text) in e)
+
+-- what is held once so many bytes, of so many lines, are answered
+pub record Moves (old new : Held) (len lines : ℕ) : Type 0 where
+  pub bytes : new.bytes.items ≡ old.bytes.items
+  pub begin : new.begin ≡ old.begin + len
+  pub before : new.before ≡ old.before + lines
+  pub room : new.room ≡ old.room
+
+-- so many bytes, of so many lines, are answered
+abbrev pub moved : Held → ℕ → ℕ → Held
+moved held len lines = record held { begin = held.begin + len; before = held.before + lines }
+
+module _ (old new : Held) (len lines : ℕ) where
+  pub pending-moved : Moves old new len lines → pending_of new ≡ drop len (pending_of old)
+  pending-moved moves = ap (λ k. drop k new.bytes.items) moves.begin ∙ ap (drop (old.begin + len)) moves.bytes ∙ sym (drop-drop len old.begin old.bytes.items)
+
+  pub IsHeld-moved : Moves old new len lines → IsHeld old → len ≤ length (pending_of old) → lines ≤ len → IsHeld new
+  IsHeld-moved moves is within each = record {
+    within = omega (arith, moves.begin, ap length moves.bytes, within, is.within, length-drop old.begin old.bytes.items);
+    fits = omega (arith, moves.begin, moves.before, moves.room, ap length moves.bytes, within, each, is.within, is.fits, length-drop old.begin old.bytes.items);
+  }
+
+  -- what is still to be answered
+  pub read-of-moved : (commented : Bool) (left : List ℕ) → Moves old new len lines → len ≤ length (pending_of old)
+      → read_within commented (old.before + 1 + lines) (length (pending_of old) + old.room - len) (drop len (pending_of old) ++ left) ≡ read_of commented new left
+  read-of-moved commented left moves within =
+      let number : old.before + 1 + lines ≡ new.before + 1 = omega (arith, moves.before) in
+      read-moved commented (old.before + 1) len lines old.room (pending_of old) left within
+      ∙ ap (λ k. read_within commented k (length (drop len (pending_of old)) + old.room) (drop len (pending_of old) ++ left)) number
+      ∙ ap (λ x. read_within commented (new.before + 1) (length x + old.room) (x ++ left)) (sym (pending-moved moves))
+      ∙ ap (λ k. read_within commented (new.before + 1) (length (pending_of new) + k) (pending_of new ++ left)) (sym moves.room)
+
+  -- past a gap
+  pub gap-moved : (is_over commented : Bool) (left : List ℕ) → Moves old new len lines → SkipsAhead is_over commented (old.before + 1) (pending_of old) len lines → MayFollow is_over left → read_of commented old left ≡ read_of commented new left
+  gap-moved is_over commented left moves skips may =
+      skips.items left (length (pending_of old) + old.room) may (omega arith) ∙ read-of-moved commented left moves skips.within
+
+  -- past a stanza
+  pub stanza-moved : (is_over commented : Bool) (end : ℕ) (left : List ℕ) → Moves old new len lines → IsAhead is_over commented (old.before + 1) (pending_of old) end len lines → MayFollow is_over left
+      → read_of commented old left ≡ Ok (stanza_of commented (old.before + 1) (lines_of (take end (pending_of old)))) ∷ read_of commented new left
+  stanza-moved is_over commented end left moves ahead may =
+      ahead.items left (length (pending_of old) + old.room) may (omega arith)
+      ∙ ap (λ x. Ok (stanza_of commented (old.before + 1) (lines_of (take end (pending_of old)))) ∷ x) (read-of-moved commented left moves ahead.within)
+
+-- where no more may be read
+pub large-held : (commented : Bool) (held : Held) (left : List ℕ) → IsOpen commented (held.before + 1) (pending_of held) → 0 < length left → held.room ≡ 0 → read_of commented held left ≡ Err TooLarge ∷ []
+large-held commented held left opens follows none =
+    ap (λ k. read_within commented (held.before + 1) k (pending_of held ++ left)) (let e : length (pending_of held) + held.room ≡ length (pending_of held) = omega (arith, none) in e) ∙ opens left follows
+
+pub IsOpen-none : (commented : Bool) (n : ℕ) → IsOpen commented n []
+IsOpen-none commented n later follows =
+    rw (lt-ltb 0 (length later) follows) refl
+
+-- a stanza that is found behind a gap
+pub stanza-gives : (old held new : Held) (ahead : Ahead) (found : Option Ahead) (starts : List Start) (is_over commented : Bool) → found ≡ Some ahead
+    → FindsAhead is_over commented (held.before + 1) (pending_of held) starts found
+    → ((left : List ℕ) → MayFollow is_over left → read_of commented old left ≡ read_of commented held left) → Moves held new ahead.len ahead.lines
+    → GivesStanza is_over commented old new starts (record { from = held.begin; len = ahead.end; line = held.before + 1 })
+stanza-gives old held new ahead found starts is_over commented is finds gap moves =
+    let f = subst (FindsAhead is_over commented (held.before + 1) (pending_of held) starts) is finds in
+    let raw : take ahead.end (pending_of held) ≡ take ahead.end (drop held.begin new.bytes.items) = ap (λ b. take ahead.end (drop held.begin b)) (sym moves.bytes) in
+    record {
+      placed = record {
+        some = omega (arith, f.0.some, f.0.order, f.0.within, ap length raw, length-take ahead.end (pending_of held));
+        starts_are = f.1 ∙ ap (λ x. starts_of commented 0 (held.before + 1) (lines_of x)) raw;
+      };
+      read = λ left may. gap left may ∙ stanza-moved held new ahead.len ahead.lines is_over commented ahead.end left moves f.0 may
+          ∙ ap (λ x. Ok (stanza_of commented (held.before + 1) (lines_of x)) ∷ read_of commented new left) raw;
+    }
+
+-- ---- reading on
+
+-- the same is still to be answered once more is held
+pub filled-read : (commented : Bool) (old new : Held) (left more : List ℕ) → FillsWith old new left more → read_of commented old left ≡ read_of commented new more
+filled-read commented old new left more fills =
+    ap (λ k. read_within commented (k + 1) (length (pending_of old) + old.room) (pending_of old ++ left)) fills.before
+    ∙ ap (λ k. read_within commented (new.before + 1) k (pending_of old ++ left)) fills.most
+    ∙ ap (λ x. read_within commented (new.before + 1) (length (pending_of new) + new.room) x) fills.text
+
+pub needs-more : (is_over commented : Bool) (old new : Held) (starts : List Start) (found : Cut) → found ≡ cut.More → IsCut is_over commented old new starts found → NeedsMore is_over commented old new
+needs-more is_over commented old new starts found is finds = subst (IsCut is_over commented old new starts) is finds

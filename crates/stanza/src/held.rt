@@ -1,0 +1,175 @@
+//! The bytes of a text that were read and wait to be cut into stanzas.
+ghost use Rattle.std.specs.Prelude.{◌≡◌, ◌<◌, ◌≤◌, ◌⊎◌, ◌≢◌, ◌+◌, ◌++◌, ◌∷◌, [], ℕ, Bool, true, false, List, length, min, ◌^◌, ◌-◌, take, IfErr, IfOk, OnOk, MatchResult, Err, None, Ok, Some};
+ghost use Rattle.std.specs.Io.KnownBytes.{Consumes, IsAtEnd};
+ghost use Rattle.stanza.specs.Held.{FillsWith, IsCut, IsHeld, IsRefused, pending_of, read_of};
+ghost use Rattle.stanza.specs.Streamed.{BeginsAhead, MayFollow};
+ghost use Rattle.stanza.specs.declared.error.ReadError.TheVariants as read_error;
+
+use crate::ahead::{gap_ahead, stanza_ahead};
+use crate::error::ReadError;
+use crate::source::Source;
+use crate::starts::Start;
+use std::alloc::{AllocError, Global};
+
+/// The bytes, where those begin that aren't answered yet, how many lines stand before these, and how many bytes may still be read.
+#[derive(Drop)]
+pub struct Held {
+    pub bytes: Vec<u8>,
+    pub begin: usize,
+    pub before: usize,
+    pub room: usize,
+}
+
+/// Where a stanza stands in the bytes that are held, how long it is, and the number of its first line.
+#[derive(Clone, Copy, Drop)]
+pub struct Place {
+    pub from: usize,
+    pub len: usize,
+    pub line: usize,
+}
+
+/// What is found in the bytes that are held.
+#[derive(Drop)]
+pub enum Cut {
+    /// A stanza.
+    Stanza(Place),
+    /// Nothing, and nothing comes.
+    Nothing,
+    /// Bytes of which more is needed.
+    More,
+}
+
+// Reads some of so many bytes, and answers how many: none at the end of the text alone.
+fn read_some<S: Source>(source: &mut S, block: &mut [u8], room: usize) -> Result<usize, ReadError>
+    requires { 0 < length block.old }
+    ensures bytes { IfOk result (λ count. (count ≤ length block.new) × (count ≤ room) × Consumes (S.left source.old) (S.left source.new) (take count block.new)) }
+    ensures size { length block.new ≡ length block.old }
+    ensures end { IfOk result (λ count. count ≡ 0 → IsAtEnd (S.left source.new)) }
+    ensures large { (left : List ℕ) → S.left source.old ≡ Some left → IfErr result (λ e. (e ≡ read_error.TooLarge) × (room ≡ 0) × (0 < length left)) }
+    ensures sure { S.is_sure source.old ≡ true → (S.is_sure source.new ≡ true) × IfErr result (λ e. e ≡ read_error.TooLarge) }
+    ensures count { IfOk result (λ _. S.faults source.new ≡ S.faults source.old) }
+    ensures failed { IfErr result (λ e. ((e ≡ read_error.TooLarge) × (S.faults source.new ≡ S.faults source.old))
+        ⊎ ((e ≡ read_error.Read) × (S.faults source.new ≡ min (S.faults source.old + 1) (2 ^ 64 - 1)))) }
+{
+    let most = block.len().min(room.max(1));
+    let count = source.read(block.split_at_mut(most).0)?;
+    if count > room {
+        return Err(ReadError::TooLarge);
+    }
+    Ok(count)
+}
+
+impl Held {
+    /// Nothing is held, and so many bytes may be read.
+    pub fn new(alloc: Global, most: usize) -> Held
+        ensures bytes { result.bytes.items ≡ [] }
+        ensures rest { (result.begin ≡ 0) × (result.before ≡ 0) × (result.room ≡ most) }
+    {
+        Held {
+            bytes: Vec::new(alloc),
+            begin: 0,
+            before: 0,
+            room: most,
+        }
+    }
+
+    // Lets go of the bytes that are answered.
+    fn let_go(&mut self) -> Result<(), AllocError>
+        requires { IsHeld self.old }
+        ensures bytes { OnOk result (self.new.bytes.items ≡ pending_of self.old) }
+        ensures rest { OnOk result ((self.new.begin ≡ 0) × (self.new.before ≡ self.old.before) × (self.new.room ≡ self.old.room)) }
+    {
+        let pending = self.bytes.split_off(self.begin)?;
+        self.bytes = pending;
+        self.begin = 0;
+        Ok(())
+    }
+
+    // Holds some more bytes.
+    fn add(&mut self, block: &[u8]) -> Result<(), AllocError>
+        requires { length block.now ≤ self.old.room }
+        ensures bytes { OnOk result (self.new.bytes.items ≡ self.old.bytes.items ++ block.now) }
+        ensures rest { OnOk result ((self.new.begin ≡ self.old.begin) × (self.new.before ≡ self.old.before) × (self.new.room + length block.now ≡ self.old.room)) }
+    {
+        self.bytes.extend_from_slice(block)?;
+        self.room -= block.len();
+        Ok(())
+    }
+
+    /// Reads as many bytes as are pending, or a block if that is more, and answers whether the text is over.
+    pub fn fill<S: Source>(&mut self, source: &mut S, block: &mut [u8]) -> Result<bool, ReadError>
+        requires held { IsHeld self.old }
+        requires some { 0 < length block.old }
+        ensures held { OnOk result (IsHeld self.new) }
+        ensures size { length block.new ≡ length block.old }
+        ensures filled { (left : List ℕ) → S.left source.old ≡ Some left → IfOk result (λ is_over.
+            (more : List ℕ) × (S.left source.new ≡ Some more) × FillsWith self.old self.new left more × MayFollow is_over more) }
+        ensures less { IfOk result (λ is_over. (self.new.room ≤ self.old.room) × (is_over ≡ false → self.new.room < self.old.room)) }
+        ensures large { (left : List ℕ) → S.left source.old ≡ Some left → IfErr result (λ e. (e ≡ read_error.OutOfMemory)
+            ⊎ ((e ≡ read_error.TooLarge) × (self.old.room ≡ 0) × (0 < length left))) }
+        ensures sure { S.is_sure source.old ≡ true → OnOk result (S.is_sure source.new ≡ true) × IfErr result (λ e. e ≢ read_error.Read) }
+        ensures count { OnOk result (S.faults source.new ≡ S.faults source.old) }
+        ensures failed { IfErr result (λ e. e ≡ read_error.Read → S.faults source.new ≡ min (S.faults source.old + 1) (2 ^ 64 - 1)) }
+    {
+        self.let_go()?;
+        let wanted = self.bytes.len().max(block.len());
+        let mut added = 0;
+        while added < wanted {
+            if added > 0 && self.room == 0 {
+                return Ok(false);
+            }
+            let count = read_some(source, block, self.room)?;
+            if count == 0 {
+                return Ok(true);
+            }
+            self.add(block.split_at(count).0)?;
+            added += count;
+        }
+        Ok(false)
+    }
+
+    // Goes past what stands before the next stanza.
+    fn skip_gap(&mut self, commented: bool, is_over: bool)
+        requires { IsHeld self.old }
+        ensures held { IsHeld self.new }
+        ensures bytes { (self.new.bytes.items ≡ self.old.bytes.items) × (self.new.room ≡ self.old.room) }
+        ensures read { (left : List ℕ) → MayFollow is_over left → read_of commented self.old left ≡ read_of commented self.new left }
+        ensures begins { BeginsAhead is_over commented (pending_of self.new) }
+    {
+        let (len, lines) = gap_ahead(commented, self.bytes.split_at(self.begin).1, is_over);
+        self.begin += len;
+        self.before += lines;
+    }
+
+    /// Cuts the next stanza out of what is held, and notes where its fields begin.
+    pub fn cut(
+        &mut self,
+        commented: bool,
+        is_over: bool,
+        starts: &mut Vec<Start>,
+    ) -> Result<Cut, ReadError>
+        requires { IsHeld self.old }
+        ensures held { IsHeld self.new }
+        ensures room { self.new.room ≡ self.old.room }
+        ensures found { IfOk result (λ cut. IsCut is_over commented self.old self.new starts.new.items cut) }
+        ensures fault { IfErr result (λ e. (e ≡ read_error.OutOfMemory)
+            ⊎ ((fault : _) × (e ≡ read_error.Refused fault) × IsRefused is_over commented self.old fault)) }
+    {
+        self.skip_gap(commented, is_over);
+        let text = self.bytes.split_at(self.begin).1;
+        if text.is_empty() {
+            return Ok(if is_over { Cut::Nothing } else { Cut::More });
+        }
+        let Some(ahead) = stanza_ahead(commented, self.before, text, is_over, starts)? else {
+            return Ok(Cut::More);
+        };
+        let place = Place {
+            from: self.begin,
+            len: ahead.end,
+            line: self.before + 1,
+        };
+        self.begin += ahead.len;
+        self.before += ahead.lines;
+        Ok(Cut::Stanza(place))
+    }
+}
