@@ -2,7 +2,7 @@
 ghost use Rattle.std.specs.Prelude.{◌≡◌, ◌≢◌, ◌<◌, ◌≤◌, ◌⊎◌, ◌+◌, ◌-◌, ◌^◌, ◌∷◌, [], ℕ, Bool, false, true, List, length, min, IfErr, IfOk, IfSome, OnOk, Err, None, Ok, Option, Some};
 ghost use Rattle.std.specs.Option.{is_some};
 ghost use Rattle.stanza.specs.Held.{Finds, IsHeld, IsPlaced, read_of, total_of};
-ghost use Rattle.stanza.specs.Reading.{Reading, IsAnswer, begins, to_read};
+ghost use Rattle.stanza.specs.Reading.{GoesOn, Reading, begins, to_read};
 ghost use Rattle.stanza.specs.declared.error.ReadError.TheVariants as read_error;
 
 use crate::error::ReadError;
@@ -117,7 +117,7 @@ impl Reader {
         ensures some { IfOk result (λ found. found ≡ is_some self.new.stanza) }
         ensures less { IfOk result (λ found. found ≡ true → length self.new.pending + self.new.room < length self.old.pending + self.old.room) }
         ensures known { (left : List ℕ) → S.left source.old ≡ Some left → IfOk result (λ _.
-            (more : List ℕ) × (S.left source.new ≡ Some more) × IsAnswer self.old self.new left more) }
+            (more : List ℕ) × (S.left source.new ≡ Some more) × GoesOn self.old self.new left more) }
         ensures refused { (left : List ℕ) → S.left source.old ≡ Some left → self.old.failed ≡ None → IfErr result (λ e. (e ≡ read_error.OutOfMemory)
             ⊎ (to_read self.old left ≡ Err e ∷ [])) }
         ensures kept { IfErr result (λ e. self.new.failed ≡ Some e) }
