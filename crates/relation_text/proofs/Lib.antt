@@ -2,3 +2,8 @@ pub mod Excess
 pub mod ShapeLemmas
 pub mod Parts
 pub mod FirstStop
+pub mod Runs
+pub mod AtomText
+pub mod AtomParse
+pub mod AtomValue
+pub mod AtomSpelling

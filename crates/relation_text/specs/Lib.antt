@@ -1,5 +1,6 @@
 pub mod Bytes
 pub mod Cut
+pub mod Grammar
 pub mod Place
 pub mod Refusal
 pub mod Shape
