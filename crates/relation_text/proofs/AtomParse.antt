@@ -74,12 +74,12 @@ after_version_rest form (b ∷ bytes) e part = elim (cases_Bool (is_white b)) [
       }
   | inr other ↦ elim (cases_Bool (is_closing b)) [
     | inl closing ↦ record {
-        before = [];
-        behind = bytes;
-        text_is = ap (λ (c : ℕ). c ∷ bytes) (eqb-true b 41 closing);
-        before_is = refl;
-        behind_is = closed_rest form bytes (rw (other, closing) at e) (part_rest form b bytes part);
-      }
+      before = [];
+      behind = bytes;
+      text_is = ap (λ (c : ℕ). c ∷ bytes) (eqb-true b 41 closing);
+      before_is = refl;
+      behind_is = closed_rest form bytes (rw (other, closing) at e) (part_rest form b bytes part);
+    }
     | inr no_closing ↦ absurd (no_end form (after_version b) bytes (rw (other, no_closing) refl) e)
   ]
 ]
@@ -97,12 +97,12 @@ in_version_rest form (b ∷ bytes) e part = elim (cases_Bool (is_version_byte b)
         closing_is = later.closing_is;
       }
   | inr other ↦ record {
-      version = [];
-      closing = b ∷ bytes;
-      text_is = refl;
-      version_is = refl;
-      closing_is = after_version_rest form (b ∷ bytes) (rw other at e) part;
-    }
+    version = [];
+    closing = b ∷ bytes;
+    text_is = refl;
+    version_is = refl;
+    closing_is = after_version_rest form (b ∷ bytes) (rw other at e) part;
+  }
 ]
 
 -- In a restriction
@@ -157,22 +157,22 @@ record IsSecond (second : ℕ) (text : List ℕ) : Type 0 where
 in_operator_rest : (form : Form) (second b : ℕ) (bytes : List ℕ) → Ends form (next_in_operator second b) bytes → IsOnePart form (b ∷ bytes) → IsSecond second (b ∷ bytes)
 in_operator_rest form second b bytes e part = elim (cases_Bool (b == second || is_equals b)) [
   | inl more ↦ record {
-      operator = b ∷ [];
-      rest = bytes;
-      text_is = refl;
-      operator_is = elim (or_cases (b == second) (is_equals b) more) [
-        | inl same ↦ inl (ap (λ (c : ℕ). c ∷ []) (eqb-true b second same))
-        | inr equals ↦ inr (inl (ap (λ (c : ℕ). c ∷ []) (eqb-true b 61 equals)))
-      ];
-      rest_is = before_version_rest form bytes (rw more at e) (part_rest form b bytes part);
-    }
+    operator = b ∷ [];
+    rest = bytes;
+    text_is = refl;
+    operator_is = elim (or_cases (b == second) (is_equals b) more) [
+      | inl same ↦ inl (ap (λ (c : ℕ). c ∷ []) (eqb-true b second same))
+      | inr equals ↦ inr (inl (ap (λ (c : ℕ). c ∷ []) (eqb-true b 61 equals)))
+    ];
+    rest_is = before_version_rest form bytes (rw more at e) (part_rest form b bytes part);
+  }
   | inr other ↦ record {
-      operator = [];
-      rest = b ∷ bytes;
-      text_is = refl;
-      operator_is = inr (inr refl);
-      rest_is = before_version_rest form (b ∷ bytes) (rw other at e) part;
-    }
+    operator = [];
+    rest = b ∷ bytes;
+    text_is = refl;
+    operator_is = inr (inr refl);
+    rest_is = before_version_rest form (b ∷ bytes) (rw other at e) part;
+  }
 ]
 
 record IsInsideOf (form : Form) (text : List ℕ) : Type 0 where
@@ -186,18 +186,27 @@ less_op form text takes_equal takes_strictly second =
     let text_is : 60 ∷ text ≡ (60 ∷ second.operator) ++ second.rest = ap (λ (rest : List ℕ). 60 ∷ rest) second.text_is in
     elim (second.operator_is) [
       | inl strictly ↦ record {
-          restriction = record { op = StrictlyEarlier; version = version };
-          inside = record { operator = 60 ∷ second.operator; rest = second.rest; text_is = text_is;
-            op_is = ap (λ (o : List ℕ). 60 ∷ o) strictly; rest_is = second.rest_is.rest };
-          takes = takes_strictly;
-        }
+        restriction = record { op = StrictlyEarlier; version = version };
+        inside = record {
+          operator = 60 ∷ second.operator;
+          rest = second.rest;
+          text_is = text_is;
+          op_is = ap (λ (o : List ℕ). 60 ∷ o) strictly;
+          rest_is = second.rest_is.rest;
+        };
+        takes = takes_strictly;
+      }
       | inr or ↦ record {
-          restriction = record { op = EarlierOrEqual; version = version };
-          inside = record { operator = 60 ∷ second.operator; rest = second.rest; text_is = text_is;
-            op_is = elim or [ inl equal ↦ inl (ap (λ (o : List ℕ). 60 ∷ o) equal) | inr alone ↦ inr (ap (λ (o : List ℕ). 60 ∷ o) alone) ];
-            rest_is = second.rest_is.rest };
-          takes = takes_equal;
-        }
+        restriction = record { op = EarlierOrEqual; version = version };
+        inside = record {
+          operator = 60 ∷ second.operator;
+          rest = second.rest;
+          text_is = text_is;
+          op_is = elim or [ inl equal ↦ inl (ap (λ (o : List ℕ). 60 ∷ o) equal) | inr alone ↦ inr (ap (λ (o : List ℕ). 60 ∷ o) alone) ];
+          rest_is = second.rest_is.rest;
+        };
+        takes = takes_equal;
+      }
     ]
 
 greater_op : (form : Form) (text : List ℕ) → Takes form LaterOrEqual → Takes form StrictlyLater → IsSecond 62 text → IsInsideOf form (62 ∷ text)
@@ -206,18 +215,27 @@ greater_op form text takes_equal takes_strictly second =
     let text_is : 62 ∷ text ≡ (62 ∷ second.operator) ++ second.rest = ap (λ (rest : List ℕ). 62 ∷ rest) second.text_is in
     elim (second.operator_is) [
       | inl strictly ↦ record {
-          restriction = record { op = StrictlyLater; version = version };
-          inside = record { operator = 62 ∷ second.operator; rest = second.rest; text_is = text_is;
-            op_is = ap (λ (o : List ℕ). 62 ∷ o) strictly; rest_is = second.rest_is.rest };
-          takes = takes_strictly;
-        }
+        restriction = record { op = StrictlyLater; version = version };
+        inside = record {
+          operator = 62 ∷ second.operator;
+          rest = second.rest;
+          text_is = text_is;
+          op_is = ap (λ (o : List ℕ). 62 ∷ o) strictly;
+          rest_is = second.rest_is.rest;
+        };
+        takes = takes_strictly;
+      }
       | inr or ↦ record {
-          restriction = record { op = LaterOrEqual; version = version };
-          inside = record { operator = 62 ∷ second.operator; rest = second.rest; text_is = text_is;
-            op_is = elim or [ inl equal ↦ inl (ap (λ (o : List ℕ). 62 ∷ o) equal) | inr alone ↦ inr (ap (λ (o : List ℕ). 62 ∷ o) alone) ];
-            rest_is = second.rest_is.rest };
-          takes = takes_equal;
-        }
+        restriction = record { op = LaterOrEqual; version = version };
+        inside = record {
+          operator = 62 ∷ second.operator;
+          rest = second.rest;
+          text_is = text_is;
+          op_is = elim or [ inl equal ↦ inl (ap (λ (o : List ℕ). 62 ∷ o) equal) | inr alone ↦ inr (ap (λ (o : List ℕ). 62 ∷ o) alone) ];
+          rest_is = second.rest_is.rest;
+        };
+        takes = takes_equal;
+      }
     ]
 
 equals_op : (form : Form) (text : List ℕ) → Takes form ExactlyEqual → IsVersionThere text → IsInsideOf form (61 ∷ text)
@@ -376,12 +394,12 @@ in_qualifier_rest form (b ∷ bytes) e part = elim (cases_Bool (is_qualifier_byt
         tail_is = later.tail_is;
       }
   | inr other ↦ record {
-      qualifier = [];
-      tail = b ∷ bytes;
-      text_is = refl;
-      qualifier_is = refl;
-      tail_is = after_name_rest form (b ∷ bytes) (rw other at e) part;
-    }
+    qualifier = [];
+    tail = b ∷ bytes;
+    text_is = refl;
+    qualifier_is = refl;
+    tail_is = after_name_rest form (b ∷ bytes) (rw other at e) part;
+  }
 ]
 
 record IsBehindNameOf (form : Form) (text : List ℕ) : Type 0 where
@@ -441,7 +459,12 @@ record IsNameOf (form : Form) (text : List ℕ) : Type 0 where
 
 in_name_rest : (form : Form) (bytes : List ℕ) → Ends form InName bytes → IsOnePart form bytes → IsNameOf form bytes
 in_name_rest form [] e part = record {
-  name = []; rest = []; text_is = refl; name_is = refl; rest_is = without_qualifier form [] (after_name_rest form [] refl refl) }
+  name = [];
+  rest = [];
+  text_is = refl;
+  name_is = refl;
+  rest_is = without_qualifier form [] (after_name_rest form [] refl refl);
+}
 in_name_rest form (b ∷ bytes) e part = elim (cases_Bool (is_name_byte b)) [
   | inl more ↦
       let later = in_name_rest form bytes (rw more at e) (part_rest form b bytes part) in
@@ -453,15 +476,15 @@ in_name_rest form (b ∷ bytes) e part = elim (cases_Bool (is_name_byte b)) [
         rest_is = later.rest_is;
       }
   | inr other ↦ record {
-      name = [];
-      rest = b ∷ bytes;
-      text_is = refl;
-      name_is = refl;
-      rest_is = elim (cases_Bool (is_colon b)) [
-        | inl colon ↦ at_colon form b bytes colon (qualifier_rest form bytes (rw (other, colon) at e) (part_rest form b bytes part))
-        | inr no_colon ↦ without_qualifier form (b ∷ bytes) (after_name_rest form (b ∷ bytes) (rw (other, no_colon) at e) part)
-      ];
-    }
+    name = [];
+    rest = b ∷ bytes;
+    text_is = refl;
+    name_is = refl;
+    rest_is = elim (cases_Bool (is_colon b)) [
+      | inl colon ↦ at_colon form b bytes colon (qualifier_rest form bytes (rw (other, colon) at e) (part_rest form b bytes part))
+      | inr no_colon ↦ without_qualifier form (b ∷ bytes) (after_name_rest form (b ∷ bytes) (rw (other, no_colon) at e) part)
+    ];
+  }
 ]
 
 -- a text that is an atom of the form

@@ -38,8 +38,8 @@ spelled_restriction text restriction is clean =
       behind = closing.behind;
       text_is = is.text_is
           ∙ ap (λ (bytes : List ℕ). 40 ∷ (is.before ++ bytes)) (inside.text_is
-            ∙ ap (λ (bytes : List ℕ). inside.operator ++ bytes) (rest.text_is
-              ∙ ap (λ (bytes : List ℕ). rest.before ++ (restriction.version ++ bytes)) closing.text_is))
+          ∙ ap (λ (bytes : List ℕ). inside.operator ++ bytes) (rest.text_is
+          ∙ ap (λ (bytes : List ℕ). rest.before ++ (restriction.version ++ bytes)) closing.text_is))
           ∙ ap (λ (bytes : List ℕ). 40 ∷ bytes) (sym (regroup_restriction is.before inside.operator rest.before restriction.version closing.before (41 ∷ closing.behind)));
       white = (is.before_is, rest.before_is, closing.before_is, closing.behind_is);
       op_is = inside.op_is;

@@ -116,21 +116,21 @@ behind_operator_value : (text version : List ℕ) → IsBehindOperator text vers
 behind_operator_value text version is =
     ap (λ (text : List ℕ). take_while is_version_byte (after_run is_white text)) is.text_is
     ∙ ap (take_while is_version_byte) (drop_run is_white is.before (version ++ is.closing) is.before_is
-      (version_stops is_white (fails_white is_version_byte refl refl refl) version is.closing is.version_is))
+    (version_stops is_white (fails_white is_version_byte refl refl refl) version is.closing is.version_is))
     ∙ take_run is_version_byte version is.closing is.version_is.bytes (closing_stops is.closing is.closing_is)
 
 inside_op : (text : List ℕ) (restriction : Restriction) → IsInside text restriction → op_of (take_while is_operator_byte text) ≡ restriction.op
 inside_op text restriction is =
     ap (λ (text : List ℕ). op_of (take_while is_operator_byte text)) is.text_is
     ∙ ap op_of (take_run is_operator_byte is.operator is.rest (op_bytes is.operator restriction.op is.op_is)
-      (behind_operator_stops is.rest restriction.version is.rest_is))
+    (behind_operator_stops is.rest restriction.version is.rest_is))
     ∙ op_value is.operator restriction.op is.op_is
 
 pub inside_version : (text : List ℕ) (restriction : Restriction) → IsInside text restriction → version_in text ≡ restriction.version
 inside_version text restriction is =
     ap version_in is.text_is
     ∙ ap (λ (text : List ℕ). take_while is_version_byte (after_run is_white text)) (drop_run is_operator_byte is.operator is.rest (op_bytes is.operator restriction.op is.op_is)
-      (behind_operator_stops is.rest restriction.version is.rest_is))
+    (behind_operator_stops is.rest restriction.version is.rest_is))
     ∙ behind_operator_value is.rest restriction.version is.rest_is
 
 inside_value : (text : List ℕ) (restriction : Restriction) → IsInside text restriction → restriction_in text ≡ restriction
@@ -155,7 +155,7 @@ opened_found opened (Some restriction) is =
 tail_found : (tail : List ℕ) (restriction : Option Restriction) → IsTail tail restriction → IsFound (opened_at (after_run is_white tail)) restriction
 tail_found tail restriction is =
     let at : after_run is_white tail ≡ is.opened = ap (after_run is_white) is.text_is
-        ∙ drop_run is_white is.before is.opened is.before_is (any_opened_stops is_white refl is.opened restriction is.opened_is) in
+    ∙ drop_run is_white is.before is.opened is.before_is (any_opened_stops is_white refl is.opened restriction is.opened_is) in
     subst (λ (opened : List ℕ). IsFound (opened_at opened) restriction) (sym at) (opened_found is.opened restriction is.opened_is)
 
 -- The name and the qualifier
@@ -193,14 +193,14 @@ cut_atom text name qualifier restriction is =
     let rest = is.rest_is in
     let tail = rest.tail_is in
     let behind_white : after_run is_white text ≡ name ++ is.rest = ap (after_run is_white) is.text_is
-        ∙ drop_run is_white is.before (name ++ is.rest) is.before_is
-          (name_stops is_white (fails_white is_ascii_alphanumeric refl refl refl) name is.rest is.name_is) in
+    ∙ drop_run is_white is.before (name ++ is.rest) is.before_is
+    (name_stops is_white (fails_white is_ascii_alphanumeric refl refl refl) name is.rest is.name_is) in
     let stops = behind_name_stops is.rest qualifier restriction rest in
     let bytes = name_bytes name is.name_is in
     let behind_name : after_name text ≡ is.rest = ap (after_run is_name_byte) behind_white ∙ drop_run is_name_byte name is.rest bytes stops in
     let cut = cut_qualifier qualifier rest.tail rest.qualifier_is
-        (tail_stops is_colon (white_fails is_colon refl refl refl) refl rest.tail restriction tail)
-        (tail_stops is_qualifier_byte (white_fails is_qualifier_byte refl refl refl) refl rest.tail restriction tail) in
+    (tail_stops is_colon (white_fails is_colon refl refl refl) refl rest.tail restriction tail)
+    (tail_stops is_qualifier_byte (white_fails is_qualifier_byte refl refl refl) refl rest.tail restriction tail) in
     let to_rest : after_name text ≡ behind_colon qualifier ++ rest.tail = behind_name ∙ rest.text_is in
     record {
       name_is = ap (take_while is_name_byte) behind_white ∙ take_run is_name_byte name is.rest bytes stops;

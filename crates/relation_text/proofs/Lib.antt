@@ -7,3 +7,7 @@ pub mod AtomText
 pub mod AtomParse
 pub mod AtomValue
 pub mod AtomSpelling
+pub mod PartSplits
+pub mod PartShapes
+pub mod Faults
+pub mod ReadSpelled

@@ -1,6 +1,6 @@
 -- Bytes at the front that pass a test, and where a text stops passing it.
 use Rattle.std.proofs.Common.{◌≡◌, ℕ, Bool, true, false, List, [], ◌∷◌, ◌++◌, drop, refl, sym, ap, ◌∙◌, add-one, one-add, inl, inr, ◌==◌, subst}
-use Rattle.std.proofs.lemmas.Bool.{and_parts, both_ways, cases_Bool, eqb-true, false≢true}
+use Rattle.std.proofs.lemmas.Bool.{and_parts, both_ways, cases_Bool, eqb-true, or_from}
 use Rattle.std.proofs.lemmas.List.Sums.{take_while-cons}
 use Rattle.std.specs.List.{list_all, list_any, prefix_len, take_while}
 use Rattle.relation_text.specs.Spelling.{after_run}
@@ -41,3 +41,10 @@ excludes_byte test c fails b passes = elim (cases_Bool (b == c)) [
 pub stops_past : (test other : ℕ → Bool) → Excludes test other → (run rest : List ℕ) → list_all test run ≡ true → Stops other rest → Stops other (run ++ rest)
 stops_past test other excludes [] rest all stops = stops
 stops_past test other excludes (b ∷ run) rest all stops = excludes b (and_parts (test b) (list_all test run) all).0
+
+-- bytes that pass one test and so fail another are free of it
+pub run_free : (test other : ℕ → Bool) → Excludes test other → (run : List ℕ) → list_all test run ≡ true → list_any other run ≡ false
+run_free test other excludes [] all = refl
+run_free test other excludes (b ∷ run) all =
+    let both = and_parts (test b) (list_all test run) all in
+    or_from (other b) (list_any other run) (excludes b both.0) (run_free test other excludes run both.1)
