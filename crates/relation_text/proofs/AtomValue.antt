@@ -50,7 +50,7 @@ pub version_stops : (test : ℕ → Bool) → Excludes is_version_byte test → 
 version_stops test excludes [] rest is = absurd (let written = is.written in omega arith)
 version_stops test excludes (b ∷ version) rest is = excludes b (and_parts (is_version_byte b) (list_all is_version_byte version) is.bytes).0
 
-closing_stops : (closing : List ℕ) → IsClosing closing → Stops is_version_byte closing
+pub closing_stops : (closing : List ℕ) → IsClosing closing → Stops is_version_byte closing
 closing_stops closing is = subst (Stops is_version_byte) (sym is.text_is)
     (stops_past is_white is_version_byte (white_fails is_version_byte refl refl refl) is.before (41 ∷ is.behind) is.before_is refl)
 
@@ -62,7 +62,7 @@ pub tail_stops : (test : ℕ → Bool) → Excludes is_white test → test 40 �
 tail_stops test excludes fails tail restriction is = subst (Stops test) (sym is.text_is)
     (stops_past is_white test excludes is.before is.opened is.before_is (any_opened_stops test fails is.opened restriction is.opened_is))
 
-behind_name_stops : (rest : List ℕ) (qualifier : Option (List ℕ)) (restriction : Option Restriction) → IsBehindName rest qualifier restriction → Stops is_name_byte rest
+pub behind_name_stops : (rest : List ℕ) (qualifier : Option (List ℕ)) (restriction : Option Restriction) → IsBehindName rest qualifier restriction → Stops is_name_byte rest
 behind_name_stops rest None restriction is = subst (Stops is_name_byte) (sym is.text_is)
     (tail_stops is_name_byte (white_fails is_name_byte refl refl refl) refl is.tail restriction is.tail_is)
 behind_name_stops rest (Some qualifier) restriction is = subst (Stops is_name_byte) (sym is.text_is) refl
@@ -107,7 +107,7 @@ op_stops text rest StrictlyLater e = rw e refl
 
 -- The restriction
 
-behind_operator_stops : (text version : List ℕ) → IsBehindOperator text version → Stops is_operator_byte text
+pub behind_operator_stops : (text version : List ℕ) → IsBehindOperator text version → Stops is_operator_byte text
 behind_operator_stops text version is = subst (Stops is_operator_byte) (sym is.text_is)
     (stops_past is_white is_operator_byte (white_fails is_operator_byte refl refl refl) is.before (version ++ is.closing) is.before_is
     (version_stops is_operator_byte version_no_operator version is.closing is.version_is))

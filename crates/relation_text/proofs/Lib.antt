@@ -11,3 +11,5 @@ pub mod PartSplits
 pub mod PartShapes
 pub mod Faults
 pub mod ReadSpelled
+pub mod AtomBytes
+pub mod AtomLeads
