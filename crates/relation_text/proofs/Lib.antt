@@ -13,3 +13,4 @@ pub mod Faults
 pub mod ReadSpelled
 pub mod AtomBytes
 pub mod AtomLeads
+pub mod SpelledRead

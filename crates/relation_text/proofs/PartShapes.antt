@@ -1,16 +1,19 @@
 -- A joined text has the shape of a form exactly where each of its parts leads to an end.
-use Rattle.std.proofs.Common.{◌≡◌, ◌≢◌, ℕ, Bool, true, false, cond, List, [], ◌∷◌, ◌++◌, refl, sym, ap, ◌∙◌, subst}
-use Rattle.std.proofs.lemmas.Bool.{and_parts, false≢true}
+use Rattle.std.proofs.Common.{◌≡◌, ◌≢◌, ℕ, Bool, true, false, cond, ◌+◌, Option, Some, None, List, [], ◌∷◌, ◌++◌, refl, sym, ap, ◌∙◌, inl, inr, subst}
+use Rattle.std.proofs.lemmas.Bool.{and_parts, cases_Bool, false≢true}
 use Rattle.std.specs.List.{AllByRecursion, join_with_byte, list_all}
 use Rattle.relation_text.specs.Bytes.{is_comma, is_white}
 use Rattle.relation_text.specs.Grammar.{IsWhite}
-use Rattle.relation_text.specs.Place.{is_end}
+use Rattle.relation_text.specs.Place.{is_dead, is_end}
+use Rattle.relation_text.specs.Refusal.{shape_refusal_from, stop_at}
 use Rattle.relation_text.specs.Shape.{next, place_after}
 use Rattle.relation_text.specs.declared.shape.Form.{Form}
 use Rattle.relation_text.specs.declared.shape.Form.TheVariants.{Clauses, Atoms, Provides}
 use Rattle.relation_text.specs.declared.shape.Place.{Place}
 use Rattle.relation_text.specs.declared.shape.Place.TheVariants.{Between, Alternative, InName, AfterName, BeforeQualifier, InQualifier, Opened, Less, Greater, AfterOperator, InVersion, AfterVersion, Closed, Dead}
+use Rattle.relation_text.proofs.FirstStop.{dead_is}
 use Rattle.relation_text.proofs.ShapeLemmas.{place_after-append}
+use Rattle.relation_text.proofs.AtomLeads.{Leads, atom_end_is_end, ends_atom}
 use Rattle.relation_text.proofs.AtomParse.{Ends, no_end}
 use Rattle.relation_text.proofs.AtomValue.{white_fails}
 
@@ -82,3 +85,76 @@ pub no_blank_before_bar : (text more : List ℕ) → IsWhite text → Ends Claus
 no_blank_before_bar text more white e =
     no_end Clauses (next Clauses (place_after Clauses Between text) 124) more (ap (λ (place : Place). next Clauses place 124) (white_stays Clauses text white))
     (over_bar Between text more e)
+
+-- The other way round: parts that lead to an end are joined to a text that does
+
+ahead_of_comma : (form : Form) (place : Place) → is_end place ≡ true → next form place 44 ≡ Between
+ahead_of_comma form Between e = refl
+ahead_of_comma form Alternative e = absurd (false≢true e)
+ahead_of_comma form InName e = refl
+ahead_of_comma form AfterName e = refl
+ahead_of_comma form BeforeQualifier e = absurd (false≢true e)
+ahead_of_comma form InQualifier e = refl
+ahead_of_comma form Opened e = absurd (false≢true e)
+ahead_of_comma form Less e = absurd (false≢true e)
+ahead_of_comma form Greater e = absurd (false≢true e)
+ahead_of_comma form AfterOperator e = absurd (false≢true e)
+ahead_of_comma form InVersion e = absurd (false≢true e)
+ahead_of_comma form AfterVersion e = absurd (false≢true e)
+ahead_of_comma form Closed e = refl
+ahead_of_comma form Dead e = absurd (false≢true e)
+
+pub joined_end : (form : Form) (parts : List (List ℕ)) → AllByRecursion (Ends form Between) parts → Ends form Between (join_with_byte 44 parts)
+joined_end form [] all = refl
+joined_end form (text ∷ []) all = all.0
+joined_end form (text ∷ following ∷ parts) all =
+    let more = join_with_byte 44 (following ∷ parts) in
+    ap is_end (place_after-append form Between text (44 ∷ more)
+    ∙ ap (λ (place : Place). place_after form place more) (ahead_of_comma form (place_after form Between text) all.0))
+    ∙ joined_end form (following ∷ parts) all.1
+
+ahead_of_bar : (place : Place) → ends_atom place ≡ true → next Clauses place 124 ≡ Alternative
+ahead_of_bar Between e = absurd (false≢true e)
+ahead_of_bar Alternative e = absurd (false≢true e)
+ahead_of_bar InName e = refl
+ahead_of_bar AfterName e = refl
+ahead_of_bar BeforeQualifier e = absurd (false≢true e)
+ahead_of_bar InQualifier e = refl
+ahead_of_bar Opened e = absurd (false≢true e)
+ahead_of_bar Less e = absurd (false≢true e)
+ahead_of_bar Greater e = absurd (false≢true e)
+ahead_of_bar AfterOperator e = absurd (false≢true e)
+ahead_of_bar InVersion e = absurd (false≢true e)
+ahead_of_bar AfterVersion e = absurd (false≢true e)
+ahead_of_bar Closed e = refl
+ahead_of_bar Dead e = absurd (false≢true e)
+
+pub over_alternative : (place : Place) (text more : List ℕ) → Leads Clauses place text → Ends Clauses Alternative more → Ends Clauses place (text ++ 124 ∷ more)
+over_alternative place text more leads e =
+    ap is_end (place_after-append Clauses place text (124 ∷ more)
+    ∙ ap (λ (place : Place). place_after Clauses place more) (ahead_of_bar (place_after Clauses place text) leads))
+    ∙ e
+
+pub joined_alternatives : (text : List ℕ) (texts : List (List ℕ)) → AllByRecursion (Leads Clauses Alternative) (text ∷ texts)
+    → Ends Clauses Alternative (join_with_byte 124 (text ∷ texts))
+joined_alternatives text [] all = atom_end_is_end _ all.0
+joined_alternatives text (following ∷ texts) all =
+    over_alternative Alternative text (join_with_byte 124 (following ∷ texts)) all.0 (joined_alternatives following texts all.1)
+
+pub joined_clause : (text : List ℕ) (texts : List (List ℕ)) → Leads Clauses Between text → AllByRecursion (Leads Clauses Alternative) texts
+    → Ends Clauses Between (join_with_byte 124 (text ∷ texts))
+joined_clause text [] first all = atom_end_is_end _ first
+joined_clause text (following ∷ texts) first all =
+    over_alternative Between text (join_with_byte 124 (following ∷ texts)) first (joined_alternatives following texts all)
+
+-- A shape that ends well has no refusal
+
+fine_from_place : (form : Form) (place : Place) (offset : ℕ) (bytes : List ℕ) → Ends form place bytes → shape_refusal_from form place offset bytes ≡ None
+fine_from_place form place offset [] e = rw e refl
+fine_from_place form place offset (b ∷ bytes) e = elim (cases_Bool (is_dead (next form place b))) [
+  | inl dead ↦ absurd (no_end form (next form place b) bytes (dead_is (next form place b) dead) e)
+  | inr live ↦ rw live (fine_from_place form (next form place b) (offset + 1) bytes e)
+]
+
+pub shape_fine : (form : Form) (value : List ℕ) → Ends form Between value → shape_refusal_from form Between 0 value ≡ None
+shape_fine form value e = fine_from_place form Between 0 value e

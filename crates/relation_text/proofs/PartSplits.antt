@@ -1,9 +1,10 @@
 -- What separators part: each part is free of them, and parts may be parted again.
 use Rattle.std.proofs.Common.{◌≡◌, ℕ, Bool, true, false, not, cond, ◌||◌, Option, Some, None, List, [], ◌∷◌, ◌++◌, map, filter, refl, sym, ap, ◌∙◌, append_assoc, inl, inr, subst, ◌⊎◌}
 use Rattle.std.proofs.lemmas.Bool.{cases_Bool, or_from, or_left, or_parts, or_right}
+use Rattle.std.proofs.lemmas.List.Folds.{list_any-append}
 use Rattle.std.proofs.lemmas.List.Splits.{slice_split-cons_yes, slice_split-cons_no}
-use Rattle.std.specs.List.{AllByRecursion, AllZip, filter_map, flat_map, list_any, onto_first, slice_split}
-use Rattle.relation_text.specs.Grammar.{IsWhite, SpellsPart}
+use Rattle.std.specs.List.{AllByRecursion, AllZip, filter_map, flat_map, join_with_byte, list_any, onto_first, slice_split}
+use Rattle.relation_text.specs.Grammar.{IsWhite, SpellsList, SpellsPart}
 use Rattle.relation_text.specs.Spelling.{is_blank, items_of}
 
 -- Facts of each part
@@ -139,3 +140,78 @@ parts_spelled Spells of (text ∷ parts) all = (slot_spelled Spells of text all.
 pub all_items : (parts : List (List ℕ)) → AllByRecursion (λ text. is_blank text ≡ false) parts → items_of parts ≡ parts
 all_items [] all = refl
 all_items (text ∷ parts) all = let other = all.0 in rw other (ap (λ (items : List (List ℕ)). text ∷ items) (all_items parts all.1))
+
+-- Joined texts, each free of what parts, are their parts
+
+split_front : (test : ℕ → Bool) (text : List ℕ) (c : ℕ) (more : List ℕ) → list_any test text ≡ false → test c ≡ true
+    → slice_split test (text ++ c ∷ more) ≡ text ∷ slice_split test more
+split_front test [] c more free here = slice_split-cons_yes test c more here
+split_front test (b ∷ text) c more free here =
+    let both = or_parts (test b) (list_any test text) free in
+    slice_split-cons_no test b (text ++ c ∷ more) both.0 ∙ ap (onto_first b) (split_front test text c more both.1 here)
+
+pub split_joined : (test : ℕ → Bool) (c : ℕ) → test c ≡ true → (text : List ℕ) (texts : List (List ℕ)) → AllByRecursion (λ text. list_any test text ≡ false) (text ∷ texts)
+    → slice_split test (join_with_byte c (text ∷ texts)) ≡ text ∷ texts
+split_joined test c here text [] all = split_free test text all.0
+split_joined test c here text (following ∷ texts) all =
+    split_front test text c (join_with_byte c (following ∷ texts)) all.0 here
+    ∙ ap (λ (parts : List (List ℕ)). text ∷ parts) (split_joined test c here following texts all.1)
+
+pub joined_free : (test : ℕ → Bool) (c : ℕ) → test c ≡ false → (texts : List (List ℕ)) → AllByRecursion (λ text. list_any test text ≡ false) texts
+    → list_any test (join_with_byte c texts) ≡ false
+joined_free test c fails [] all = refl
+joined_free test c fails (text ∷ []) all = all.0
+joined_free test c fails (text ∷ following ∷ texts) all =
+    list_any-append test text (c ∷ join_with_byte c (following ∷ texts))
+    ∙ or_from _ _ all.0 (or_from _ _ fails (joined_free test c fails (following ∷ texts) all.1))
+
+pub all_append : {X : Type 0} (P : X → Type 0) (xs ys : List X) → AllByRecursion P xs → AllByRecursion P ys → AllByRecursion P (xs ++ ys)
+all_append P [] ys all more = more
+all_append P (x ∷ xs) ys all more = (all.0, all_append P xs ys all.1 more)
+
+pub all_flat : {X Y : Type 0} (P : Y → Type 0) (f : X → List Y) (xs : List X) → AllByRecursion (λ x. AllByRecursion P (f x)) xs → AllByRecursion P (flat_map f xs)
+all_flat P f [] all = tt
+all_flat P f (x ∷ xs) all = all_append P (f x) (flat_map f xs) all.0 (all_flat P f xs all.1)
+
+-- what a part spells that isn't white space alone
+pub record IsItem {A : Type 0} (of : List ℕ → A) (text : List ℕ) (item : A) : Type 0 where
+  pub some : is_blank text ≡ false
+  pub value : of text ≡ item
+
+-- the items of parts are what they spell
+pub items_back : {A : Type 0} (Spells : List ℕ → A → Type 0) (of : List ℕ → A) → ((text : List ℕ) (item : A) → Spells text item → IsItem of text item)
+    → (parts : List (List ℕ)) (found : List (Option A)) → AllZip (SpellsPart Spells) parts found → map of (items_of parts) ≡ filter_map (λ item. item) found
+items_back Spells of back [] [] all = refl
+items_back Spells of back [] (slot ∷ found) all = absurd all
+items_back Spells of back (text ∷ parts) [] all = absurd all
+items_back Spells of back (text ∷ parts) (None ∷ found) all = let white : is_blank text ≡ true = all.0 in rw white (items_back Spells of back parts found all.1)
+items_back Spells of back (text ∷ parts) (Some item ∷ found) all =
+    let is = back text item all.0 in
+    let some = is.some in
+    rw some (λ i. is.value i ∷ items_back Spells of back parts found all.1 i)
+
+-- a fact of each part, whether it spells an item or none
+pub parts_fact : {A : Type 0} (Spells : List ℕ → A → Type 0) (P : List ℕ → Type 0) → ((text : List ℕ) → IsWhite text → P text) → ((text : List ℕ) (item : A) → Spells text item → P text)
+    → (parts : List (List ℕ)) (found : List (Option A)) → AllZip (SpellsPart Spells) parts found → AllByRecursion P parts
+parts_fact Spells P of_white of_item [] found all = tt
+parts_fact Spells P of_white of_item (text ∷ parts) [] all = absurd all
+parts_fact Spells P of_white of_item (text ∷ parts) (None ∷ found) all = (of_white text all.0, parts_fact Spells P of_white of_item parts found all.1)
+parts_fact Spells P of_white of_item (text ∷ parts) (Some item ∷ found) all = (of_item text item all.0, parts_fact Spells P of_white of_item parts found all.1)
+
+-- a list that is spelled, with its first part
+pub record SpellsSome {A : Type 0} (Spells : List ℕ → A → Type 0) (value : List ℕ) (items : List A) : Type 0 where
+  pub first : List ℕ
+  pub later : List (List ℕ)
+  pub found : List (Option A)
+  pub value_is : value ≡ join_with_byte 44 (first ∷ later)
+  pub each : AllZip (SpellsPart Spells) (first ∷ later) found
+  pub items_are : items ≡ filter_map (λ item. item) found
+
+some_with : {A : Type 0} (Spells : List ℕ → A → Type 0) (value : List ℕ) (items : List A) (parts : List (List ℕ)) (found : List (Option A))
+    → value ≡ join_with_byte 44 parts → AllZip (SpellsPart Spells) parts found → items ≡ filter_map (λ item. item) found → SpellsSome Spells value items
+some_with Spells value items [] [] e each are = record { first = []; later = []; found = None ∷ []; value_is = e; each = (refl, tt); items_are = are }
+some_with Spells value items [] (slot ∷ found) e each are = absurd each
+some_with Spells value items (text ∷ parts) found e each are = record { first = text; later = parts; found = found; value_is = e; each = each; items_are = are }
+
+pub some_parts : {A : Type 0} (Spells : List ℕ → A → Type 0) (value : List ℕ) (items : List A) → SpellsList Spells value items → SpellsSome Spells value items
+some_parts Spells value items is = some_with Spells value items is.parts is.found is.value_is is.each is.items_are

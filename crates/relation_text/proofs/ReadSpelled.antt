@@ -41,12 +41,15 @@ name_some : (name rest : List ℕ) → is_name name ≡ true → name ++ rest �
 name_some [] rest is e = false≢true is
 name_some (b ∷ name) rest is e = cc e
 
-pub atom_not_blank : (form : Form) (text : List ℕ) → IsAtomOf form text → is_blank text ≡ false
-atom_not_blank form text is =
-    let atom = is.atom in
-    ap is_blank atom.text_is
-    ∙ stops_blank atom.before (is.name ++ atom.rest) (name_stops is_white (fails_white is_ascii_alphanumeric refl refl refl) is.name atom.rest atom.name_is)
-    (name_some is.name atom.rest atom.name_is)
+pub atom_text_not_blank : (text name : List ℕ) (qualifier : Option (List ℕ)) (restriction : Option Restriction) → IsAtomText text name qualifier restriction
+    → is_blank text ≡ false
+atom_text_not_blank text name qualifier restriction is =
+    ap is_blank is.text_is
+    ∙ stops_blank is.before (name ++ is.rest) (name_stops is_white (fails_white is_ascii_alphanumeric refl refl refl) name is.rest is.name_is)
+      (name_some name is.rest is.name_is)
+
+atom_not_blank : (form : Form) (text : List ℕ) → IsAtomOf form text → is_blank text ≡ false
+atom_not_blank form text is = atom_text_not_blank text is.name is.qualifier is.restriction is.atom
 
 parsed_atom : (form : Form) (arch text : List ℕ) → IsAtomOf form text → bad_version_of text ≡ None → SpellsAtom arch text (atom_of arch text)
 parsed_atom form arch text is fine =
@@ -170,7 +173,7 @@ zip_alternatives : (arch : List ℕ) (texts : List (List ℕ)) → AllByRecursio
 zip_alternatives arch [] all = tt
 zip_alternatives arch (text ∷ texts) all = (all.0.1, zip_alternatives arch texts all.1)
 
-joined_blank : (text : List ℕ) (texts : List (List ℕ)) → is_blank text ≡ false → is_blank (join_with_byte 124 (text ∷ texts)) ≡ false
+pub joined_blank : (text : List ℕ) (texts : List (List ℕ)) → is_blank text ≡ false → is_blank (join_with_byte 124 (text ∷ texts)) ≡ false
 joined_blank text [] other = other
 joined_blank text (following ∷ texts) other =
     list_all-append is_white text _ ∙ and_left (list_all is_white text) _ other
