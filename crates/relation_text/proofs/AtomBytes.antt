@@ -1,20 +1,19 @@
 -- The bytes of an atom's text: no comma and no bar among them.
-use Rattle.std.proofs.Common.{◌≡◌, ℕ, ◌<◌, Bool, true, false, ◌||◌, ◌==◌, Option, Some, None, List, [], ◌∷◌, ◌++◌, length, refl, sym, ap, ◌∙◌, arith, inl, inr, subst, IfSome, IfNone}
+use Rattle.std.proofs.Common.{◌≡◌, ℕ, ◌<◌, Bool, true, false, ◌||◌, ◌==◌, Option, Some, None, List, [], ◌∷◌, ◌++◌, length, refl, sym, ap, ◌∙◌, arith, inl, inr, subst, IfSome}
 use Rattle.std.proofs.lemmas.Bool.{and_from, and_parts, both_ways, cases_Bool, or_parts, or_right}
-use Rattle.std.proofs.lemmas.List.Folds.{list_all-append, list_any-append}
+use Rattle.std.proofs.lemmas.List.Folds.{list_all-append}
 use Rattle.std.proofs.lemmas.List.Sums.{list_all-from_AllPass}
 use Rattle.std.specs.Char.{is_ascii_alphanumeric, is_ascii_digit}
-use Rattle.std.specs.List.{AllByRecursion, join_with_byte, list_all, list_any}
-use Rattle.rules.specs.Name.{is_name, is_name_byte}
+use Rattle.std.specs.List.{list_all}
+use Rattle.rules.specs.Name.{is_name_byte}
 use Rattle.rules.specs.VersionFault.{first_fault, is_revision_byte, is_upstream_byte}
 use Rattle.rules.specs.declared.goal.Restriction.{Restriction}
 use Rattle.debversion.specs.Spelling.{IsEpoch, IsRevision, IsSpelled, IsUpstream, before_hyphen, behind_epoch}
 use Rattle.debversion.proofs.SpellingLemmas.{faultless_is_spelled}
 use Rattle.relation_text.specs.Bytes.{is_operator_byte, is_qualifier_byte, is_version_byte, is_white}
 use Rattle.relation_text.specs.Grammar.{IsQualifier, behind_colon}
-use Rattle.relation_text.proofs.AtomText.{IsAnyOpened, IsAtomText, IsBehindName, IsBehindOperator, IsClosing, IsInside, IsOpened, IsTail, IsVersionText}
+use Rattle.relation_text.proofs.AtomText.{IsAnyOpened, IsAtomText, IsBehindName, IsBehindOperator, IsClosing, IsInside, IsTail, IsVersionText}
 use Rattle.relation_text.proofs.AtomValue.{name_bytes, op_bytes, qualifier_bytes}
-use Rattle.relation_text.proofs.Runs.{Excludes}
 
 pub all_joined : (test : ℕ → Bool) (front back : List ℕ) → list_all test front ≡ true → list_all test back ≡ true → list_all test (front ++ back) ≡ true
 all_joined test front back all rest = list_all-append test front back ∙ and_from _ _ all rest

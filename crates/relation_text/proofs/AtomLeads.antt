@@ -1,23 +1,23 @@
 -- The text of an atom leads to a place at which an atom may end.
-use Rattle.std.proofs.Common.{◌≡◌, ℕ, ◌<◌, Bool, true, false, cond, ◌||◌, ◌==◌, Option, Some, None, List, [], ◌∷◌, ◌++◌, length, refl, sym, ap, ◌∙◌, arith, inl, inr, subst, IfSome}
-use Rattle.std.proofs.lemmas.Bool.{and_from, and_parts, both_ways, cases_Bool, false≢true, or_parts}
+use Rattle.std.proofs.Common.{◌≡◌, ℕ, Bool, true, false, ◌||◌, Option, Some, None, List, [], ◌∷◌, ◌++◌, refl, ap, ◌∙◌, arith, inl, inr, IfSome}
+use Rattle.std.proofs.lemmas.Bool.{and_parts, false≢true, or_parts}
 use Rattle.std.specs.Char.{is_ascii_alphanumeric}
 use Rattle.std.specs.List.{list_all}
 use Rattle.rules.specs.Name.{is_name, is_name_byte}
 use Rattle.rules.specs.declared.goal.Restriction.{Restriction}
 use Rattle.rules.specs.declared.op.Op.{Op}
 use Rattle.rules.specs.declared.op.Op.TheVariants.{StrictlyEarlier, EarlierOrEqual, ExactlyEqual, LaterOrEqual, StrictlyLater}
-use Rattle.relation_text.specs.Bytes.{is_closing, is_colon, is_comma, is_equals, is_greater, is_less, is_opening, is_operator_byte, is_qualifier_byte, is_version_byte, is_white}
+use Rattle.relation_text.specs.Bytes.{is_colon, is_comma, is_equals, is_greater, is_less, is_opening, is_operator_byte, is_qualifier_byte, is_version_byte, is_white}
 use Rattle.relation_text.specs.Grammar.{IsQualifier, IsWhite, SpellsOp, behind_colon}
 use Rattle.relation_text.specs.Place.{is_end}
-use Rattle.relation_text.specs.Shape.{next, next_in_operator, place_after, unless_provides}
+use Rattle.relation_text.specs.Shape.{next, place_after, unless_provides}
 use Rattle.relation_text.specs.declared.shape.Form.{Form}
 use Rattle.relation_text.specs.declared.shape.Form.TheVariants.{Clauses, Atoms, Provides}
 use Rattle.relation_text.specs.declared.shape.Place.{Place}
 use Rattle.relation_text.specs.declared.shape.Place.TheVariants.{Between, Alternative, InName, AfterName, BeforeQualifier, InQualifier, Opened, Less, Greater, AfterOperator, InVersion, AfterVersion, Closed, Dead}
 use Rattle.relation_text.proofs.ShapeLemmas.{place_after-append}
-use Rattle.relation_text.proofs.AtomText.{IsAnyOpened, IsAtomText, IsBehindName, IsBehindOperator, IsClosing, IsInside, IsOpened, IsTail, IsVersionText, Takes, TakesAny}
-use Rattle.relation_text.proofs.AtomValue.{behind_name_stops, behind_operator_stops, closing_stops, fails_white, tail_stops, white_fails}
+use Rattle.relation_text.proofs.AtomText.{IsAnyOpened, IsAtomText, IsBehindName, IsBehindOperator, IsClosing, IsInside, IsTail, IsVersionText, Takes, TakesAny}
+use Rattle.relation_text.proofs.AtomValue.{behind_operator_stops, closing_stops, fails_white, tail_stops, white_fails}
 use Rattle.relation_text.proofs.Runs.{Stops, excludes_byte}
 
 -- an atom may end here

@@ -1,24 +1,23 @@
 -- What the automaton takes as an atom has the parts of one.
-use Rattle.std.proofs.Common.{◌≡◌, ℕ, ◌<◌, Bool, true, false, cond, Option, Some, None, List, [], ◌∷◌, ◌++◌, length, refl, sym, ap, ◌∙◌, arith, inl, inr, ◌⊎◌, ◌==◌, ◌||◌, codes, IfSome}
-use Rattle.std.proofs.lemmas.Bool.{and_from, both_ways, cases_Bool, eqb-true, false≢true, or_cases, or_from, or_parts}
+use Rattle.std.proofs.Common.{◌≡◌, ℕ, Bool, true, false, cond, Option, Some, None, List, [], ◌∷◌, ◌++◌, refl, sym, ap, ◌∙◌, arith, inl, inr, ◌⊎◌, ◌==◌, ◌||◌}
+use Rattle.std.proofs.lemmas.Bool.{and_from, cases_Bool, eqb-true, false≢true, or_cases, or_parts}
 use Rattle.std.specs.Char.{is_ascii_alphanumeric}
 use Rattle.std.specs.List.{list_all, list_any}
-use Rattle.rules.specs.Name.{is_name, is_name_byte}
+use Rattle.rules.specs.Name.{is_name_byte}
 use Rattle.rules.specs.declared.goal.Restriction.{Restriction}
-use Rattle.rules.specs.declared.op.Op.{Op}
 use Rattle.rules.specs.declared.op.Op.TheVariants.{StrictlyEarlier, EarlierOrEqual, ExactlyEqual, LaterOrEqual, StrictlyLater}
 use Rattle.relation_text.specs.Bytes.{is_white, is_comma, is_bar, is_colon, is_opening, is_closing, is_less, is_equals, is_greater, is_qualifier_byte, is_version_byte}
-use Rattle.relation_text.specs.Grammar.{IsWhite, IsQualifier, SpellsOp, behind_colon}
+use Rattle.relation_text.specs.Grammar.{IsWhite}
 use Rattle.relation_text.specs.Place.{is_end}
 use Rattle.relation_text.specs.Refusal.{separator_of}
 use Rattle.relation_text.specs.Shape.{after_atom, after_name, after_version, before_version, before_operator, next, next_in_operator, place_after, unless_provides}
-use Rattle.relation_text.specs.Spelling.{is_blank, separates}
+use Rattle.relation_text.specs.Spelling.{separates}
 use Rattle.relation_text.specs.declared.shape.Form.{Form}
 use Rattle.relation_text.specs.declared.shape.Form.TheVariants.{Clauses, Atoms, Provides}
 use Rattle.relation_text.specs.declared.shape.Place.{Place}
 use Rattle.relation_text.specs.declared.shape.Place.TheVariants.{Between, Alternative, InName, AfterName, BeforeQualifier, InQualifier, Opened, Less, Greater, AfterOperator, InVersion, AfterVersion, Closed, Dead}
 use Rattle.relation_text.proofs.ShapeLemmas.{place_after-dead}
-use Rattle.relation_text.proofs.AtomText.{IsOnePart, Takes, TakesAny, IsVersionText, IsClosing, IsVersionEnd, IsBehindOperator, IsInside, IsOpened, IsAnyOpened, IsTail, IsBehindName, IsAtomText}
+use Rattle.relation_text.proofs.AtomText.{IsOnePart, Takes, TakesAny, IsClosing, IsVersionEnd, IsBehindOperator, IsInside, IsTail, IsBehindName, IsAtomText}
 
 -- the bytes lead from the place to an end
 abbrev pub Ends : Form → Place → List ℕ → Type 0

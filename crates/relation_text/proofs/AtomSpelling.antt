@@ -1,20 +1,12 @@
 -- What is spelled as an atom has the parts of one, and the other way round.
-use Rattle.std.proofs.Common.{◌≡◌, ℕ, ◌<◌, Bool, true, false, Option, Some, None, List, [], ◌∷◌, ◌++◌, length, refl, sym, ap, ◌∙◌, append_assoc, arith, inl, inr, subst, IfSome, IfNone}
-use Rattle.std.proofs.lemmas.Bool.{and_from, and_parts, cases_Bool, or_cases}
-use Rattle.std.proofs.lemmas.List.{length-append}
-use Rattle.std.proofs.lemmas.List.Folds.{list_all-append}
-use Rattle.std.proofs.lemmas.List.Sums.{list_all-from_AllPass}
-use Rattle.std.specs.Char.{is_ascii_alphanumeric, is_ascii_digit}
-use Rattle.std.specs.List.{list_all}
+use Rattle.std.proofs.Common.{◌≡◌, ℕ, Option, Some, None, List, ◌∷◌, ◌++◌, refl, sym, ap, ◌∙◌, append_assoc}
 use Rattle.rules.specs.Package.{Atom}
-use Rattle.rules.specs.VersionFault.{first_fault, is_revision_byte, is_upstream_byte}
+use Rattle.rules.specs.VersionFault.{first_fault}
 use Rattle.rules.specs.declared.goal.Restriction.{Restriction}
-use Rattle.debversion.specs.Spelling.{IsEpoch, IsRevision, IsSpelled, IsUpstream, before_hyphen, behind_epoch}
 use Rattle.debversion.proofs.SpellingLemmas.{faultless_is_spelled}
-use Rattle.relation_text.specs.Bytes.{is_version_byte}
 use Rattle.relation_text.specs.Grammar.{SpellsAnyRestriction, SpellsAtom, SpellsRestriction, behind_colon}
-use Rattle.relation_text.specs.Spelling.{atom_of, is_foreign}
-use Rattle.relation_text.proofs.AtomText.{IsAnyOpened, IsAtomText, IsBehindName, IsBehindOperator, IsClosing, IsInside, IsOpened, IsTail, IsVersionText}
+use Rattle.relation_text.specs.Spelling.{atom_of}
+use Rattle.relation_text.proofs.AtomText.{IsAnyOpened, IsAtomText, IsOpened}
 use Rattle.relation_text.proofs.AtomBytes.{version_text}
 use Rattle.relation_text.proofs.AtomValue.{IsFaultless, atom_from, atom_value}
 

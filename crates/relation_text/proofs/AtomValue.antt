@@ -1,22 +1,22 @@
 -- What is cut from the text of an atom are its parts.
-use Rattle.std.proofs.Common.{◌≡◌, ℕ, ◌<◌, ◌-◌, Bool, true, false, cond, Option, Some, None, List, [], ◌∷◌, ◌++◌, length, refl, sym, ap, ◌∙◌, arith, inl, inr, subst, IfSome}
-use Rattle.std.proofs.lemmas.Bool.{and_from, and_parts, both_ways, cases_Bool, false≢true, or_left}
+use Rattle.std.proofs.Common.{◌≡◌, ℕ, Bool, true, false, cond, Option, Some, None, List, [], ◌∷◌, ◌++◌, refl, sym, ap, ◌∙◌, arith, inl, inr, subst, IfSome}
+use Rattle.std.proofs.lemmas.Bool.{and_from, and_parts, both_ways, cases_Bool, false≢true}
 use Rattle.std.specs.Char.{is_ascii_alphanumeric}
 use Rattle.std.specs.List.{list_all, take_while}
 use Rattle.std.specs.Option.{option_and_then, option_map, is_some}
 use Rattle.rules.specs.Name.{is_name, is_name_byte}
-use Rattle.rules.specs.Package.{Atom, Provided}
+use Rattle.rules.specs.Package.{Atom}
 use Rattle.rules.specs.VersionFault.{first_fault}
 use Rattle.rules.specs.declared.goal.Restriction.{Restriction}
 use Rattle.rules.specs.declared.op.Op.{Op}
 use Rattle.rules.specs.declared.op.Op.TheVariants.{StrictlyEarlier, EarlierOrEqual, ExactlyEqual, LaterOrEqual, StrictlyLater}
 use Rattle.relation_text.specs.Bytes.{is_white, is_colon, is_operator_byte, is_qualifier_byte, is_version_byte}
-use Rattle.relation_text.specs.Grammar.{IsWhite, IsQualifier, SpellsOp, atom_of_provided, behind_colon, exactly}
+use Rattle.relation_text.specs.Grammar.{IsQualifier, SpellsOp, atom_of_provided, behind_colon, exactly}
 use Rattle.relation_text.specs.Refusal.{bad_version_in, bad_version_of}
-use Rattle.relation_text.specs.Spelling.{after_name, after_qualifier, after_run, atom_of, from_version, inside_of, is_foreign, name_of, op_of, opened_at, provided_of, qualifier_at, restriction_in, version_in}
+use Rattle.relation_text.specs.Spelling.{after_name, after_qualifier, after_run, atom_of, inside_of, is_foreign, name_of, op_of, opened_at, provided_of, qualifier_at, restriction_in, version_in}
 use Rattle.relation_text.specs.declared.shape.Form.TheVariants.{Provides}
 use Rattle.relation_text.proofs.Runs.{Excludes, Stops, drop_run, excludes_byte, stops_past, take_run}
-use Rattle.relation_text.proofs.AtomText.{IsAnyOpened, IsAtomText, IsBehindName, IsBehindOperator, IsClosing, IsInside, IsOpened, IsTail, IsVersionText, TakesAny}
+use Rattle.relation_text.proofs.AtomText.{IsAnyOpened, IsAtomText, IsBehindName, IsBehindOperator, IsClosing, IsInside, IsTail, IsVersionText, TakesAny}
 
 -- Which bytes stop which
 

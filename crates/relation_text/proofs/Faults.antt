@@ -1,10 +1,10 @@
 -- A value isn't refused exactly where its shape, each version and the number of its atoms are well.
-use Rattle.std.proofs.Common.{◌≡◌, ℕ, zero, suc, ◌+◌, ◌-◌, ◌≤◌, ◌<◌, Bool, true, false, not, cond, Option, Some, None, List, [], ◌∷◌, length, refl, sym, ap, ◌∙◌, arith, inl, inr, ◌==◌, nat_lt}
-use Rattle.std.proofs.lemmas.Bool.{cases_Bool, eqb-true, eqb-false, ne_eqb}
+use Rattle.std.proofs.Common.{◌≡◌, ℕ, ◌+◌, ◌-◌, ◌≤◌, false, Option, Some, None, List, [], ◌∷◌, length, refl, arith, inl, inr, ◌==◌, nat_lt}
+use Rattle.std.proofs.lemmas.Bool.{cases_Bool, eqb-false, ne_eqb}
 use Rattle.std.specs.List.{AllByRecursion}
 use Rattle.std.specs.Option.{option_map, option_or}
-use Rattle.std.specs.Prelude.{Result, Ok, Err}
-use Rattle.relation_text.specs.Refusal.{bad_version_at, bad_version_of, excess_from, fault_of, least_refusal, more_after, most_atoms, separator_of, shape_refusal_from, sooner, too_large_at, unless_refused, version_refusal_from}
+use Rattle.std.specs.Prelude.{Ok}
+use Rattle.relation_text.specs.Refusal.{bad_version_of, excess_from, fault_of, least_refusal, most_atoms, separator_of, shape_refusal_from, sooner, unless_refused, version_refusal_from}
 use Rattle.relation_text.specs.Spelling.{is_blank, items_of, parts_of}
 use Rattle.relation_text.specs.declared.error.RelationFault.{RelationFault}
 use Rattle.relation_text.specs.declared.refusal.Refusal.{Refusal}

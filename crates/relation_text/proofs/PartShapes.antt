@@ -1,14 +1,14 @@
 -- A joined text has the shape of a form exactly where each of its parts leads to an end.
-use Rattle.std.proofs.Common.{◌≡◌, ◌≢◌, ℕ, Bool, true, false, cond, ◌+◌, Option, Some, None, List, [], ◌∷◌, ◌++◌, refl, sym, ap, ◌∙◌, inl, inr, subst}
+use Rattle.std.proofs.Common.{◌≡◌, ℕ, true, ◌+◌, None, List, [], ◌∷◌, ◌++◌, refl, sym, ap, ◌∙◌, inl, inr}
 use Rattle.std.proofs.lemmas.Bool.{and_parts, cases_Bool, false≢true}
 use Rattle.std.specs.List.{AllByRecursion, join_with_byte, list_all}
 use Rattle.relation_text.specs.Bytes.{is_comma, is_white}
 use Rattle.relation_text.specs.Grammar.{IsWhite}
 use Rattle.relation_text.specs.Place.{is_dead, is_end}
-use Rattle.relation_text.specs.Refusal.{shape_refusal_from, stop_at}
+use Rattle.relation_text.specs.Refusal.{shape_refusal_from}
 use Rattle.relation_text.specs.Shape.{next, place_after}
 use Rattle.relation_text.specs.declared.shape.Form.{Form}
-use Rattle.relation_text.specs.declared.shape.Form.TheVariants.{Clauses, Atoms, Provides}
+use Rattle.relation_text.specs.declared.shape.Form.TheVariants.{Clauses}
 use Rattle.relation_text.specs.declared.shape.Place.{Place}
 use Rattle.relation_text.specs.declared.shape.Place.TheVariants.{Between, Alternative, InName, AfterName, BeforeQualifier, InQualifier, Opened, Less, Greater, AfterOperator, InVersion, AfterVersion, Closed, Dead}
 use Rattle.relation_text.proofs.FirstStop.{dead_is}

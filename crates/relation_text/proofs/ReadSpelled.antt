@@ -1,27 +1,26 @@
 -- What is read of a value is spelled by it.
-use Rattle.std.proofs.Common.{◌≡◌, ℕ, ◌+◌, ◌≤◌, ◌<◌, Bool, true, false, not, cond, Option, Some, None, List, [], ◌∷◌, ◌++◌, length, map, refl, sym, ap, ◌∙◌, arith, inl, inr, ◌⊎◌, subst}
-use Rattle.std.proofs.lemmas.Bool.{and_left, and_parts, and_right, cases_Bool, both_ways, false≢true}
+use Rattle.std.proofs.Common.{◌≡◌, ℕ, ◌+◌, ◌≤◌, ◌<◌, true, false, not, Option, None, List, [], ◌∷◌, ◌++◌, length, map, refl, sym, ap, ◌∙◌, arith, inl, inr, ◌⊎◌, subst}
+use Rattle.std.proofs.lemmas.Bool.{and_left, and_right, cases_Bool, false≢true}
 use Rattle.std.proofs.lemmas.List.{length-append, length-map}
 use Rattle.std.proofs.lemmas.List.Elements.{filter-append}
 use Rattle.std.proofs.lemmas.List.Folds.{list_all-append}
 use Rattle.std.proofs.lemmas.List.Splits.{join_with_byte-slice_split}
-use Rattle.std.specs.List.{AllByRecursion, AllZip, filter_map, flat_map, join_with_byte, list_all, list_any, slice_split}
+use Rattle.std.specs.List.{AllByRecursion, AllZip, flat_map, join_with_byte, list_all}
 use Rattle.rules.specs.Package.{Atom, Provided}
 use Rattle.rules.specs.Name.{is_name}
 use Rattle.rules.specs.declared.goal.Restriction.{Restriction}
 use Rattle.relation_text.specs.Bytes.{is_bar, is_comma, is_white}
-use Rattle.relation_text.specs.Grammar.{IsWhite, SpellsAtom, SpellsAtoms, SpellsClause, SpellsClauses, SpellsList, SpellsPart, SpellsProvided, SpellsProvides}
+use Rattle.relation_text.specs.Grammar.{IsWhite, SpellsAtom, SpellsAtoms, SpellsClause, SpellsClauses, SpellsList, SpellsProvided, SpellsProvides}
 use Rattle.relation_text.specs.Laws.{AreFew, AtomsReadAreSpelled, ClausesReadAreSpelled, ProvidesReadAreSpelled, alternatives_of}
-use Rattle.relation_text.specs.Refusal.{bad_version_of, excess_from, fault_of, most_atoms, read_atoms, read_clauses, read_provides, separator_of}
+use Rattle.relation_text.specs.Refusal.{bad_version_of, excess_from, fault_of, most_atoms}
 use Rattle.relation_text.specs.Spelling.{atom_of, atoms_between, clauses_of, is_blank, items_of, parts_of, provided_items_of, provided_of, separates}
-use Rattle.relation_text.specs.declared.cut.Separator.{Separator}
 use Rattle.relation_text.specs.declared.cut.Separator.TheVariants.{Bar, Comma, CommaOrBar}
 use Rattle.relation_text.specs.declared.shape.Form.{Form}
 use Rattle.relation_text.specs.declared.shape.Form.TheVariants.{Clauses, Atoms, Provides}
 use Rattle.relation_text.specs.declared.shape.Place.TheVariants.{Between, Alternative}
 use Rattle.relation_text.proofs.AtomParse.{Ends, IsAtomOf, parse_alternative, parse_part}
 use Rattle.relation_text.proofs.AtomSpelling.{spelled_atom}
-use Rattle.relation_text.proofs.AtomText.{IsAtomText, IsOnePart, TakesAny}
+use Rattle.relation_text.proofs.AtomText.{IsAtomText, IsOnePart}
 use Rattle.relation_text.proofs.AtomValue.{atom_value, cut_atom, fails_white, faultless_from, name_stops, provided_value, white_fails}
 use Rattle.relation_text.proofs.Faults.{IsFine, few_items, fine_from, versions_fine, was_read}
 use Rattle.relation_text.proofs.FirstStop.{accepted_shape}
@@ -46,7 +45,7 @@ pub atom_text_not_blank : (text name : List ℕ) (qualifier : Option (List ℕ))
 atom_text_not_blank text name qualifier restriction is =
     ap is_blank is.text_is
     ∙ stops_blank is.before (name ++ is.rest) (name_stops is_white (fails_white is_ascii_alphanumeric refl refl refl) name is.rest is.name_is)
-      (name_some name is.rest is.name_is)
+    (name_some name is.rest is.name_is)
 
 atom_not_blank : (form : Form) (text : List ℕ) → IsAtomOf form text → is_blank text ≡ false
 atom_not_blank form text is = atom_text_not_blank text is.name is.qualifier is.restriction is.atom

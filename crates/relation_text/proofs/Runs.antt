@@ -1,8 +1,8 @@
 -- Bytes at the front that pass a test, and where a text stops passing it.
-use Rattle.std.proofs.Common.{◌≡◌, ℕ, Bool, true, false, List, [], ◌∷◌, ◌++◌, drop, refl, sym, ap, ◌∙◌, add-one, one-add, inl, inr, ◌==◌, subst}
+use Rattle.std.proofs.Common.{◌≡◌, ℕ, Bool, true, false, List, [], ◌∷◌, ◌++◌, refl, sym, ap, ◌∙◌, one-add, inl, inr, ◌==◌}
 use Rattle.std.proofs.lemmas.Bool.{and_parts, both_ways, cases_Bool, eqb-true, or_from}
 use Rattle.std.proofs.lemmas.List.Sums.{take_while-cons}
-use Rattle.std.specs.List.{list_all, list_any, prefix_len, take_while}
+use Rattle.std.specs.List.{list_all, list_any, take_while}
 use Rattle.relation_text.specs.Spelling.{after_run}
 
 -- the text doesn't go on with a byte that passes

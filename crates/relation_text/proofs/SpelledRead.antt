@@ -1,18 +1,18 @@
 -- What a value spells is read of it.
-use Rattle.std.proofs.Common.{◌≡◌, ℕ, ◌+◌, ◌≤◌, ◌<◌, Bool, true, false, Option, Some, None, List, [], ◌∷◌, ◌++◌, length, map, one-add, refl, sym, ap, ◌∙◌, arith, inl, inr, subst}
+use Rattle.std.proofs.Common.{◌≡◌, ℕ, ◌≤◌, ◌<◌, Bool, false, Option, Some, None, List, [], ◌∷◌, length, map, one-add, refl, sym, ap, ◌∙◌, arith, subst}
 use Rattle.std.proofs.lemmas.Bool.{and_parts, or_from}
 use Rattle.std.proofs.lemmas.List.{length-map}
-use Rattle.std.specs.List.{AllByRecursion, AllZip, filter_map, flat_map, join_with_byte, list_all, list_any, slice_split}
+use Rattle.std.specs.List.{AllByRecursion, AllZip, flat_map, join_with_byte, list_all, list_any}
 use Rattle.std.specs.Option.{option_and_then, option_map}
 use Rattle.std.specs.Prelude.{Ok}
 use Rattle.rules.specs.Package.{Atom, Provided}
 use Rattle.rules.specs.declared.goal.Restriction.{Restriction}
 use Rattle.relation_text.specs.Bytes.{is_bar, is_comma, is_white}
-use Rattle.relation_text.specs.Grammar.{IsWhite, SpellsAtom, SpellsAtoms, SpellsClause, SpellsClauses, SpellsList, SpellsPart, SpellsProvided, SpellsProvides, atom_of_provided, exactly}
+use Rattle.relation_text.specs.Grammar.{IsWhite, SpellsAtom, SpellsClause, SpellsClauses, SpellsList, SpellsProvided, atom_of_provided, exactly}
 use Rattle.relation_text.specs.Laws.{AreFew, AtomsSpelledAreRead, ClausesSpelledAreRead, ProvidesSpelledAreRead, alternatives_of}
 use Rattle.relation_text.specs.Place.{is_end}
-use Rattle.relation_text.specs.Refusal.{bad_version_in, bad_version_of, excess_from, fault_of, most_atoms, read_atoms, read_clauses, read_provides, separator_of, unless_refused}
-use Rattle.relation_text.specs.Spelling.{after_qualifier, after_run, atom_of, atoms_between, clauses_of, inside_of, is_blank, items_of, opened_at, parts_of, provided_items_of, provided_of, separates}
+use Rattle.relation_text.specs.Refusal.{bad_version_in, bad_version_of, fault_of, most_atoms, separator_of, unless_refused}
+use Rattle.relation_text.specs.Spelling.{after_qualifier, after_run, atom_of, atoms_between, clauses_of, is_blank, items_of, opened_at, parts_of, provided_items_of, provided_of, separates}
 use Rattle.rules.specs.Name.{is_name_byte}
 use Rattle.relation_text.specs.declared.cut.Separator.{Separator}
 use Rattle.relation_text.specs.declared.cut.Separator.TheVariants.{Bar, Comma, CommaOrBar}
@@ -21,13 +21,13 @@ use Rattle.relation_text.specs.declared.shape.Form.TheVariants.{Clauses, Atoms, 
 use Rattle.relation_text.specs.declared.shape.Place.TheVariants.{Between, Alternative}
 use Rattle.relation_text.proofs.AtomBytes.{atom_bytes, is_atom_byte}
 use Rattle.relation_text.proofs.AtomLeads.{Leads, atom_end_is_end, atom_leads, begins_alternative, begins_between}
-use Rattle.relation_text.proofs.AtomParse.{Ends, no_comma}
+use Rattle.relation_text.proofs.AtomParse.{Ends}
 use Rattle.relation_text.proofs.AtomSpelling.{atom_faultless, atom_parts, spelled_value}
 use Rattle.relation_text.proofs.AtomText.{IsOnePart, TakesAny}
 use Rattle.relation_text.proofs.AtomValue.{cut_atom, no_bad_version, provided_value, white_fails}
 use Rattle.relation_text.proofs.Faults.{IsFine, items_unrefused, no_fault, versions_unrefused}
 use Rattle.relation_text.proofs.PartShapes.{joined_clause, joined_end, shape_fine, white_stays}
-use Rattle.relation_text.proofs.PartSplits.{IsItem, SpellsSome, all_flat, all_items, all_map, items_back, joined_free, parts_fact, some_parts, split_free, split_joined}
+use Rattle.relation_text.proofs.PartSplits.{IsItem, all_flat, all_items, all_map, items_back, joined_free, parts_fact, some_parts, split_free, split_joined}
 use Rattle.relation_text.proofs.ReadSpelled.{atom_text_not_blank, count_of_value, joined_blank, parts_twice}
 use Rattle.relation_text.proofs.Runs.{Excludes, excludes_byte, run_free}
 
@@ -121,8 +121,8 @@ provided_is : (arch text : List ℕ) (item : Provided) → SpellsProvided arch t
 provided_is arch text item is =
     let atom = atom_of_provided item in
     let same : atom_of_provided (provided_of arch text) ≡ atom
-        = provided_value arch text atom.name is.qualifier atom.restriction (atom_parts arch text atom is) (takes_exactly item.version)
-        ∙ λ i. record { name = atom.name; restriction = atom.restriction; foreign = sym is.foreign_is i } in
+    = provided_value arch text atom.name is.qualifier atom.restriction (atom_parts arch text atom is) (takes_exactly item.version)
+    ∙ λ i. record { name = atom.name; restriction = atom.restriction; foreign = sym is.foreign_is i } in
     sym (provided_back (provided_of arch text)) ∙ ap provided_from same ∙ provided_back item
 
 provided_item : (arch text : List ℕ) (item : Provided) → SpellsProvided arch text item → IsItem (provided_of arch) text item
@@ -147,7 +147,7 @@ list_read {A} form by_comma Spells of good back value items is few =
     let free = all_map (IsGood form) (λ (text : List ℕ). list_any is_comma text ≡ false) (λ text is. comma_free form by_comma text is.one) parts all in
     let split : parts_of Comma value ≡ parts = ap (parts_of Comma) some.value_is ∙ split_joined is_comma 44 refl some.first some.later free in
     let values : map of (items_of (parts_of Comma value)) ≡ items
-        = ap (λ (parts : List (List ℕ)). map of (items_of parts)) split ∙ items_back Spells of back parts some.found some.each ∙ sym some.items_are in
+    = ap (λ (parts : List (List ℕ)). map of (items_of parts)) split ∙ items_back Spells of back parts some.found some.each ∙ sym some.items_are in
     let count : length (items_of (parts_of Comma value)) ≡ length items = sym (length-map (items_of (parts_of Comma value)) of) ∙ ap (λ (items : List A). length items) values in
     let same_parts : parts_of (separator_of form) value ≡ parts_of Comma value = ap (λ (separator : Separator). parts_of separator value) by_comma in
     record {
@@ -168,13 +168,13 @@ read_ok form value read items fine e = let clean = no_fault form value fine in r
 pub atoms_spelled_are_read : AtomsSpelledAreRead
 atoms_spelled_are_read arch value atoms is few =
     let read = list_read Atoms refl (SpellsAtom arch) (atom_of arch) (λ text atom is. atom_good Atoms arch text atom (takes_atoms atom.restriction) is)
-        (atom_item arch) value atoms is few in
+    (atom_item arch) value atoms is few in
     read_ok Atoms value (atoms_between Comma arch value) atoms read.fine read.items_are
 
 pub provides_spelled_are_read : ProvidesSpelledAreRead
 provides_spelled_are_read arch value items is few =
     let read = list_read Provides refl (SpellsProvided arch) (provided_of arch)
-        (λ text item is. atom_good Provides arch text (atom_of_provided item) (takes_exactly item.version) is) (provided_item arch) value items is few in
+    (λ text item is. atom_good Provides arch text (atom_of_provided item) (takes_exactly item.version) is) (provided_item arch) value items is few in
     read_ok Provides value (provided_items_of arch value) items read.fine read.items_are
 
 -- A clause
@@ -275,15 +275,15 @@ clauses_read arch value clauses is few =
     let free = all_map IsGoodClause (λ (text : List ℕ). list_any is_comma text ≡ false) (λ text is. is.free) parts all in
     let split : parts_of Comma value ≡ parts = ap (parts_of Comma) some.value_is ∙ split_joined is_comma 44 refl some.first some.later free in
     let values : clauses_of arch value ≡ clauses
-        = ap (λ (parts : List (List ℕ)). map (atoms_between Bar arch) (items_of parts)) split
-        ∙ items_back (SpellsClause arch) (atoms_between Bar arch) (λ text clause is. (clause_read arch text clause is).item) parts some.found some.each
-        ∙ sym some.items_are in
+    = ap (λ (parts : List (List ℕ)). map (atoms_between Bar arch) (items_of parts)) split
+    ∙ items_back (SpellsClause arch) (atoms_between Bar arch) (λ text clause is. (clause_read arch text clause is).item) parts some.found some.each
+    ∙ sym some.items_are in
     let versions : AllByRecursion (λ (text : List ℕ). bad_version_of text ≡ None) (flat_map (parts_of Bar) parts)
-        = all_flat (λ (text : List ℕ). bad_version_of text ≡ None) (parts_of Bar) parts
-        (all_map IsGoodClause (λ (text : List ℕ). AllByRecursion (λ (text : List ℕ). bad_version_of text ≡ None) (parts_of Bar text)) (λ text is. is.versions) parts all) in
+    = all_flat (λ (text : List ℕ). bad_version_of text ≡ None) (parts_of Bar) parts
+    (all_map IsGoodClause (λ (text : List ℕ). AllByRecursion (λ (text : List ℕ). bad_version_of text ≡ None) (parts_of Bar text)) (λ text is. is.versions) parts all) in
     let texts : parts_of CommaOrBar value ≡ flat_map (parts_of Bar) parts = parts_twice value ∙ ap (flat_map (parts_of Bar)) split in
     let count : length (items_of (parts_of CommaOrBar value)) ≡ length (alternatives_of clauses)
-        = count_of_value arch value ∙ ap (λ (clauses : List (List Atom)). length (alternatives_of clauses)) values in
+    = count_of_value arch value ∙ ap (λ (clauses : List (List Atom)). length (alternatives_of clauses)) values in
     record {
       fine = record {
         shape = shape_fine Clauses value (subst (Ends Clauses Between) (sym some.value_is)
