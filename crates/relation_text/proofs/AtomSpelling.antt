@@ -1,5 +1,5 @@
 -- What is spelled as an atom has the parts of one, and the other way round.
-use Rattle.std.proofs.Common.{◌≡◌, ℕ, Option, Some, None, List, ◌∷◌, ◌++◌, refl, sym, ap, ◌∙◌, append_assoc}
+use Rattle.std.proofs.Common.{◌≡◌, ℕ, Option, Some, None, List, ◌∷◌, ◌++◌, codes, refl, sym, ap, ◌∙◌, append_assoc}
 use Rattle.rules.specs.Package.{Atom}
 use Rattle.rules.specs.VersionFault.{first_fault}
 use Rattle.rules.specs.declared.goal.Restriction.{Restriction}
@@ -10,7 +10,7 @@ use Rattle.relation_text.proofs.AtomText.{IsAnyOpened, IsAtomText, IsOpened}
 use Rattle.relation_text.proofs.AtomBytes.{version_text}
 use Rattle.relation_text.proofs.AtomValue.{IsFaultless, atom_from, atom_value}
 
-regroup_restriction : (a o b v c d : List ℕ) → a ++ o ++ b ++ v ++ c ++ d ≡ a ++ (o ++ (b ++ (v ++ (c ++ d))))
+regroup_restriction : (a o b v c d : List ℕ) → a ++ o ++ b ++ v ++ c ++ codes ")" ++ d ≡ a ++ (o ++ (b ++ (v ++ (c ++ (41 ∷ d)))))
 regroup_restriction a o b v c d = simp append_assoc refl
 
 regroup_atom : (a n q b r : List ℕ) → a ++ n ++ q ++ b ++ r ≡ a ++ (n ++ (q ++ (b ++ r)))
@@ -33,7 +33,7 @@ spelled_restriction text restriction is clean =
           ∙ ap (λ (bytes : List ℕ). 40 ∷ (is.before ++ bytes)) (inside.text_is
           ∙ ap (λ (bytes : List ℕ). inside.operator ++ bytes) (rest.text_is
           ∙ ap (λ (bytes : List ℕ). rest.before ++ (restriction.version ++ bytes)) closing.text_is))
-          ∙ ap (λ (bytes : List ℕ). 40 ∷ bytes) (sym (regroup_restriction is.before inside.operator rest.before restriction.version closing.before (41 ∷ closing.behind)));
+          ∙ ap (λ (bytes : List ℕ). 40 ∷ bytes) (sym (regroup_restriction is.before inside.operator rest.before restriction.version closing.before closing.behind));
       white = (is.before_is, rest.before_is, closing.before_is, closing.behind_is);
       op_is = inside.op_is;
       version_is = (faultless_is_spelled restriction.version).0 clean;
@@ -73,7 +73,7 @@ opened_parts text restriction is =
       before = is.before_operator;
       inside = is.operator ++ rest;
       text_is = is.text_is
-          ∙ ap (λ (bytes : List ℕ). 40 ∷ bytes) (regroup_restriction is.before_operator is.operator is.before_version restriction.version is.before_closing (41 ∷ is.behind));
+          ∙ ap (λ (bytes : List ℕ). 40 ∷ bytes) (regroup_restriction is.before_operator is.operator is.before_version restriction.version is.before_closing is.behind);
       before_is = is.white.0;
       inside_is = record {
         operator = is.operator;

@@ -12,8 +12,7 @@ use Rattle.debversion.specs.Spelling.{IsSpelled}
 use Rattle.relation_text.specs.Bytes.{is_qualifier_byte, is_white}
 use Rattle.relation_text.specs.Spelling.{is_foreign}
 
--- white space, or nothing: "white space may appear at any point in the version specification", and in a folded
--- field newlines are white space (Policy 7.1)
+-- white space, or nothing: spaces, tabs, and in a folded field newlines (Policy 7.1 and 5.1)
 abbrev pub IsWhite : List ℕ → Type 0
 IsWhite text = list_all is_white text ≡ true
 
@@ -25,7 +24,7 @@ IsQualifier (b ∷ rest) = (is_ascii_alphanumeric b ≡ true) × (list_all is_qu
 -- a qualifier and the colon before it, if there is one: `package:architecture` (Policy 7.1)
 abbrev pub behind_colon : Option (List ℕ) → List ℕ
 behind_colon None = []
-behind_colon (Some qualifier) = 58 ∷ qualifier
+behind_colon (Some qualifier) = codes ":" ++ qualifier
 
 -- how an operator is written (Policy 7.1): the obsolete `<` and `>` mean `<=` and `>=`
 abbrev pub SpellsOp : List ℕ → Op → Type 0
@@ -42,12 +41,12 @@ pub record SpellsRestriction (text : List ℕ) (restriction : Restriction) : Typ
   pub before_version : List ℕ
   pub before_closing : List ℕ
   pub behind : List ℕ
-  pub text_is : text ≡ 40 ∷ (before_operator ++ operator ++ before_version ++ restriction.version ++ before_closing ++ 41 ∷ behind)
+  pub text_is : text ≡ codes "(" ++ before_operator ++ operator ++ before_version ++ restriction.version ++ before_closing ++ codes ")" ++ behind
   pub white : IsWhite before_operator × IsWhite before_version × IsWhite before_closing × IsWhite behind
   pub op_is : SpellsOp operator restriction.op
   pub version_is : IsSpelled restriction.version
 
--- the restriction of an atom, which may have none: then nothing is written (Policy 7.1)
+-- the restriction of an atom: where it has none, nothing is written (Policy 7.1)
 abbrev pub SpellsAnyRestriction : List ℕ → Option Restriction → Type 0
 SpellsAnyRestriction text None = text ≡ []
 SpellsAnyRestriction text (Some restriction) = SpellsRestriction text restriction
@@ -77,11 +76,19 @@ atom_of_provided item = record { name = item.name; restriction = option_map exac
 abbrev pub SpellsProvided : List ℕ → List ℕ → Provided → Type 0
 SpellsProvided arch text item = SpellsAtom arch text (atom_of_provided item)
 
+-- texts with a bar between each two (Policy 7.1)
+abbrev pub between_bars : List (List ℕ) → List ℕ
+between_bars texts = join_with_byte 124 texts
+
+-- texts with a comma between each two (Policy 7.1)
+abbrev pub between_commas : List (List ℕ) → List ℕ
+between_commas texts = join_with_byte 44 texts
+
 -- a clause is spelled as one atom, or as alternatives between bars (Policy 7.1)
 pub record SpellsClause (arch text : List ℕ) (clause : List Atom) : Type 0 where
   pub alternatives : List (List ℕ)
   pub some : 0 < length clause
-  pub text_is : text ≡ join_with_byte 124 alternatives
+  pub text_is : text ≡ between_bars alternatives
   pub each : AllZip (SpellsAtom arch) alternatives clause
 
 -- a text between commas spells one item, or it is white space alone and spells none (this project's own)
@@ -89,23 +96,23 @@ abbrev pub SpellsPart : {A : Type 0} → (List ℕ → A → Type 0) → List �
 SpellsPart Spells text None = IsWhite text
 SpellsPart Spells text (Some item) = Spells text item
 
--- a value spells these items: commas stand between its parts, each of which spells one of them in their order, or
--- none (Policy 7.1)
+-- a value spells these items: commas stand between its parts, each of which spells the next of them, or none
+-- (Policy 7.1)
 pub record SpellsList {A : Type 0} (Spells : List ℕ → A → Type 0) (value : List ℕ) (items : List A) : Type 0 where
   pub parts : List (List ℕ)
   pub found : List (Option A)
-  pub value_is : value ≡ join_with_byte 44 parts
+  pub value_is : value ≡ between_commas parts
   pub each : AllZip (SpellsPart Spells) parts found
   pub items_are : items ≡ filter_map (λ item. item) found
 
--- a value of Pre-Depends or Depends spells these clauses
+-- a value of Pre-Depends or Depends spells these clauses (Policy 7.2)
 abbrev pub SpellsClauses : List ℕ → List ℕ → List (List Atom) → Type 0
 SpellsClauses arch value clauses = SpellsList (SpellsClause arch) value clauses
 
--- a value of Conflicts or Breaks spells these atoms
+-- a value of Conflicts or Breaks spells these atoms: it has no alternatives (Policy 7.1, 7.3 and 7.4)
 abbrev pub SpellsAtoms : List ℕ → List ℕ → List Atom → Type 0
 SpellsAtoms arch value atoms = SpellsList (SpellsAtom arch) value atoms
 
--- a value of Provides spells these items
+-- a value of Provides spells these items (Policy 7.5)
 abbrev pub SpellsProvides : List ℕ → List ℕ → List Provided → Type 0
 SpellsProvides arch value items = SpellsList (SpellsProvided arch) value items
