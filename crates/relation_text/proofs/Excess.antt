@@ -1,10 +1,10 @@
 -- A value that has no more parts than a field may have atoms has no atom too many.
-use Rattle.std.proofs.Common.{◌≡◌, ℕ, ◌+◌, ◌-◌, ◌<◌, ◌≤◌, ◌==◌, Bool, true, false, Some, None, List, [], ◌∷◌, length, refl, arith, inl, inr}
+use Rattle.std.proofs.Common.{◌≡◌, ℕ, ◌+◌, ◌-◌, ◌<◌, ◌≤◌, ◌==◌, true, None, List, [], ◌∷◌, length, refl, arith, inl, inr}
 use Rattle.std.proofs.lemmas.Bool.{cases_Bool, eqb-true}
 use Rattle.std.proofs.lemmas.List.Splits.{length-slice_split}
 use Rattle.std.proofs.lemmas.List.Sums.{count_by-le-length}
 use Rattle.std.specs.List.{count_by, slice_split}
-use Rattle.relation_text.specs.Refusal.{excess_from, more_after, most_atoms}
+use Rattle.relation_text.specs.Refusal.{excess_from, most_atoms}
 use Rattle.relation_text.specs.Spelling.{is_blank, parts_of, separates}
 use Rattle.relation_text.specs.declared.cut.Separator.{Separator}
 

@@ -9,7 +9,7 @@ use Rattle.relation_text.specs.declared.shape.Place.{Place}
 use Rattle.relation_text.specs.declared.shape.Place.TheVariants.{Between, Alternative, InName, AfterName, BeforeQualifier, InQualifier, Opened, Less, Greater, AfterOperator, InVersion, AfterVersion, Closed, Dead}
 use Rattle.relation_text.proofs.ShapeLemmas.{live_front, dead_front}
 
-dead_is : (place : Place) → is_dead place ≡ true → place ≡ Dead
+pub dead_is : (place : Place) → is_dead place ≡ true → place ≡ Dead
 dead_is Between e = cc
 dead_is Alternative e = cc
 dead_is InName e = cc

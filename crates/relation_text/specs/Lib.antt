@@ -1,5 +1,7 @@
 pub mod Bytes
 pub mod Cut
+pub mod Grammar
+pub mod Laws
 pub mod Place
 pub mod Refusal
 pub mod Shape

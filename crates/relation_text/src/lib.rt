@@ -6,6 +6,7 @@
 
 mod cut;
 mod error;
+mod laws;
 mod refusal;
 mod shape;
 
@@ -14,5 +15,6 @@ pub use cut::{
     split_qualifier, version_front,
 };
 pub use error::RelationFault;
+pub use laws::{what_is_read_is_spelled, what_is_spelled_is_read};
 pub use refusal::{a_shape_is_refused_at_the_first_byte_that_goes_on_with_no_text, check};
 pub use shape::{Form, every_other_place_has_a_completion, no_text_goes_on_from_the_dead_place};
