@@ -1,15 +1,15 @@
 -- The loops over the lines of a text of which more may come: through the gap before a stanza, and through the stanza.
-use Rattle.std.proofs.Common.{◌≡◌, ℕ, suc, ◌+◌, ◌-◌, ◌<◌, ◌≤◌, Bool, true, false, cond, not, ◌||◌, List, [], ◌∷◌, ◌++◌, length, take, drop, refl, sym, ap, subst, ◌∙◌, arith, append_assoc, add_assoc, add-zero, ltb, eqb, None, Some, Ok, Err, inl, inr}
+use Rattle.std.proofs.Common.{◌≡◌, ℕ, ◌+◌, ◌-◌, ◌<◌, ◌≤◌, Bool, true, false, cond, not, ◌||◌, List, [], ◌∷◌, ◌++◌, length, take, drop, refl, sym, ap, subst, ◌∙◌, arith, append_assoc, add_assoc, add-zero, ltb, eqb, None, Some, Ok, inl, inr}
 use Rattle.std.proofs.lemmas.Bool.{false≢true, cases_Bool, cases_lt, lt-ltb, le-ltb}
-use Rattle.std.proofs.lemmas.List.{append-nil, take-append-drop, drop-append-le, drop-drop, length-append, length-take, length-take-le, length-drop, length_push, take_all, drop_all}
+use Rattle.std.proofs.lemmas.List.{append-nil, take-append-drop, drop-drop, length-append, length-take, length-drop, length_push, drop_all}
 use Rattle.std.proofs.Math.Seq.{take-add}
-use Rattle.std.specs.List.{list_any}
 use Rattle.stanza.specs.declared.error.StanzaError.{StanzaError}
+use Rattle.stanza.specs.declared.known.Known.{Known}
 use Rattle.stanza.specs.declared.starts.Start.{Start}
 use Rattle.stanza.specs.Line.{lines_of, begins_field, is_comment, is_separator, IsWhole}
 use Rattle.stanza.specs.Field.{name_of, names_of}
 use Rattle.stanza.specs.Fault.{is_open, fault_of, first_fault, or_then}
-use Rattle.stanza.specs.Seen.{AreSeen}
+use Rattle.stanza.specs.Known.{AreKnown}
 use Rattle.stanza.specs.Stanza.{stanza_of, stanza_in, before_kept, without_last_comments}
 use Rattle.stanza.specs.Starts.{starts_of}
 use Rattle.stanza.specs.Streamed.{BeginsAhead, EndsLine, IsAhead, IsFaulty, IsOpen, MayFollow, SkipsAhead, has_newline, lines_within, read_lines, read_within}
@@ -101,7 +101,7 @@ pub record StepsBy (text later : List ℕ) (offset most : ℕ) : Type 0 where
   pub longer : ltb most (length (text ++ later)) ≡ ltb (most - offset) (length (drop offset text ++ later))
 
 -- the lines up to an offset are read: none parts stanzas, none has a fault, and the fields end at `end`
-pub record Reads (is_over commented : Bool) (n : ℕ) (text : List ℕ) (offset lines end : ℕ) (opened : Bool) (slots : List Bool) (starts : List Start) : Type 0 where
+pub record Reads (is_over commented : Bool) (n : ℕ) (text : List ℕ) (offset lines end : ℕ) (opened : Bool) (known : Known) (starts : List Start) : Type 0 where
   pub within : offset ≤ length text
   pub count : lines ≡ length (lines_of (take offset text))
   pub each : lines ≤ offset
@@ -112,12 +112,12 @@ pub record Reads (is_over commented : Bool) (n : ℕ) (text : List ℕ) (offset 
   pub kept : lines_of (take end text) ≡ without_last_comments commented (lines_of (take offset text))
   pub ended : end ≤ offset
   pub open_is : opened ≡ is_open commented (lines_of (take offset text))
-  pub seen : AreSeen slots (names_of commented (lines_of (take offset text)))
+  pub known_is : AreKnown known (names_of commented (lines_of (take offset text)))
   pub starts_are : starts ≡ starts_of commented 0 n (lines_of (take offset text))
   pub first : 0 < offset → (line : List ℕ) × (more : List (List ℕ)) × (lines_of (take offset text) ≡ line ∷ more) × (is_comment commented line ≡ false)
 
-pub Reads-none : (is_over commented : Bool) (n : ℕ) (text : List ℕ) (slots : List Bool) → Reads is_over commented n text 0 0 0 false slots []
-Reads-none is_over commented n text slots = record {
+pub Reads-none : (is_over commented : Bool) (n : ℕ) (text : List ℕ) (known : Known) → AreKnown known [] → Reads is_over commented n text 0 0 0 false known []
+Reads-none is_over commented n text known none = record {
   within = omega arith;
   count = refl;
   each = omega arith;
@@ -131,12 +131,12 @@ Reads-none is_over commented n text slots = record {
   kept = refl;
   ended = omega arith;
   open_is = refl;
-  seen = tt;
+  known_is = none;
   starts_are = refl;
   first = λ some. absurd (omega (arith, some));
 }
 
-module _ (is_over commented : Bool) (n : ℕ) (text : List ℕ) (offset lines end : ℕ) (opened : Bool) (slots : List Bool) (starts : List Start) (len : ℕ) where
+module _ (is_over commented : Bool) (n : ℕ) (text : List ℕ) (offset lines end : ℕ) (opened : Bool) (known : Known) (starts : List Start) (len : ℕ) where
   -- something follows what was read
   more-behind : EndsLine is_over (drop offset text) len → is_over ≡ true → 0 < length (drop offset text)
   more-behind ends over = omega (arith, ends.some, ends.within)
@@ -145,12 +145,12 @@ module _ (is_over commented : Bool) (n : ℕ) (text : List ℕ) (offset lines en
   take-line = take-add offset len text
 
   -- the lines with one more
-  lines-more : Reads is_over commented n text offset lines end opened slots starts → EndsLine is_over (drop offset text) len → lines_of (take (offset + len) text) ≡ lines_of (take offset text) ++ take len (drop offset text) ∷ []
+  lines-more : Reads is_over commented n text offset lines end opened known starts → EndsLine is_over (drop offset text) len → lines_of (take (offset + len) text) ≡ lines_of (take offset text) ++ take len (drop offset text) ∷ []
   lines-more reads ends =
       ap lines_of take-line ∙ reads.whole (more-behind ends) (take len (drop offset text)) ∙ ap (λ x. lines_of (take offset text) ++ x) ends.alone
 
   -- where the fields end, with one more line
-  kept-more : Reads is_over commented n text offset lines end opened slots starts → EndsLine is_over (drop offset text) len → (comment : Bool) → is_comment commented (take len (drop offset text)) ≡ comment → lines_of (take (cond (not comment) (offset + len) end) text) ≡ without_last_comments commented (lines_of (take offset text) ++ take len (drop offset text) ∷ [])
+  kept-more : Reads is_over commented n text offset lines end opened known starts → EndsLine is_over (drop offset text) len → (comment : Bool) → is_comment commented (take len (drop offset text)) ≡ comment → lines_of (take (cond (not comment) (offset + len) end) text) ≡ without_last_comments commented (lines_of (take offset text) ++ take len (drop offset text) ∷ [])
   kept-more reads ends true is = reads.kept ∙ sym (kept-comment commented (lines_of (take offset text)) (take len (drop offset text)) is)
   kept-more reads ends false is = lines-more reads ends ∙ sym (kept-field commented (lines_of (take offset text)) (take len (drop offset text)) is)
 
@@ -159,22 +159,22 @@ module _ (is_over commented : Bool) (n : ℕ) (text : List ℕ) (offset lines en
   ended-more within false = omega arith
 
   -- the line after those that were read, and what is left
-  next-line : Reads is_over commented n text offset lines end opened slots starts → EndsLine is_over (drop offset text) len → (later : List ℕ) (most : ℕ) → MayFollow is_over later → length text ≤ most → StepsLine (drop offset text) later len (most - offset)
+  next-line : Reads is_over commented n text offset lines end opened known starts → EndsLine is_over (drop offset text) len → (later : List ℕ) (most : ℕ) → MayFollow is_over later → length text ≤ most → StepsLine (drop offset text) later len (most - offset)
   next-line reads ends later most may fits = line-step is_over (drop offset text) later len (most - offset) ends may (omega (arith, length-drop offset text, fits, reads.within))
 
-  first-more : Reads is_over commented n text offset lines end opened slots starts → EndsLine is_over (drop offset text) len → (offset ≡ 0 → is_comment commented (take len (drop offset text)) ≡ false) → (line : List ℕ) × (more : List (List ℕ)) × (lines_of (take (offset + len) text) ≡ line ∷ more) × (is_comment commented line ≡ false)
+  first-more : Reads is_over commented n text offset lines end opened known starts → EndsLine is_over (drop offset text) len → (offset ≡ 0 → is_comment commented (take len (drop offset text)) ≡ false) → (line : List ℕ) × (more : List (List ℕ)) × (lines_of (take (offset + len) text) ≡ line ∷ more) × (is_comment commented line ≡ false)
   first-more reads ends begins = elim (cases_lt 0 offset) [
     | inl some ↦ let f = reads.first some in (f.0, f.1 ++ take len (drop offset text) ∷ [], lines-more reads ends ∙ ap (λ x. x ++ take len (drop offset text) ∷ []) f.2, f.3)
     | inr none ↦ let z : offset ≡ 0 = omega (arith, none) in (take len (drop offset text), [], lines-more reads ends ∙ ap (λ k. lines_of (take k text) ++ take len (drop offset text) ∷ []) z, begins z)
   ]
 
-  pub Reads-more : (later-slots : List Bool) (later-starts : List Start) → Reads is_over commented n text offset lines end opened slots starts → EndsLine is_over (drop offset text) len
+  pub Reads-more : (later-known : Known) (later-starts : List Start) → Reads is_over commented n text offset lines end opened known starts → EndsLine is_over (drop offset text) len
       → is_separator (take len (drop offset text)) ≡ false → (offset ≡ 0 → is_comment commented (take len (drop offset text)) ≡ false)
       → fault_of commented (lines_of (take offset text)) (n + lines) (take len (drop offset text)) ≡ None
-      → AreSeen later-slots (names_of commented (lines_of (take offset text) ++ take len (drop offset text) ∷ []))
+      → AreKnown later-known (names_of commented (lines_of (take offset text) ++ take len (drop offset text) ∷ []))
       → later-starts ≡ starts_of commented 0 n (lines_of (take offset text) ++ take len (drop offset text) ∷ [])
-      → Reads is_over commented n text (offset + len) (lines + 1) (cond (not (is_comment commented (take len (drop offset text)))) (offset + len) end) (not (is_comment commented (take len (drop offset text)))) later-slots later-starts
-  Reads-more later-slots later-starts reads ends other begins clean seen starts-are =
+      → Reads is_over commented n text (offset + len) (lines + 1) (cond (not (is_comment commented (take len (drop offset text)))) (offset + len) end) (not (is_comment commented (take len (drop offset text)))) later-known later-starts
+  Reads-more later-known later-starts reads ends other begins clean known_is starts-are =
       let d = lines_of (take offset text) in
       let line = take len (drop offset text) in
       let more = lines-more reads ends in
@@ -200,13 +200,13 @@ module _ (is_over commented : Bool) (n : ℕ) (text : List ℕ) (offset lines en
         kept = kept-more reads ends (is_comment commented line) refl ∙ ap (without_last_comments commented) (sym more);
         ended = ended-more reads.ended (is_comment commented line);
         open_is = sym (is_open-push commented d line) ∙ ap (is_open commented) (sym more);
-        seen = subst (λ x. AreSeen later-slots (names_of commented x)) (sym more) seen;
+        known_is = subst (λ x. AreKnown later-known (names_of commented x)) (sym more) known_is;
         starts_are = starts-are ∙ ap (starts_of commented 0 n) (sym more);
         first = λ _. first-more reads ends begins;
       }
 
   -- the fault of the line behind those that were read
-  pub Reads-fault : (fault : StanzaError) → Reads is_over commented n text offset lines end opened slots starts → EndsLine is_over (drop offset text) len → is_separator (take len (drop offset text)) ≡ false → fault_of commented (lines_of (take offset text)) (n + lines) (take len (drop offset text)) ≡ Some fault → IsFaulty is_over commented n text fault
+  pub Reads-fault : (fault : StanzaError) → Reads is_over commented n text offset lines end opened known starts → EndsLine is_over (drop offset text) len → is_separator (take len (drop offset text)) ≡ false → fault_of commented (lines_of (take offset text)) (n + lines) (take len (drop offset text)) ≡ Some fault → IsFaulty is_over commented n text fault
   Reads-fault fault reads ends other is = λ later most may fits.
       let d = lines_of (take offset text) in
       let line = take len (drop offset text) in
@@ -239,23 +239,23 @@ starts-kept commented at n (line ∷ lines) =
     comments-start commented at n line (without_last_comments commented lines)
     ∙ ap (λ x. cond (begins_field commented line) (record { at = at; name_len = length (name_of line); line = n } ∷ x) x) (starts-kept commented (at + length line) (n + 1) lines)
 
-module _ (is_over commented : Bool) (n : ℕ) (text : List ℕ) (offset lines end : ℕ) (opened : Bool) (slots : List Bool) (starts : List Start) where
-  the-stanza : Reads is_over commented n text offset lines end opened slots starts → 0 < offset → stanza_in commented n (lines_of (take offset text)) ≡ Some (stanza_of commented n (lines_of (take end text)))
+module _ (is_over commented : Bool) (n : ℕ) (text : List ℕ) (offset lines end : ℕ) (opened : Bool) (known : Known) (starts : List Start) where
+  the-stanza : Reads is_over commented n text offset lines end opened known starts → 0 < offset → stanza_in commented n (lines_of (take offset text)) ≡ Some (stanza_of commented n (lines_of (take end text)))
   the-stanza reads some =
       let f = reads.first some in
       stanza_in-lines commented n (lines_of (take offset text)) f.0 f.1 f.2 f.3 ∙ ap (λ x. Some (stanza_of commented n x)) (sym reads.kept)
 
-  some-bytes : Reads is_over commented n text offset lines end opened slots starts → 0 < offset → 0 < end
+  some-bytes : Reads is_over commented n text offset lines end opened known starts → 0 < offset → 0 < end
   some-bytes reads some =
       let f = reads.first some in
       let kept = kept-some commented f.0 f.1 f.3 in
       omega (arith, some-lines (take end text) f.0 kept.0 (reads.kept ∙ ap (without_last_comments commented) f.2 ∙ kept.1), length-take end text)
 
-  the-starts : Reads is_over commented n text offset lines end opened slots starts → starts ≡ starts_of commented 0 n (lines_of (take end text))
+  the-starts : Reads is_over commented n text offset lines end opened known starts → starts ≡ starts_of commented 0 n (lines_of (take end text))
   the-starts reads = reads.starts_are ∙ sym (starts-kept commented 0 n (lines_of (take offset text))) ∙ ap (starts_of commented 0 n) (sym reads.kept)
 
   -- before a separator
-  pub IsAhead-before : (len : ℕ) → Reads is_over commented n text offset lines end opened slots starts → 0 < offset → EndsLine is_over (drop offset text) len → is_separator (take len (drop offset text)) ≡ true → IsAhead is_over commented n text end offset lines × (starts ≡ starts_of commented 0 n (lines_of (take end text)))
+  pub IsAhead-before : (len : ℕ) → Reads is_over commented n text offset lines end opened known starts → 0 < offset → EndsLine is_over (drop offset text) len → is_separator (take len (drop offset text)) ≡ true → IsAhead is_over commented n text end offset lines × (starts ≡ starts_of commented 0 n (lines_of (take end text)))
   IsAhead-before len reads some ends separator = (
     record {
       items = λ later most may fits.
@@ -279,7 +279,7 @@ module _ (is_over commented : Bool) (n : ℕ) (text : List ℕ) (offset lines en
   )
 
   -- at the text's end
-  pub IsAhead-last : Reads is_over commented n text offset lines end opened slots starts → 0 < offset → length text ≤ offset → is_over ≡ true → IsAhead is_over commented n text end offset lines × (starts ≡ starts_of commented 0 n (lines_of (take end text)))
+  pub IsAhead-last : Reads is_over commented n text offset lines end opened known starts → 0 < offset → length text ≤ offset → is_over ≡ true → IsAhead is_over commented n text end offset lines × (starts ≡ starts_of commented 0 n (lines_of (take end text)))
   IsAhead-last reads some all over = (
     record {
       items = λ later most may fits.
@@ -301,7 +301,7 @@ module _ (is_over commented : Bool) (n : ℕ) (text : List ℕ) (offset lines en
   )
 
   -- where more is needed
-  pub Reads-open : Reads is_over commented n text offset lines end opened slots starts → is_over ≡ false → has_newline (drop offset text) ≡ false → IsOpen commented n text
+  pub Reads-open : Reads is_over commented n text offset lines end opened known starts → is_over ≡ false → has_newline (drop offset text) ≡ false → IsOpen commented n text
   Reads-open reads more none = λ later follows.
       let d = lines_of (take offset text) in
       let split = reads.split later (length text) (λ over. absurd (false≢true (sym more ∙ over))) (omega arith) in

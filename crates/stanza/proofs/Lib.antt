@@ -9,6 +9,7 @@ pub mod CollectLemmas
 pub mod GroupLemmas
 pub mod FileLemmas
 pub mod AloneLemmas
+pub mod KnownLemmas
 pub mod StreamLemmas
 pub mod AheadLemmas
 pub mod StartsLemmas

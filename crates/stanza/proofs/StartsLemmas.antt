@@ -1,16 +1,15 @@
 -- Where fields begin: the names and the fields that are found there.
-use Rattle.std.proofs.Common.{◌≡◌, ℕ, suc, zero, ◌+◌, ◌<◌, ◌≤◌, Bool, true, false, ◌||◌, List, [], ◌∷◌, ◌++◌, length, take, drop, map, refl, sym, ap, subst, ◌∙◌, arith, append_assoc, add_assoc, add-zero, eqb, Option, None, Some, inl, inr}
+use Rattle.std.proofs.Common.{◌≡◌, ℕ, suc, zero, ◌+◌, ◌<◌, Bool, true, false, List, [], ◌∷◌, ◌++◌, length, take, map, refl, sym, ap, subst, ◌∙◌, arith, append_assoc, add-zero, eqb, Option, None, Some, inl, inr}
 use Rattle.std.specs.Borrow.{Bor}
 use Rattle.stanza.specs.Fault.{FindsName, IsNameOn}
 use Rattle.std.proofs.lemmas.Bool.{cases_Bool}
-use Rattle.std.proofs.lemmas.List.{append-nil, length-append, drop_at, map-append}
-use Rattle.std.specs.List.{concat, onto_first, list_any, AllByRecursion}
+use Rattle.std.proofs.lemmas.List.{append-nil, length-append, drop_at}
+use Rattle.std.specs.List.{concat, onto_first}
 use Rattle.stanza.specs.declared.starts.Start.{Start}
 use Rattle.stanza.specs.Line.{lines_of, begins_field}
-use Rattle.stanza.specs.Field.{FieldText, name_of, names_of, same_name, field_of, fields_of, continued}
+use Rattle.stanza.specs.Field.{FieldText, name_of, names_of, field_of, fields_of, continued}
 use Rattle.stanza.specs.Starts.{starts_of, name_at, field_at, first_field, IsWithin, AreWithin}
 use Rattle.stanza.proofs.LineLemmas.{concat-lines_of, lines_of-head}
-use Rattle.stanza.proofs.NameLemmas.{names_of-push}
 
 take-again : (k : ℕ) (l x : List ℕ) → take (length (take k l)) (l ++ x) ≡ take k l
 take-again zero l x = refl
@@ -106,14 +105,9 @@ fields-at commented n raw = subst (λ (text : List ℕ). map (field_at text) (st
 
 -- ---- what a reader notes
 
-any-map : (p : List ℕ → Bool) (f : Start → List ℕ) (starts : List Start) → list_any (λ start. p (f start)) starts ≡ list_any p (map f starts)
-any-map p f [] = refl
-any-map p f (start ∷ starts) = ap (λ b. p (f start) || b) (any-map p f starts)
-
--- a name that a field before has is one of the names of the lines
-pub any-name-at : (commented : Bool) (n : ℕ) (raw name : List ℕ) (starts : List Start) → starts ≡ starts_of commented 0 n (lines_of raw) → list_any (λ start. same_name (name_at raw start) name) starts ≡ list_any (λ earlier. same_name earlier name) (names_of commented (lines_of raw))
-any-name-at commented n raw name starts are =
-    any-map (λ earlier. same_name earlier name) (name_at raw) starts ∙ ap (list_any (λ earlier. same_name earlier name)) (ap (map (name_at raw)) are ∙ names-at commented n raw)
+-- the names that begin where a reader has noted are those of the lines
+pub names-noted : (commented : Bool) (n : ℕ) (raw : List ℕ) (starts : List Start) → starts ≡ starts_of commented 0 n (lines_of raw) → map (name_at raw) starts ≡ names_of commented (lines_of raw)
+names-noted commented n raw starts are = ap (map (name_at raw)) are ∙ names-at commented n raw
 
 -- a line that begins no field adds none
 pub starts-other : (commented : Bool) (n : ℕ) (raw line : List ℕ) → begins_field commented line ≡ false → starts_of commented 0 n (lines_of raw ++ line ∷ []) ≡ starts_of commented 0 n (lines_of raw)

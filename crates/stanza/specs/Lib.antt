@@ -9,5 +9,6 @@ pub mod File
 pub mod Collect
 pub mod Streamed
 pub mod Starts
+pub mod Known
 pub mod Held
 pub mod Reading

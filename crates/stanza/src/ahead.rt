@@ -1,21 +1,20 @@
 //! The first stanza of a text of which more may come: its lines are tested in turn, up to a separator.
-ghost use Rattle.std.specs.Prelude.{◌≡◌, ◌<◌, ◌≤◌, ◌⊎◌, ◌+◌, ◌-◌, ◌^◌, ◌∷◌, ◌++◌, ◌||◌, [], ℕ, Bool, true, false, List, length, take, drop, map, IfErr, IfOk, MatchOption, MatchResult, None, Some};
-ghost use Rattle.std.specs.List.{list_any};
+ghost use Rattle.std.specs.Prelude.{◌≡◌, ◌<◌, ◌≤◌, ◌⊎◌, ◌+◌, ◌-◌, ◌^◌, ◌∷◌, ◌++◌, ◌||◌, [], ℕ, Bool, true, false, List, length, take, drop, map, IfErr, IfOk, OnOk, MatchOption, MatchResult, None, Some};
 ghost use Rattle.stanza.specs.Line.{lines_of, begins_field, is_comment, is_separator};
-ghost use Rattle.stanza.specs.Field.{names_of, name_of, same_name};
+ghost use Rattle.stanza.specs.Field.{names_of, name_of};
 ghost use Rattle.stanza.specs.Fault.{is_open, is_repeated, fault_of};
-ghost use Rattle.stanza.specs.Seen.{AreSeen};
-ghost use Rattle.stanza.specs.Starts.{name_at, starts_of};
+ghost use Rattle.stanza.specs.Known.{AreKnown};
+ghost use Rattle.stanza.specs.Starts.{starts_of};
 ghost use Rattle.stanza.specs.Streamed.{BeginsAhead, EndsLine, FindsAhead, IsFaulty, SkipsAhead, has_newline};
 ghost use Rattle.stanza.specs.declared.error.ReadError.TheVariants as read_error;
 
 use crate::error::{ReadError, StanzaError};
 use crate::front::{end_after, may_repeat, name_on};
+use crate::known::Known;
 use crate::lines::{NEWLINE, is_comment, is_separator};
-use crate::names::same_name;
-use crate::seen::Seen;
-use crate::starts::{Start, part};
+use crate::starts::Start;
 use memchr::memchr;
+use std::alloc::AllocError;
 
 /// Where the bytes of a stanza end, and how many bytes, of how many lines, are read with it: comments behind its last field are
 /// read, and are no part of it.
@@ -67,23 +66,23 @@ pub fn gap_ahead(commented: bool, text: &[u8], is_over: bool) -> (usize, usize)
     (offset, lines)
 }
 
-// Whether a field that begins before has the name.
-fn has_name(done: &[u8], starts: &[Start], name: &[u8]) -> bool
-    ensures { result ≡ list_any (λ start. same_name (name_at done.now start) name.now) starts.now }
-{
-    starts.iter().any(|start| same_name(part(done, start.at, start.name_len), name))
-}
-
-// Whether a field before has the name, which may stand but once: where its slot is free, none has.
-fn is_known(commented: bool, done: &[u8], starts: &[Start], seen: &Seen, name: &[u8]) -> bool
-    requires seen { AreSeen seen.now.slots (names_of commented (lines_of done.now)) }
+// Whether a field before has the name, which may stand but once.
+fn is_known(
+    commented: bool,
+    done: &[u8],
+    starts: &[Start],
+    known: &mut Known,
+    name: &[u8],
+) -> Result<bool, AllocError>
+    requires known { AreKnown known.old (names_of commented (lines_of done.now)) }
     requires starts { (n : ℕ) × (starts.now ≡ starts_of commented 0 n (lines_of done.now)) }
-    ensures { result ≡ is_repeated commented (lines_of done.now) name.now }
+    ensures repeated { IfOk result (λ is. is ≡ is_repeated commented (lines_of done.now) name.now) }
+    ensures known { OnOk result (AreKnown known.new (names_of commented (lines_of done.now))) }
 {
-    if !seen.has_slot_of(name) || may_repeat(commented, name) {
-        return false;
+    if may_repeat(commented, name) {
+        return Ok(false);
     }
-    has_name(done, starts, name)
+    known.has(done, starts, name)
 }
 
 // Tests the line, which stands after `done` in its stanza, and notes the field that it begins.
@@ -93,14 +92,14 @@ fn take_line(
     opened: bool,
     number: usize,
     line: &[u8],
-    seen: &mut Seen,
+    known: &mut Known,
     starts: &mut Vec<Start>,
 ) -> Result<(), ReadError>
     requires follows { opened ≡ is_open commented (lines_of done.now) }
-    requires seen { AreSeen seen.old.slots (names_of commented (lines_of done.now)) }
+    requires known { AreKnown known.old (names_of commented (lines_of done.now)) }
     requires starts { (n : ℕ) × (starts.old.items ≡ starts_of commented 0 n (lines_of done.now)) × (number ≡ n + length (lines_of done.now)) }
     ensures clean { IfOk result (λ _. fault_of commented (lines_of done.now) number line.now ≡ None) }
-    ensures seen { IfOk result (λ _. AreSeen seen.new.slots (names_of commented (lines_of done.now ++ line.now ∷ []))) }
+    ensures known { IfOk result (λ _. AreKnown known.new (names_of commented (lines_of done.now ++ line.now ∷ []))) }
     ensures starts { IfOk result (λ _. (n : ℕ) → number ≡ n + length (lines_of done.now)
         → starts.new.items ≡ starts_of commented 0 n (lines_of done.now ++ line.now ∷ [])) }
     ensures fault { IfErr result (λ e. (e ≡ read_error.OutOfMemory)
@@ -109,10 +108,10 @@ fn take_line(
     let Some(name) = name_on(commented, opened, number, line)? else {
         return Ok(());
     };
-    if is_known(commented, done, starts.as_slice(), seen, name) {
+    if is_known(commented, done, starts.as_slice(), known, name)? {
         return Err(ReadError::Refused(StanzaError::DuplicateField(number)));
     }
-    seen.add(name);
+    known.add(name);
     starts.push(Start {
         at: done.len(),
         name_len: name.len(),
@@ -122,7 +121,7 @@ fn take_line(
 }
 
 /// The stanza at the front of a text that isn't empty, whose first line stands after `before` others, and where its fields begin:
-/// nothing where more of the text has to be read. Linear in the stanza, but for fields whose names share a slot.
+/// nothing where more of the text has to be read. About linear in the stanza.
 pub fn stanza_ahead(
     commented: bool,
     before: usize,
@@ -138,7 +137,7 @@ pub fn stanza_ahead(
         ⊎ ((fault : _) × (e ≡ read_error.Refused fault) × IsFaulty is_over commented (before + 1) text.now fault)) }
 {
     starts.clear();
-    let mut seen = Seen::new();
+    let mut known = Known::new(*starts.allocator());
     let mut offset = 0;
     let mut lines = 0;
     let mut end = 0;
@@ -162,7 +161,7 @@ pub fn stanza_ahead(
             opened,
             before + lines + 1,
             line,
-            &mut seen,
+            &mut known,
             starts,
         )?;
         offset += len;

@@ -9,6 +9,7 @@ mod entries;
 mod error;
 mod front;
 mod held;
+mod known;
 pub mod laws;
 mod lines;
 mod names;

@@ -111,7 +111,7 @@ impl Reader {
     }
 
     /// Goes on to the next stanza, and answers whether there is one. After an error it answers that error from then on, and
-    /// reads no more. Linear in the text, but for fields of a stanza whose names share a slot of 256.
+    /// reads no more. About linear in the text, however many fields a stanza has.
     pub fn advance<S: Source>(&mut self, source: &mut S) -> Result<bool, ReadError>
         ensures commented { self.new.commented ≡ self.old.commented }
         ensures some { IfOk result (λ found. found ≡ is_some self.new.stanza) }

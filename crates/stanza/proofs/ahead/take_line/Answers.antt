@@ -1,10 +1,8 @@
 -- The line's field is noted, if it begins one.
-use Rattle.std.proofs.Common.{rules, ◌≡◌, ℕ, ◌+◌, ◌++◌, ◌∷◌, [], List, Option, MatchOption, false, true, length, arith, sym, ap, subst, ◌∙◌}
-use Rattle.stanza.specs.Line.{lines_of, begins_field}
-use Rattle.stanza.specs.Fault.{IsNameOn, is_open, fault_of}
+use Rattle.std.proofs.Common.{◌≡◌, ℕ, ◌++◌, ◌∷◌, [], List, length, arith, sym, ap, ◌∙◌}
+use Rattle.stanza.specs.Line.{lines_of}
 use Rattle.stanza.specs.Starts.{starts_of}
 use Rattle.stanza.specs.declared.starts.Start.{Start}
-use Rattle.stanza.proofs.NameLemmas.{AreSeen-field}
 use Rattle.stanza.proofs.StartsLemmas.{name-found, none-found, starts-field, starts-other}
 use Rattle.stanza.proofs.ahead.take_line.Goals as goal
 
@@ -13,11 +11,6 @@ returns-in_default-clause-starts c = λ n count.
     let same : c.requires.starts.0 ≡ n = omega (arith, count, c.requires.starts.2) in
     c.requires.starts.1 ∙ ap (λ (k : ℕ). starts_of c.args.commented 0 k (lines_of c.args.done.now)) same
     ∙ sym (starts-other c.args.commented n c.args.done.now c.args.line.now (none-found c.args.commented c.args.opened c.args.number c.args.line.now c.in_ok-name.field-0 c.in_default.is c.in_ok-name.ensures))
-
-pub returns-clause-seen : goal.returns-clause-seen
-returns-clause-seen c =
-    AreSeen-field c.args.commented (lines_of c.args.done.now) c.args.line.now c.in-Some.name.now c.args.seen.now.slots c.add.new.self.slots (name-found c.args.commented c.args.opened c.args.number c.args.line.now c.in-Some.name c.in_ok-name.field-0 c.in-Some.is c.in_ok-name.ensures).begins
-    (name-found c.args.commented c.args.opened c.args.number c.args.line.now c.in-Some.name c.in_ok-name.field-0 c.in-Some.is c.in_ok-name.ensures).is c.requires.seen c.add.ensures.slots c.add.ensures.added
 
 pub returns-clause-starts : goal.returns-clause-starts
 returns-clause-starts c = λ n count.
