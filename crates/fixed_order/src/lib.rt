@@ -9,11 +9,15 @@ mod ground;
 mod key;
 mod members;
 mod named;
+mod peel;
 mod purge;
+mod ranks;
 mod removal;
 mod selection;
 mod state;
+mod turn;
 mod unpack;
+mod waiting;
 
 pub use fixed::fixed_order;
 pub use named::{has_names, has_pair_names};
