@@ -21,10 +21,10 @@ use Rattle.plain.specs.Walk.{IsInOrAbove, IsOnWalk, IsPassing}
 use Rattle.plain.proofs.LeastGroupLemmas.{names_unconfigured, all_of_none, some_length}
 use Rattle.plain.proofs.SortedLemmas.{not_below_itself}
 use Rattle.fixed_order.specs.Alone.{IsFirstWith, PassesAlone, is_below}
-use Rattle.fixed_order.specs.Turn.{AsksBefore, HasKnots, KNOT}
+use Rattle.fixed_order.specs.Turn.{AsksBefore, HasRings, is_ring}
 use Rattle.fixed_order.specs.Waiting.{AscendWith}
 use Rattle.fixed_order.specs.Walked.{IsBeginning}
-use Rattle.fixed_order.proofs.TurnLemmas.{alone_or_knot}
+use Rattle.fixed_order.proofs.TurnLemmas.{alone_or_ring}
 use mathlib.Core.Logic.{inl, inr}
 
 -- a list that isn't empty has a length
@@ -120,18 +120,18 @@ nothing_passes db names none = record {
   greatest = λ other within passes. All-intro (Contains []) other (λ n there. absurd (none other (some_length other n there) within passes));
 }
 
--- of the names below a bound none passes alone and of the knots below it no part passes: no part of them passes
-pub nothing_lower : (db : List Record) (names knots before : List (List ℕ)) (bound : Option (List ℕ))
-    → AscendWith (unconfigured_of db) names → HasKnots db names knots → All (λ name. ¬ PassesAlone db name) before
-    → All (λ name. is_below bound name ≡ true) before → IsGreatestPart db (filter (is_below bound) knots) [] → IsGreatestPart db before []
-nothing_lower db names knots before bound are has alone below greatest = nothing_passes db before refused
+-- of the names below a bound none passes alone and of the rings below it no part passes: no part of them passes
+pub nothing_lower : (db : List Record) (names rings before : List (List ℕ)) (bound : Option (List ℕ))
+    → AscendWith (unconfigured_of db) names → HasRings db names rings → All (λ name. ¬ PassesAlone db name) before
+    → All (λ name. is_below bound name ≡ true) before → IsGreatestPart db (filter (is_below bound) rings) [] → IsGreatestPart db before []
+nothing_lower db names rings before bound are has alone below greatest = nothing_passes db before refused
   where
     refused : (other : List (List ℕ)) → 0 < length other → All (Contains before) other → ¬ GroupPasses db other
-    refused other some within passes = elim (alone_or_knot has.rank db other some passes asks) [
+    refused other some within passes = elim (alone_or_ring has.rank db other some passes asks) [
       | inl one ↦ All-contains (λ name. ¬ PassesAlone db name) before one.0 alone
           (All-contains (Contains before) other one.0 within one.1.within) (alone_passes db one.0 one.1.passes)
-      | inr knot ↦ none_of knot.0 knot.1.some (greatest.greatest knot.0 (All-intro (Contains (filter (is_below bound) knots)) knot.0
-          (λ name there. lower knot.0 knot.1.within knot.1.knotted name there)) knot.1.passes)
+      | inr ring ↦ none_of ring.0 ring.1.some (greatest.greatest ring.0 (All-intro (Contains (filter (is_below bound) rings)) ring.0
+          (λ name there. lower ring.0 ring.1.within ring.1.ringed name there)) ring.1.passes)
     ]
       where
         named : (name : List ℕ) → Contains other name → Contains names name
@@ -141,12 +141,12 @@ nothing_lower db names knots before bound are has alone below greatest = nothing
         asks = All-intro (AsksBefore has.rank db) other (λ name there.
             All-contains (AsksBefore has.rank db) names name has.asks (named name there))
 
-        lower : (part : List (List ℕ)) → All (Contains other) part → All (λ name. has.rank name ≡ KNOT) part → (name : List ℕ)
-            → Contains part name → Contains (filter (is_below bound) knots) name
-        lower part inside knotted name there =
+        lower : (part : List (List ℕ)) → All (Contains other) part → All (λ name. is_ring (has.rank name) ≡ true) part → (name : List ℕ)
+            → Contains part name → Contains (filter (is_below bound) rings) name
+        lower part inside ringed name there =
             let here = All-contains (Contains other) part name inside there in
-            Contains-filter_intro (is_below bound) knots name
-            (has.knotted name (named name here) (All-contains (λ n. has.rank n ≡ KNOT) part name knotted there))
+            Contains-filter_intro (is_below bound) rings name
+            (has.ringed name (named name here) (All-contains (λ n. is_ring (has.rank n) ≡ true) part name ringed there))
             (All-contains (λ n. is_below bound n ≡ true) before name below (All-contains (Contains before) other name within here))
 
 -- each of ascending names is before the place, at it, or above the name there

@@ -1,5 +1,5 @@
--- Names that ask for names before them: in each group that passes one of them passes alone, or a part of the knots does.
-use Rattle.std.proofs.Common.{◌≡◌, ℕ, ◌<◌, ◌≤◌, ◌==◌, Bool, true, List, [], ◌∷◌, ◌++◌, length, ◌⊎◌, refl, sym, ap, subst, ◌∙◌, arith}
+-- Names that ask for names before them: in each group that passes one of them passes alone, or a part of the rings does.
+use Rattle.std.proofs.Common.{◌≡◌, ℕ, ◌<◌, ◌≤◌, ◌==◌, Bool, true, false, List, [], ◌∷◌, ◌++◌, length, ◌⊎◌, refl, sym, ap, subst, ◌∙◌, arith}
 use Rattle.std.specs.Borrow.{Bor}
 use Rattle.std.specs.List.{All, Any, Contains, filter}
 use Rattle.std.proofs.lemmas.Bool.{cases_order, eq-eqb, eqb-true}
@@ -15,7 +15,7 @@ use Rattle.rules.specs.Step.{is_among}
 use Rattle.rules.proofs.EndLemmas.{both_true}
 use Rattle.rules.proofs.GroupLemmas.{GroupPasses-each, GroupPasses-from_each}
 use Rattle.plain.proofs.LeastGroupLemmas.{some_length}
-use Rattle.fixed_order.specs.Turn.{AsksBefore, AsksBeforeBy, ComesBefore, ComesBeforeBy, HasKnots, KNOT, is_knotted, rank_in}
+use Rattle.fixed_order.specs.Turn.{AsksBefore, AsksBeforeBy, ComesBefore, ComesBeforeBy, HasRings, is_ring, is_ringed, rank_in}
 use mathlib.Core.Logic.{inl, inr}
 
 -- what matches the clause comes before the name
@@ -138,12 +138,12 @@ least_ranked : (rank : List ℕ → ℕ) (names : List (List ℕ)) → 0 < lengt
 least_ranked rank [] some = absurd (omega (arith, some))
 least_ranked rank (first ∷ rest) some = least_from rank first rest
 
--- some names of the group pass, and all of them are knots
-pub record IsKnotIn (rank : List ℕ → ℕ) (db : List Record) (group part : List (List ℕ)) : Type 0 where
+-- some names of the group pass, and all of them are rings
+pub record IsRingIn (rank : List ℕ → ℕ) (db : List Record) (group part : List (List ℕ)) : Type 0 where
   pub some : 0 < length part
   pub passes : GroupPasses db part
   pub within : All (Contains group) part
-  pub knotted : All (λ name. rank name ≡ KNOT) part
+  pub ringed : All (λ name. is_ring (rank name) ≡ true) part
 
 -- a name of the group passes alone
 pub record IsAloneIn (db : List Record) (group : List (List ℕ)) (name : List ℕ) : Type 0 where
@@ -158,8 +158,8 @@ module _ (rank : List ℕ → ℕ) (db : List Record) (group : List (List ℕ)) 
   only : (name : List ℕ) → Contains (least ∷ []) name → least ≡ name
   only name within = elim (Contains-cons least [] name within) [ inl same ↦ same | inr none ↦ absurd (Contains-nil name none) ]
 
-  -- the name of the least rank, if that is no knot's
-  alone_of : ¬ (rank least ≡ KNOT) → IsAloneIn db group least
+  -- the name of the least rank, if that is no ring's
+  alone_of : is_ring (rank least) ≡ false → IsAloneIn db group least
   unfolding ComesBefore
   alone_of apart = record {
     within = is.within;
@@ -173,76 +173,76 @@ module _ (rank : List ℕ → ℕ) (db : List Record) (group : List (List ℕ)) 
       at : (other : List ℕ) → Contains group other → ComesBefore rank other least → least ≡ other
       at other inside (inl same) = sym same
       at other inside (inr (inl below)) = let no_less = is.least other inside in absurd (omega (arith, no_less, below))
-      at other inside (inr (inr both)) = absurd (apart both.1)
+      at other inside (inr (inr both)) = absurd (let e : true ≡ false = sym both.1 ∙ ap is_ring both.0 ∙ apart in cc)
 
-  abbrev is_knot : List ℕ → Bool
-  is_knot name = rank name == KNOT
+  abbrev is_same_rank : List ℕ → Bool
+  is_same_rank name = rank name == rank least
 
-  to_knot : (name : List ℕ) → is_knot name ≡ true → rank name ≡ KNOT
-  to_knot name passes_ = eqb-true (rank name) KNOT passes_
+  to_rank : (name : List ℕ) → is_same_rank name ≡ true → rank name ≡ rank least
+  to_rank name passes_ = eqb-true (rank name) (rank least) passes_
 
-  from_knot : (name : List ℕ) → rank name ≡ KNOT → is_knot name ≡ true
-  from_knot name same = eq-eqb (rank name) KNOT same
+  from_rank : (name : List ℕ) → rank name ≡ rank least → is_same_rank name ≡ true
+  from_rank name same = eq-eqb (rank name) (rank least) same
 
-  -- the names of the group that are knots, if one of them has the least rank
-  knot_of : rank least ≡ KNOT → IsKnotIn rank db group (filter is_knot group)
+  -- the names of the group that are rings, if one of them has the least rank
+  ring_of : is_ring (rank least) ≡ true → IsRingIn rank db group (filter is_same_rank group)
   unfolding ComesBefore
-  knot_of same = record {
-    some = some_length (filter is_knot group) least (Contains-filter_intro is_knot group least is.within (from_knot least same));
-    passes = part_passes rank db group (filter is_knot group) passes inside
-        (λ name there. asks_of name (Contains-filter is_knot group name there).0)
-        (λ name other there among before. Contains-filter_intro is_knot group other among
-        (from_knot other (at name other (to_knot name (Contains-filter is_knot group name there).1) among before)));
+  ring_of ring = record {
+    some = some_length (filter is_same_rank group) least (Contains-filter_intro is_same_rank group least is.within (from_rank least refl));
+    passes = part_passes rank db group (filter is_same_rank group) passes inside
+        (λ name there. asks_of name (Contains-filter is_same_rank group name there).0)
+        (λ name other there among before. Contains-filter_intro is_same_rank group other among
+        (from_rank other (at name other (to_rank name (Contains-filter is_same_rank group name there).1) among before)));
     within = inside;
-    knotted = All-intro (λ name. rank name ≡ KNOT) (filter is_knot group) (λ name there. to_knot name (Contains-filter is_knot group name there).1);
+    ringed = All-intro (λ name. is_ring (rank name) ≡ true) (filter is_same_rank group) (λ name there.
+        ap is_ring (to_rank name (Contains-filter is_same_rank group name there).1) ∙ ring);
   }
     where
-      inside : All (Contains group) (filter is_knot group)
-      inside = All-intro (Contains group) (filter is_knot group) (λ name there. (Contains-filter is_knot group name there).0)
+      inside : All (Contains group) (filter is_same_rank group)
+      inside = All-intro (Contains group) (filter is_same_rank group) (λ name there. (Contains-filter is_same_rank group name there).0)
 
-      at : (name other : List ℕ) → rank name ≡ KNOT → Contains group other → ComesBefore rank other name → rank other ≡ KNOT
+      at : (name other : List ℕ) → rank name ≡ rank least → Contains group other → ComesBefore rank other name → rank other ≡ rank least
       at name other known among (inl alike) = ap rank alike ∙ known
-      at name other known among (inr (inl below)) = let no_less = is.least other among in absurd (omega (arith, no_less, below, known, same))
-      at name other known among (inr (inr both)) = both.0
+      at name other known among (inr (inl below)) = let no_less = is.least other among in absurd (omega (arith, no_less, below, known))
+      at name other known among (inr (inr both)) = both.0 ∙ known
 
--- in a group that passes a name passes alone, or a part that is all knots passes
-pub alone_or_knot : (rank : List ℕ → ℕ) (db : List Record) (group : List (List ℕ)) → 0 < length group → GroupPasses db group
+-- in a group that passes a name passes alone, or a part that is all rings passes
+pub alone_or_ring : (rank : List ℕ → ℕ) (db : List Record) (group : List (List ℕ)) → 0 < length group → GroupPasses db group
     → All (AsksBefore rank db) group
-    → ((name : List ℕ) × IsAloneIn db group name) ⊎ ((part : List (List ℕ)) × IsKnotIn rank db group part)
-alone_or_knot rank db group some passes asks = at (least_ranked rank group some)
+    → ((name : List ℕ) × IsAloneIn db group name) ⊎ ((part : List (List ℕ)) × IsRingIn rank db group part)
+alone_or_ring rank db group some passes asks = at (least_ranked rank group some)
   where
     at : (name : List ℕ) × IsLeastRanked rank group name
-        → ((name : List ℕ) × IsAloneIn db group name) ⊎ ((part : List (List ℕ)) × IsKnotIn rank db group part)
-    at (least, is) = by (cases_order (rank least) KNOT)
+        → ((name : List ℕ) × IsAloneIn db group name) ⊎ ((part : List (List ℕ)) × IsRingIn rank db group part)
+    at (least, is) = by (is_ring (rank least)) refl
       where
-        by : (rank least ≡ KNOT) ⊎ ((rank least < KNOT) ⊎ (KNOT < rank least))
-            → ((name : List ℕ) × IsAloneIn db group name) ⊎ ((part : List (List ℕ)) × IsKnotIn rank db group part)
-        by (inl same) = inr (filter (is_knot rank db group passes asks least is) group, knot_of rank db group passes asks least is same)
-        by (inr (inl below)) = inl (least, alone_of rank db group passes asks least is (λ same. omega (arith, same, below)))
-        by (inr (inr above)) = inl (least, alone_of rank db group passes asks least is (λ same. omega (arith, same, above)))
+        by : (b : Bool) → is_ring (rank least) ≡ b
+            → ((name : List ℕ) × IsAloneIn db group name) ⊎ ((part : List (List ℕ)) × IsRingIn rank db group part)
+        by true ring = inr (filter (is_same_rank rank db group passes asks least is) group, ring_of rank db group passes asks least is ring)
+        by false apart = inl (least, alone_of rank db group passes asks least is apart)
 
--- by one rank for all, that of a knot, each name asks for names before it
-asks_knots : (db : List Record) (name : List ℕ) → AsksBefore (λ n. KNOT) db name
+-- by one rank for all, that of a ring, each name asks for names before it
+asks_in_ring : (db : List Record) (name : List ℕ) → AsksBefore (λ n. 1) db name
 unfolding AsksBefore AsksBeforeBy ComesBefore
-asks_knots db name = All-intro (λ member. member.name ≡ name → All (AsksBeforeBy (λ n. KNOT) db name) member.relations.depends) db
-    (λ member inside same. All-intro (AsksBeforeBy (λ n. KNOT) db name) member.relations.depends (λ clause there.
-    inr (All-intro (λ atom. All (ComesBeforeBy (λ n. KNOT) name atom) db) clause (λ atom within.
-    All-intro (ComesBeforeBy (λ n. KNOT) name atom) db (λ found here present matches. inr (inr (refl, refl)))))))
+asks_in_ring db name = All-intro (λ member. member.name ≡ name → All (AsksBeforeBy (λ n. 1) db name) member.relations.depends) db
+    (λ member inside same. All-intro (AsksBeforeBy (λ n. 1) db name) member.relations.depends (λ clause there.
+    inr (All-intro (λ atom. All (ComesBeforeBy (λ n. 1) name atom) db) clause (λ atom within.
+    All-intro (ComesBeforeBy (λ n. 1) name atom) db (λ found here present matches. inr (inr (refl, refl)))))))
 
--- all names are knots at most
-pub all_knots : (db : List Record) (names knots : List (List ℕ)) → knots ≡ names → HasKnots db names knots
-all_knots db names knots same = record {
-  rank = λ n. KNOT;
-  asks = All-intro (AsksBefore (λ n. KNOT) db) names (λ name there. asks_knots db name);
-  knotted = λ name there known. subst (λ (ns : List (List ℕ)). Contains ns name) (sym same) there;
+-- all names are rings at most
+pub all_ringed : (db : List Record) (names rings : List (List ℕ)) → rings ≡ names → HasRings db names rings
+all_ringed db names rings same = record {
+  rank = λ n. 1;
+  asks = All-intro (AsksBefore (λ n. 1) db) names (λ name there. asks_in_ring db name);
+  ringed = λ name there known. subst (λ (ns : List (List ℕ)). Contains ns name) (sym same) there;
 }
 
--- by a table of ranks the knots are those with that rank
-pub ranked_knots : (db : List Record) (table : List (Bor (List ℕ) × ℕ)) (names knots : List (List ℕ))
-    → All (AsksBefore (rank_in table) db) names → knots ≡ filter (is_knotted table) names → HasKnots db names knots
-ranked_knots db table names knots asks same = record {
+-- by a table of ranks the rings are those with that rank
+pub ranked_rings : (db : List Record) (table : List (Bor (List ℕ) × ℕ)) (names rings : List (List ℕ))
+    → All (AsksBefore (rank_in table) db) names → rings ≡ filter (is_ringed table) names → HasRings db names rings
+ranked_rings db table names rings asks same = record {
   rank = rank_in table;
   asks = asks;
-  knotted = λ name there known. subst (λ (ns : List (List ℕ)). Contains ns name) (sym same)
-      (Contains-filter_intro (is_knotted table) names name there (rw known refl));
+  ringed = λ name there known. subst (λ (ns : List (List ℕ)). Contains ns name) (sym same)
+      (Contains-filter_intro (is_ringed table) names name there (rw known refl));
 }

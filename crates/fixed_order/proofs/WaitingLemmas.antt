@@ -94,13 +94,13 @@ waiting_kept u start members db group waiting underway allowed was = record {
     falls = was.down.falls;
     all = λ name within. was.down.all name (waited name within);
   };
-  knots = record {
-    rank = was.knots.rank;
-    asks = All-weaker (AsksBefore was.knots.rank db) (AsksBefore was.knots.rank (after u db (Configure group)))
-        (asks_kept was.knots.rank group db (λ old there among.
+  rings = record {
+    rank = was.rings.rank;
+    asks = All-weaker (AsksBefore was.rings.rank db) (AsksBefore was.rings.rank (after u db (Configure group)))
+        (asks_kept was.rings.rank group db (λ old there among.
         unconfigured_present old.state (may old there among).0))
-        waiting.names.items was.knots.asks;
-    knotted = was.knots.knotted;
+        waiting.names.items was.rings.asks;
+    ringed = was.rings.ringed;
   };
 }
   where

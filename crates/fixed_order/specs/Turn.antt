@@ -1,26 +1,27 @@
--- Which names ask for names before them, and which may ask for one another in turn (Policy 7.2; this project's own).
-use Rattle.std.specs.Prelude.{◌≡◌, ℕ, ◌<◌, ◌==◌, Bool, List, ◌⊎◌, bytes_eq, unwrap_or}
+-- Which names ask for names before them, and which are in rings, where names may ask for one another in turn (Policy 7.2; this
+-- project's own).
+use Rattle.std.specs.Prelude.{◌≡◌, ℕ, ◌<◌, ◌==◌, ◌%◌, Bool, true, List, ◌⊎◌, bytes_eq, unwrap_or}
 use Rattle.std.specs.Borrow.{Bor}
 use Rattle.std.specs.List.{All, Contains}
 use Rattle.std.specs.Map.{lookup}
 use Rattle.rules.specs.Database.{Record, IsPresent, installed_of, pkg_of}
 use Rattle.rules.specs.Package.{Atom, Matches, MeetsClause}
 
--- the rank of names that may ask for one another
-abbrev pub KNOT : ℕ
-KNOT = 2147483648
-
 -- the rank of the name in a table, and 0 where it has none
 abbrev pub rank_in : List (Bor (List ℕ) × ℕ) → List ℕ → ℕ
 rank_in table name = unwrap_or (lookup (λ key. bytes_eq name key.now) table) 0
 
--- the name has the rank of a knot, as a test
-abbrev pub is_knotted : List (Bor (List ℕ) × ℕ) → List ℕ → Bool
-is_knotted table name = rank_in table name == KNOT
+-- names of a ring have the rank, as a test: it is odd
+abbrev pub is_ring : ℕ → Bool
+is_ring rank = rank % 2 == 1
 
--- the first rank is below the second, or both are that of a knot
+-- the name is in a ring, as a test
+abbrev pub is_ringed : List (Bor (List ℕ) × ℕ) → List ℕ → Bool
+is_ringed table name = is_ring (rank_in table name)
+
+-- the first rank is below the second, or they are one, which names of a ring have
 abbrev pub IsBelow : ℕ → ℕ → Type 0
-IsBelow rank other = (rank < other) ⊎ ((rank ≡ KNOT) × (other ≡ KNOT))
+IsBelow rank other = (rank < other) ⊎ ((rank ≡ other) × (is_ring rank ≡ true))
 
 -- the first name is the second, or its rank is below
 unfoldable pub ComesBefore : (List ℕ → ℕ) → List ℕ → List ℕ → Type 0
@@ -39,9 +40,9 @@ AsksBeforeBy rank db name clause = MeetsClause (installed_of db) clause
 unfoldable pub AsksBefore : (List ℕ → ℕ) → List Record → List ℕ → Type 0
 AsksBefore rank db name = All (λ member. member.name ≡ name → All (AsksBeforeBy rank db name) member.relations.depends) db
 
--- among the names these are all that may ask for one another in turn: by some ranks each asks for names before it, and these have
--- the rank of a knot
-pub record HasKnots (db : List Record) (names knots : List (List ℕ)) : Type 0 where
+-- among the names these are all that are in rings: by some ranks each asks for names before it, and where names of a ring have the
+-- rank it is one of these
+pub record HasRings (db : List Record) (names rings : List (List ℕ)) : Type 0 where
   pub rank : List ℕ → ℕ
   pub asks : All (AsksBefore rank db) names
-  pub knotted : (name : List ℕ) → Contains names name → rank name ≡ KNOT → Contains knots name
+  pub ringed : (name : List ℕ) → Contains names name → is_ring (rank name) ≡ true → Contains rings name

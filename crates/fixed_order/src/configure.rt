@@ -76,7 +76,7 @@ fn lower_names(alloc: Global, names: &[Name], bound: Option<&Name>) -> Result<Ve
     Ok(lower)
 }
 
-// The greatest part of the names below the bound, of which none passes alone: it's something only where a part of the knots
+// The greatest part of the names below the bound, of which none passes alone: it's something only where a part of the rings
 // passes.
 fn lower_group(
     alloc: Global,
@@ -90,7 +90,11 @@ fn lower_group(
     requires below { All (λ name. is_below (option_copied bound) name ≡ true) before.now }
     ensures { IfOk result (λ group. IsGreatestPart db.now before.now group.items) }
 {
-    let lower = lower_names(alloc, waiting.knots.as_slice(), bound)?;
+    if waiting.rings.len() == waiting.names.len() {
+        let all = greatest_part(alloc, db, before)?;
+        return Ok(all);
+    }
+    let lower = lower_names(alloc, waiting.rings.as_slice(), bound)?;
     let some = greatest_part(alloc, db, lower.as_slice())?;
     if some.is_empty() {
         return Ok(some);

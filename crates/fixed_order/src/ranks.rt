@@ -1,15 +1,12 @@
 // A rank for each of some names: a number by which it is told which names come before others.
 
 ghost use Rattle.std.specs.Prelude.{◌≡◌, ◌↔◌, IsTrue};
-ghost use Rattle.fixed_order.specs.Turn.{ComesBefore, IsBelow, is_knotted, rank_in};
+ghost use Rattle.fixed_order.specs.Turn.{ComesBefore, IsBelow, is_ring, is_ringed, rank_in};
 
 use indexmap::IndexMap;
 use plancheck_end::is_same;
 use std::alloc::{AllocError, Global};
 use std::marker::Model;
-
-/// The rank of names that may ask for one another in turn.
-pub(crate) const KNOT: usize = 2147483648;
 
 /// A table of names with their ranks.
 #[derive(Drop)]
@@ -26,11 +23,18 @@ impl<'n> Model for Ranks<'n> {
     ghost view = { λ ranks. ranks.table.entries };
 }
 
-// Whether the one rank is below the other, or both are those of a knot.
+// Whether names of a ring have the rank: it is odd.
+fn is_ring(rank: usize) -> bool
+    ensures { result ≡ is_ring rank }
+{
+    rank % 2 == 1
+}
+
+// Whether the one rank is below the other, or they are one, which names of a ring have.
 fn is_below(rank: usize, other: usize) -> bool
     ensures { IsTrue result ↔ IsBelow rank other }
 {
-    rank < other || (rank == KNOT && other == KNOT)
+    rank < other || (rank == other && is_ring(rank))
 }
 
 impl<'n> Ranks<'n> {
@@ -57,11 +61,11 @@ impl<'n> Ranks<'n> {
         }
     }
 
-    /// Whether the name is of a knot.
-    pub(crate) fn is_knotted(&self, name: &[u8]) -> bool
-        ensures { result ≡ is_knotted self.now name.now }
+    /// Whether the name is in a ring.
+    pub(crate) fn is_ringed(&self, name: &[u8]) -> bool
+        ensures { result ≡ is_ringed self.now name.now }
     {
-        self.of(name) == KNOT
+        is_ring(self.of(name))
     }
 
     /// Whether the one name is the other or comes before it.

@@ -5,10 +5,10 @@ ghost use Rattle.std.specs.Prelude.{◌≡◌, ◌↔◌, IfOk, IsTrue};
 ghost use Rattle.std.specs.List.{All, filter};
 ghost use Rattle.rules.specs.Database.{IsPresent, pkg_of};
 ghost use Rattle.rules.specs.Package.{Matches};
-ghost use Rattle.fixed_order.specs.Turn.{AsksBefore, AsksBeforeBy, ComesBefore, ComesBeforeBy, HasKnots, is_knotted, rank_in};
+ghost use Rattle.fixed_order.specs.Turn.{AsksBefore, AsksBeforeBy, ComesBefore, ComesBeforeBy, HasRings, is_ringed, rank_in};
 
-use crate::peel::ranks_of;
 use crate::ranks::Ranks;
+use crate::rings::ranks_of;
 use plancheck_end::{is_met, is_same};
 use relation::{Atom, Clause};
 use rules::Name;
@@ -130,17 +130,17 @@ fn ask_before(db: &Records<'_, '_>, ranks: &Ranks<'_>, names: &[Name]) -> bool
         .all(|name| asks_before(db, ranks, name.as_bytes()))
 }
 
-// The names that are of a knot, copied.
-fn knotted(alloc: Global, ranks: &Ranks<'_>, names: &[Name]) -> Result<Vec<Name>, AllocError>
-    ensures { IfOk result (λ knots. knots.items ≡ filter (is_knotted ranks.now) names.now) }
+// The names that are in rings, copied.
+fn ringed(alloc: Global, ranks: &Ranks<'_>, names: &[Name]) -> Result<Vec<Name>, AllocError>
+    ensures { IfOk result (λ rings. rings.items ≡ filter (is_ringed ranks.now) names.now) }
 {
-    let mut knots = Vec::new(alloc);
+    let mut rings = Vec::new(alloc);
     for name in names {
-        if ranks.is_knotted(name.as_bytes()) {
-            knots.push(name.try_copy(alloc)?)?;
+        if ranks.is_ringed(name.as_bytes()) {
+            rings.push(name.try_copy(alloc)?)?;
         }
     }
-    Ok(knots)
+    Ok(rings)
 }
 
 // The names, copied.
@@ -154,19 +154,20 @@ fn copies(alloc: Global, names: &[Name]) -> Result<Vec<Name>, AllocError>
     Ok(copied)
 }
 
-/// Those of the names that may ask for one another in turn, in their order, or all of them where that isn't told apart. For each
+/// Those of the names that are in rings, where names may ask for one another in turn, in their order, or all names where that isn't
+/// told apart. For each
 /// atom of their Depends linear in the records that have or provide its name. Memory alone can fail.
-pub(crate) fn knots_of(
+pub(crate) fn rings_of(
     alloc: Global,
     db: &Records<'_, '_>,
     names: &[Name],
 ) -> Result<Vec<Name>, AllocError>
-    ensures { IfOk result (λ knots. HasKnots db.now names.now knots.items) }
+    ensures { IfOk result (λ rings. HasRings db.now names.now rings.items) }
 {
     let ranks = ranks_of(alloc, db, names)?;
     if ask_before(db, &ranks, names) {
-        let knots = knotted(alloc, &ranks, names)?;
-        return Ok(knots);
+        let rings = ringed(alloc, &ranks, names)?;
+        return Ok(rings);
     }
     let all = copies(alloc, names)?;
     Ok(all)

@@ -11,7 +11,7 @@ ghost use Rattle.fixed_order.specs.Walked.{IsFalling};
 
 use crate::ground::Ground;
 use crate::key::{Key, in_order};
-use crate::turn::knots_of;
+use crate::turn::rings_of;
 use rules::Name;
 use status::Records;
 use std::alloc::{AllocError, Global};
@@ -22,7 +22,7 @@ use std::alloc::{AllocError, Global};
 pub(crate) struct Waiting<'a> {
     pub(crate) names: Vec<Name>,
     pub(crate) down: Vec<Key<'a>>,
-    pub(crate) knots: Vec<Name>,
+    pub(crate) rings: Vec<Name>,
 }
 
 // The names of what isn't configured, in the order of the records.
@@ -79,7 +79,7 @@ fn falling(keys: Vec<Key<'_>>) -> Vec<Key<'_>>
 }
 
 impl<'a> Waiting<'a> {
-    /// What waits in this database. About n log n comparisons of n names, and what `knots_of` says. Memory alone can fail.
+    /// What waits in this database. About n log n comparisons of n names, and what `rings_of` says. Memory alone can fail.
     pub(crate) fn read<'p>(
         ground: &Ground<'_, '_, 'p, 'a>,
         db: &Records<'p, 'a>,
@@ -90,8 +90,8 @@ impl<'a> Waiting<'a> {
     {
         let keys = unconfigured(ground, db)?;
         let names = names_of(ground.alloc, keys.as_slice())?;
-        let knots = knots_of(ground.alloc, db, names.as_slice())?;
+        let rings = rings_of(ground.alloc, db, names.as_slice())?;
         let down = falling(keys);
-        Ok(Waiting { names, down, knots })
+        Ok(Waiting { names, down, rings })
     }
 }

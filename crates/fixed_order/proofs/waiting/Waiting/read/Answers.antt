@@ -1,7 +1,7 @@
 -- What waits is what isn't configured.
 use Rattle.std.proofs.Common.{ℕ, List, sym, subst, ◌∙◌}
 use Rattle.plain.specs.Underway.{unconfigured_of}
-use Rattle.fixed_order.specs.Turn.{HasKnots}
+use Rattle.fixed_order.specs.Turn.{HasRings}
 use Rattle.fixed_order.specs.Waiting.{AscendWith}
 use Rattle.fixed_order.proofs.WaitingLemmas.{ascend_with}
 use Rattle.fixed_order.proofs.WalkLemmas.{falling_of}
@@ -15,6 +15,6 @@ returns c =
           (ascend_with (unconfigured_of c.args.db.now) c.in_ok-keys.keys.items c.in_ok-keys.ensures);
       down = falling_of (unconfigured_of c.args.db.now) c.in_ok-keys.keys.items c.falling-down.result.items c.in_ok-keys.ensures
           c.falling-down.ensures;
-      knots = subst (λ (names : List (List ℕ)). HasKnots c.args.db.now names c.in_ok-knots.knots.items) c.as_slice-2.ensures.value
-          c.in_ok-knots.ensures;
+      rings = subst (λ (names : List (List ℕ)). HasRings c.args.db.now names c.in_ok-rings.rings.items) c.as_slice-2.ensures.value
+          c.in_ok-rings.ensures;
     }

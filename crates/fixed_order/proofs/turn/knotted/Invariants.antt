@@ -1,8 +1,0 @@
--- The knots so far, and those of what is left, are all of them.
-use Rattle.std.proofs.Common.{◌≡◌, ◌++◌, drop}
-use Rattle.std.specs.List.{filter}
-use Rattle.fixed_order.specs.Turn.{is_knotted}
-use Rattle.fixed_order.proofs.turn.knotted.Given as goal
-
-abbrev pub invariant-loop-name : goal.invariant-loop-name
-invariant-loop-name l = l.knots.items ++ filter (is_knotted l.ranks) (drop l.name-index l.names) ≡ filter (is_knotted l.ranks) l.names
