@@ -11,7 +11,9 @@ use Rattle.plain.specs.Underway.{unconfigured_of}
 use Rattle.plain.proofs.GrowLemmas.{configures_end, configures_grow}
 use Rattle.fixed_order.proofs.FoundLemmas.{where_none, where_some}
 use Rattle.fixed_order.specs.Ground.{IsUnderwayOn, members_in}
-use Rattle.fixed_order.proofs.configure.configures.Goals as goal
+use Rattle.fixed_order.specs.Waiting.{IsWaitingIn}
+use Rattle.fixed_order.proofs.WaitingLemmas.{waiting_kept}
+use Rattle.fixed_order.proofs.configure.configures_of.Goals as goal
 
 pub apply-requires-clause-allowed : goal.apply-requires-clause-allowed
 apply-requires-clause-allowed c = (where_some ((names : List (List ℕ)) → ¬ IsConfigurableGroup c.args.ground.now.universe.now c.loop-steps.db names) (IsLeastGroup c.args.ground.now.universe.now c.loop-steps.db) _ c.in-Some.names c.in-Some.is c.in_ok-names.ensures).group.allowed
@@ -21,6 +23,10 @@ loop-steps-preserved c =
     let kept = configures_keep c.args.ground.now.universe.now c.args.ground.now.start.now c.loop-steps.db (members_in c.args.ground.now)
     c.in-Some.names c.loop-steps.invariant.underway c.loop-steps.invariant.nothing (where_some ((names : List (List ℕ)) → ¬ IsConfigurableGroup c.args.ground.now.universe.now c.loop-steps.db names) (IsLeastGroup c.args.ground.now.universe.now c.loop-steps.db) _ c.in-Some.names c.in-Some.is c.in_ok-names.ensures).group.allowed in
     record {
+      waiting = subst (λ (db : List Record). IsWaitingIn db c.args.waiting.now) (sym c.in_ok-apply.ensures.after)
+          (waiting_kept c.args.ground.now.universe.now c.args.ground.now.start.now (members_in c.args.ground.now) c.loop-steps.db c.in-Some.names
+          c.args.waiting.now c.loop-steps.invariant.underway (where_some ((names : List (List ℕ)) → ¬ IsConfigurableGroup c.args.ground.now.universe.now c.loop-steps.db names) (IsLeastGroup c.args.ground.now.universe.now c.loop-steps.db) _ c.in-Some.names c.in-Some.is c.in_ok-names.ensures).group.allowed
+          c.loop-steps.invariant.waiting);
       underway = subst (λ (db : List Record). IsUnderwayOn c.args.ground.now db) (sym c.in_ok-apply.ensures.after) kept.0;
       nothing = subst (λ (db : List Record). HasNothingToRemove (members_in c.args.ground.now) db) (sym c.in_ok-apply.ensures.after) kept.1;
       so_far = subst (λ (db : List Record). AreNextSteps (IsNextConfigure c.args.ground.now.universe.now) c.args.ground.now.universe.now
