@@ -8,6 +8,5 @@ mod part;
 mod stream;
 
 pub use error::KeepError;
-
 pub use stanza::{ReadFailed, Source};
 pub use stream::keep;

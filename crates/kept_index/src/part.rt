@@ -58,4 +58,3 @@ pub(crate) fn keep_stanza(kept: &mut Vec<u8>, stanza: &ReadStanza<'_>) -> Result
     kept.extend_from_slice(b"\n")?;
     Ok(())
 }
-

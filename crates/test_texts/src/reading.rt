@@ -60,7 +60,11 @@ impl Source for Pieces<'_> {
     }
 }
 
-fn write_stanza(alloc: Global, shown: &mut Vec<u8>, stanza: &ReadStanza<'_>) -> Result<(), AllocError> {
+fn write_stanza(
+    alloc: Global,
+    shown: &mut Vec<u8>,
+    stanza: &ReadStanza<'_>,
+) -> Result<(), AllocError> {
     write_printed(alloc, shown, &stanza.line())?;
     write_part(shown, b"<", stanza.raw())?;
     shown.extend_from_slice(b">")?;
@@ -74,7 +78,14 @@ fn write_stanza(alloc: Global, shown: &mut Vec<u8>, stanza: &ReadStanza<'_>) -> 
 }
 
 // What a reader of the text in pieces answers.
-fn read_in_pieces(alloc: Global, text: &[u8], commented: bool, most: usize, second: usize, third: usize) -> Result<Vec<u8>, AllocError> {
+fn read_in_pieces(
+    alloc: Global,
+    text: &[u8],
+    commented: bool,
+    most: usize,
+    second: usize,
+    third: usize,
+) -> Result<Vec<u8>, AllocError> {
     let mut source = Pieces::new(text, second, third);
     let mut reader = if commented {
         Reader::with_comments(alloc, most)?
@@ -99,7 +110,13 @@ fn read_in_pieces(alloc: Global, text: &[u8], commented: bool, most: usize, seco
 }
 
 // Whether each cutting of the text in three is shown so.
-fn is_shown_in_pieces(alloc: Global, text: &[u8], commented: bool, most: usize, wanted: &[u8]) -> Result<bool, AllocError> {
+fn is_shown_in_pieces(
+    alloc: Global,
+    text: &[u8],
+    commented: bool,
+    most: usize,
+    wanted: &[u8],
+) -> Result<bool, AllocError> {
     for third in 0..text.len() + 1 {
         for second in 0..third + 1 {
             let shown = read_in_pieces(alloc, text, commented, most, second, third)?;
@@ -115,10 +132,21 @@ fn is_shown(alloc: Global, commented: bool, most: usize, row: &str) -> Result<bo
     let Some((text, wanted)) = row.split_once('→') else {
         return Ok(false);
     };
-    is_shown_in_pieces(alloc, unescaped(alloc, text)?.as_slice(), commented, most, unescaped(alloc, wanted)?.as_slice())
+    is_shown_in_pieces(
+        alloc,
+        unescaped(alloc, text)?.as_slice(),
+        commented,
+        most,
+        unescaped(alloc, wanted)?.as_slice(),
+    )
 }
 
-pub(crate) fn assert_rows<R: Abort + AllocGlobal>(rt: &R, commented: bool, most: usize, rows: &str) -> Result<(), AllocError> {
+pub(crate) fn assert_rows<R: Abort + AllocGlobal>(
+    rt: &R,
+    commented: bool,
+    most: usize,
+    rows: &str,
+) -> Result<(), AllocError> {
     for row in rows.lines() {
         assert!(rt; is_shown(rt.alloc(), commented, most, row)?, "{row}");
     }

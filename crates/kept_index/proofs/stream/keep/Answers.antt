@@ -11,11 +11,12 @@ pub loop-reader-init : goal.loop-reader-init
 loop-reader-init g c = record {
   sound = ap (λ (r : Reading). r.failed) c.in_ok-reader.ensures;
   so_far = λ text known. (
-    text, known,
+    text,
+    known,
     ap (λ (kept : List ℕ). behind kept (kept_read (to_read c.in_ok-reader.reader text))) c.new-kept.ensures.items
-    ∙ behind-none (kept_read (to_read c.in_ok-reader.reader text))
-    ∙ ap (λ (r : Reading). kept_read (to_read r text)) c.in_ok-reader.ensures
-    ∙ text-kept text (c.what_is_read_of_a_text_is_its_items.ensures false text TEXT_BYTES) (c.a_text_that_is_too_long_is_refused.ensures false text TEXT_BYTES),
+        ∙ behind-none (kept_read (to_read c.in_ok-reader.reader text))
+        ∙ ap (λ (r : Reading). kept_read (to_read r text)) c.in_ok-reader.ensures
+        ∙ text-kept text (c.what_is_read_of_a_text_is_its_items.ensures false text TEXT_BYTES) (c.a_text_that_is_too_long_is_refused.ensures false text TEXT_BYTES),
   );
 }
 

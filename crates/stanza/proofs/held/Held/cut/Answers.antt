@@ -16,5 +16,9 @@ returns-clause-found c =
 pub returns-clause-total : goal.returns-clause-total
 returns-clause-total c =
     let held = c.skip_gap.new.self in
-    omega (arith, c.skip_gap.ensures.total, total-moved held (moved held c.in-Some.ahead.len c.in-Some.ahead.lines) c.in-Some.ahead.len c.in-Some.ahead.lines
-    (record { bytes = refl; begin = refl; before = refl; room = refl }))
+    omega (
+      arith,
+      c.skip_gap.ensures.total,
+      total-moved held (moved held c.in-Some.ahead.len c.in-Some.ahead.lines) c.in-Some.ahead.len c.in-Some.ahead.lines
+          (record { bytes = refl; begin = refl; before = refl; room = refl }),
+    )
