@@ -13,17 +13,25 @@ use std::process::ExitCode;
 #[derive(Drop)]
 struct Opened {
     file: File,
+    failures: u64,
 }
 
 impl Source for Opened {
+    ghost faults = { λ opened. opened.failures };
+
+    fn failures(&self) -> u64 {
+        self.failures
+    }
+
     fn read(&mut self, block: &mut [u8]) -> Result<usize, ReadFailed> {
         for _ in 0..usize::MAX {
             match self.file.read(block) {
                 Ok(count) => return Ok(count),
                 Err(error) if error.kind() == ErrorKind::Interrupted => {}
-                Err(_) => return Err(ReadFailed),
+                Err(_) => break,
             }
         }
+        self.failures = self.failures.saturating_add(1);
         Err(ReadFailed)
     }
 }
@@ -52,7 +60,7 @@ impl Host for Disk<'_> {
             return Err(ReadError::Unreadable);
         };
         match File::open(self.rt, path) {
-            Ok(file) => Ok(Opened { file }),
+            Ok(file) => Ok(Opened { file, failures: 0 }),
             Err(error) if error.kind() == ErrorKind::OutOfMemory => Err(ReadError::OutOfMemory),
             Err(_) => Err(ReadError::Unreadable),
         }

@@ -1,8 +1,5 @@
-pub mod LineLemmas
-pub mod PartLemmas
 pub mod StanzaLemmas
-pub mod AddLemmas
-pub mod StreamLemmas
+pub mod ReadLemmas
 pub mod ReadBackLemmas
 pub mod EntryLemmas
 pub mod EnoughLemmas

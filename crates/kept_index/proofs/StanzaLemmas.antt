@@ -6,8 +6,7 @@ use Rattle.std.specs.List.{filter, list_any}
 use Rattle.rules.specs.Stanza.{Field}
 use Rattle.stanza.specs.declared.lines.TheConstants.{NEWLINE}
 use Rattle.status_spelling.specs.Spelling.{fields_text}
-use Rattle.kept_index.specs.Kept.{kept_before}
-use Rattle.kept_index.specs.Part.{behind, then_kept}
+use Rattle.kept_index.specs.Kept.{behind, kept_before}
 
 -- where none passes the test, nothing is left
 none-left : (test : Field → Bool) (fields : List Field) → list_any test fields ≡ false → filter test fields ≡ []
@@ -46,10 +45,3 @@ kept-some test fields old new later some is =
     ap (λ fs. behind old (kept_before fs later)) left.2
     ∙ joined old (fields_text (left.0 ∷ left.1) ++ NEWLINE ∷ []) later
     ∙ ap (λ t. behind t later) (sym text)
-
--- ---- one behind the other
-
--- what is kept of a part, behind what was kept before, and then of the rest
-pub kept-behind : (old new : List ℕ) (kept later : Option (List ℕ)) → behind old kept ≡ Some new → behind old (then_kept kept later) ≡ behind new later
-kept-behind old new None later is = absurd (none-some new is)
-kept-behind old new (Some kept) later is = joined old kept later ∙ ap (λ t. behind t later) (same_Some (old ++ kept) new is)

@@ -3,6 +3,10 @@
 use Rattle.std.specs.Prelude.{◌≡◌, ℕ, ◌≤◌, false, List, [], ◌∷◌, ◌++◌, map, length, Option, Some, None, Result, Ok, Err, codes, nat_lt, if◌then◌else◌}
 use Rattle.std.specs.List.{filter}
 use Rattle.std.specs.Option.{option_map}
+use Rattle.kept_index.specs.declared.error.KeepError.{KeepError}
+use Rattle.kept_index.specs.declared.error.KeepError.TheVariants as error
+use Rattle.stanza.specs.declared.error.ReadError.{ReadError}
+use Rattle.stanza.specs.declared.error.ReadError.TheVariants as read
 use Rattle.package_stanza.specs.Stanza.{read_stanza}
 use Rattle.rules.specs.Stanza.{Field, Stanza, is_called_one_of}
 use Rattle.rules.specs.declared.limits.TheConstants.{TEXT_BYTES}
@@ -46,3 +50,20 @@ pub record IsKept (text kept : List ℕ) : Type 0 where
   pub within : length text ≤ TEXT_BYTES
   pub whole : items_of false text ≡ map Ok stanzas
   pub left : ReadsAs kept (map (λ stanza. kept_stanza (read_stanza stanza)) stanzas)
+
+-- what is kept behind some bytes, if anything is
+abbrev pub behind : List ℕ → Option (List ℕ) → Option (List ℕ)
+behind front kept = option_map (λ text. front ++ text) kept
+
+-- what is kept of what is read of a text that comes piece by piece
+abbrev pub kept_read : List (Result StanzaText ReadError) → Option (List ℕ)
+kept_read [] = Some []
+kept_read (Err error ∷ items) = None
+kept_read (Ok stanza ∷ items) = kept_before (kept_fields (read_stanza stanza).fields) (kept_read items)
+
+-- why nothing was kept of a text that wasn't read
+abbrev pub keep_error_of : ReadError → KeepError
+keep_error_of (read.Refused fault) = error.Refused
+keep_error_of read.TooLarge = error.Refused
+keep_error_of read.Read = error.Read
+keep_error_of read.OutOfMemory = error.OutOfMemory

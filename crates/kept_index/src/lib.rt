@@ -5,9 +5,9 @@
 mod error;
 pub mod laws;
 mod part;
-mod source;
 mod stream;
 
 pub use error::KeepError;
-pub use source::{ReadFailed, Source};
+
+pub use stanza::{ReadFailed, Source};
 pub use stream::keep;

@@ -1,21 +1,19 @@
-//! What is kept of a part of the text: some stanzas, each whole.
-ghost use Rattle.std.specs.Prelude.{◌≡◌, ◌≤◌, ◌⊎◌, ◌++◌, ℕ, false, length, take, List, Option, None, Some, IfOk, OnOk, IfErr};
+//! What is kept of a stanza.
+ghost use Rattle.std.specs.Prelude.{◌≡◌, ◌⊎◌, ◌++◌, ℕ, List, Option, None, IfOk, OnOk, IfErr};
 ghost use Rattle.std.specs.List.{list_any};
 ghost use Rattle.package_stanza.specs.Stanza.{field_of, read_stanza};
 ghost use Rattle.rules.specs.Stanza.{is_called_one_of};
-ghost use Rattle.stanza.specs.Stanza.{items_of};
 ghost use Rattle.status_spelling.specs.Spelling.{fields_text};
-ghost use Rattle.kept_index.specs.Kept.{kept_before, kept_fields, kept_names, kept_of};
-ghost use Rattle.kept_index.specs.Part.{IsPart, behind};
+ghost use Rattle.kept_index.specs.Kept.{behind, kept_before, kept_fields, kept_names};
 ghost use Rattle.kept_index.specs.declared.error.KeepError.TheVariants as error;
 
 use crate::error::KeepError;
-use stanza::{Field, Stanza, Stanzas};
+use stanza::{FieldAt, ReadStanza};
 use status_spelling::write_field;
 use std::alloc::AllocError;
 
 // Whether the field is one of those that are kept.
-fn is_kept(field: &Field<'_>) -> bool
+fn is_kept(field: &FieldAt<'_>) -> bool
     ensures { result ≡ is_called_one_of kept_names (field_of field.now) }
 {
     let name = field.name();
@@ -32,7 +30,7 @@ fn is_kept(field: &Field<'_>) -> bool
 }
 
 // Writes those fields of the stanza that are kept behind what was kept before, and answers whether there are any.
-fn keep_fields(kept: &mut Vec<u8>, stanza: &Stanza<'_>) -> Result<bool, AllocError>
+fn keep_fields(kept: &mut Vec<u8>, stanza: &ReadStanza<'_>) -> Result<bool, AllocError>
     ensures written { OnOk result (
         kept.new.items ≡ kept.old.items ++ fields_text (kept_fields (read_stanza stanza.now).fields)) }
     ensures some { IfOk result (λ some. some ≡ list_any (is_called_one_of kept_names) (read_stanza stanza.now).fields) }
@@ -47,8 +45,8 @@ fn keep_fields(kept: &mut Vec<u8>, stanza: &Stanza<'_>) -> Result<bool, AllocErr
     Ok(some)
 }
 
-// Keeps what is kept of a stanza, with an empty line behind it.
-fn keep_stanza(kept: &mut Vec<u8>, stanza: &Stanza<'_>) -> Result<(), KeepError>
+/// Keeps what is kept of a stanza, with an empty line behind it.
+pub(crate) fn keep_stanza(kept: &mut Vec<u8>, stanza: &ReadStanza<'_>) -> Result<(), KeepError>
     ensures ok { (later : Option (List ℕ)) → OnOk result (
         behind kept.old.items (kept_before (kept_fields (read_stanza stanza.now).fields) later) ≡ behind kept.new.items later) }
     ensures err { (later : Option (List ℕ)) → IfErr result (λ e. (e ≡ error.OutOfMemory)
@@ -61,32 +59,3 @@ fn keep_stanza(kept: &mut Vec<u8>, stanza: &Stanza<'_>) -> Result<(), KeepError>
     Ok(())
 }
 
-/// Keeps what is kept of the stanzas of this text, behind what was kept before, or refuses it. Linear in the text.
-pub(crate) fn keep_part(kept: &mut Vec<u8>, text: &[u8]) -> Result<(), KeepError>
-    ensures ok { OnOk result (behind kept.old.items (kept_of (items_of false text.now)) ≡ Some kept.new.items) }
-    ensures err { IfErr result (λ e. (e ≡ error.OutOfMemory)
-        ⊎ ((e ≡ error.Refused) × (kept_of (items_of false text.now) ≡ None))) }
-{
-    for item in Stanzas::new(text) {
-        match item {
-            Ok(stanza) => keep_stanza(kept, &stanza)?,
-            Err(_) => return Err(KeepError::Refused),
-        }
-    }
-    Ok(())
-}
-
-/// Where the last empty line at or behind this place ends, or 0 where there is none: so much of the text is a part.
-pub(crate) fn part_len(text: &[u8], from: usize) -> usize
-    ensures part { IsPart (take result text.now) }
-    ensures within { result ≤ length text.now }
-{
-    let mut end = text.len();
-    while end > from && end >= 2 {
-        if text[end - 1] == b'\n' && text[end - 2] == b'\n' {
-            return end;
-        }
-        end -= 1;
-    }
-    0
-}

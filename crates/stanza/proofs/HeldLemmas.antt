@@ -13,7 +13,7 @@ use Rattle.stanza.specs.Starts.{starts_of}
 use Rattle.stanza.specs.Line.{lines_of}
 use Rattle.stanza.specs.Stanza.{stanza_of}
 use Rattle.stanza.specs.Streamed.{FindsAhead, IsAhead, IsOpen, MayFollow, SkipsAhead, read_within}
-use Rattle.stanza.specs.Held.{FillsWith, GivesStanza, IsCut, IsHeld, NeedsMore, pending_of, read_of}
+use Rattle.stanza.specs.Held.{FillsWith, GivesStanza, IsCut, IsHeld, NeedsMore, pending_of, read_of, total_of}
 
 somes : {a b : List ℕ} → (let x : Option (List ℕ) = Some a in x) ≡ Some b → a ≡ b
 somes e = cc
@@ -48,6 +48,10 @@ IsHeld-more held new block is bytes begin lines room = record {
   fits = omega (arith, is.within, is.fits, begin, lines, room, ap length bytes, length-append held.bytes.items block);
 }
 
+pub total-more : (held new : Held) (block : List ℕ) → IsHeld held → new.bytes.items ≡ held.bytes.items ++ block → new.begin ≡ held.begin → new.room + length block ≡ held.room → total_of new ≡ total_of held
+total-more held new block is bytes begin room =
+    omega (arith, is.within, begin, room, ap length bytes, length-append held.bytes.items block, length-drop new.begin new.bytes.items, length-drop held.begin held.bytes.items)
+
 -- ---- bytes that are answered
 
 -- what is still to be answered, by the bytes that are pending and how many may be read in all
@@ -75,6 +79,9 @@ module _ (old new : Held) (len lines : ℕ) where
     within = omega (arith, moves.begin, ap length moves.bytes, within, is.within, length-drop old.begin old.bytes.items);
     fits = omega (arith, moves.begin, moves.before, moves.room, ap length moves.bytes, within, each, is.within, is.fits, length-drop old.begin old.bytes.items);
   }
+
+  pub total-moved : Moves old new len lines → total_of new ≤ total_of old
+  total-moved moves = omega (arith, moves.room, ap length (pending-moved moves), length-drop len (pending_of old))
 
   -- what is still to be answered
   pub read-of-moved : (commented : Bool) (left : List ℕ) → Moves old new len lines → len ≤ length (pending_of old)
@@ -110,9 +117,9 @@ IsOpen-none commented n later follows =
 -- a stanza that is found behind a gap
 pub stanza-gives : (old held new : Held) (ahead : Ahead) (found : Option Ahead) (starts : List Start) (is_over commented : Bool) → found ≡ Some ahead
     → FindsAhead is_over commented (held.before + 1) (pending_of held) starts found
-    → ((left : List ℕ) → MayFollow is_over left → read_of commented old left ≡ read_of commented held left) → Moves held new ahead.len ahead.lines
+    → ((left : List ℕ) → MayFollow is_over left → read_of commented old left ≡ read_of commented held left) → total_of held ≤ total_of old → Moves held new ahead.len ahead.lines
     → GivesStanza is_over commented old new starts (record { from = held.begin; len = ahead.end; line = held.before + 1 })
-stanza-gives old held new ahead found starts is_over commented is finds gap moves =
+stanza-gives old held new ahead found starts is_over commented is finds gap total moves =
     let f = subst (FindsAhead is_over commented (held.before + 1) (pending_of held) starts) is finds in
     let raw : take ahead.end (pending_of held) ≡ take ahead.end (drop held.begin new.bytes.items) = ap (λ b. take ahead.end (drop held.begin b)) (sym moves.bytes) in
     record {
@@ -120,6 +127,7 @@ stanza-gives old held new ahead found starts is_over commented is finds gap move
         some = omega (arith, f.0.some, f.0.order, f.0.within, ap length raw, length-take ahead.end (pending_of held));
         starts_are = f.1 ∙ ap (λ x. starts_of commented 0 (held.before + 1) (lines_of x)) raw;
       };
+      less = omega (arith, total, moves.room, ap length (pending-moved held new ahead.len ahead.lines moves), length-drop ahead.len (pending_of held), f.0.some, f.0.order, f.0.within);
       read = λ left may. gap left may ∙ stanza-moved held new ahead.len ahead.lines is_over commented ahead.end left moves f.0 may
           ∙ ap (λ x. Ok (stanza_of commented (held.before + 1) (lines_of x)) ∷ read_of commented new left) raw;
     }

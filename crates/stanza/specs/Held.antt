@@ -22,6 +22,10 @@ pub record IsHeld (held : Held) : Type 0 where
   pub within : held.begin ≤ length held.bytes.items
   pub fits : held.before + (length held.bytes.items - held.begin) + held.room < 2 ^ 64
 
+-- how many bytes there may still be
+abbrev pub total_of : Held → ℕ
+total_of held = length (pending_of held) + held.room
+
 -- what is still to be answered, where these bytes are left in the source
 abbrev pub read_of : Bool → Held → List ℕ → List (Result StanzaText ReadError)
 read_of commented held left = read_within commented (held.before + 1) (length (pending_of held) + held.room) (pending_of held ++ left)
@@ -48,6 +52,7 @@ pub record FillsWith (old new : Held) (left more : List ℕ) : Type 0 where
 -- what is still to be answered begins with a stanza that stands there, and goes on with what the new ones have
 pub record GivesStanza (is_over commented : Bool) (old new : Held) (starts : List Start) (place : Place) : Type 0 where
   pub placed : IsPlaced commented new.bytes.items place starts
+  pub less : total_of new < total_of old
   pub read : (left : List ℕ) → MayFollow is_over left → read_of commented old left ≡ Ok (stanza_at commented new.bytes.items place) ∷ read_of commented new left
 
 -- nothing is still to be answered

@@ -27,5 +27,6 @@ abbrev pub Reaches : Option StanzaText → List (Result StanzaText ReadError) �
 Reaches None items later = (items ≡ []) × (later ≡ [])
 Reaches (Some stanza) items later = items ≡ Ok stanza ∷ later
 
-abbrev pub IsAnswer : Reading → Reading → List ℕ → List ℕ → Type 0
-IsAnswer old new left more = Reaches new.stanza (to_read old left) (to_read new more)
+-- of what was still to be answered the first item is reached, and the others are still to be answered
+abbrev pub GoesOn : Reading → Reading → List ℕ → List ℕ → Type 0
+GoesOn old new left more = Reaches new.stanza (to_read old left) (to_read new more)

@@ -1,7 +1,7 @@
 //! The bytes of a text that were read and wait to be cut into stanzas.
 ghost use Rattle.std.specs.Prelude.{◌≡◌, ◌<◌, ◌≤◌, ◌⊎◌, ◌≢◌, ◌+◌, ◌++◌, ◌∷◌, [], ℕ, Bool, true, false, List, length, min, ◌^◌, ◌-◌, take, IfErr, IfOk, OnOk, MatchResult, Err, None, Ok, Some};
 ghost use Rattle.std.specs.Io.KnownBytes.{Consumes, IsAtEnd};
-ghost use Rattle.stanza.specs.Held.{FillsWith, IsCut, IsHeld, IsRefused, pending_of, read_of};
+ghost use Rattle.stanza.specs.Held.{FillsWith, IsCut, IsHeld, IsRefused, pending_of, read_of, total_of};
 ghost use Rattle.stanza.specs.Streamed.{BeginsAhead, MayFollow};
 ghost use Rattle.stanza.specs.declared.error.ReadError.TheVariants as read_error;
 
@@ -104,6 +104,7 @@ impl Held {
         ensures size { length block.new ≡ length block.old }
         ensures filled { (left : List ℕ) → S.left source.old ≡ Some left → IfOk result (λ is_over.
             (more : List ℕ) × (S.left source.new ≡ Some more) × FillsWith self.old self.new left more × MayFollow is_over more) }
+        ensures total { OnOk result (total_of self.new ≡ total_of self.old) }
         ensures less { IfOk result (λ is_over. (self.new.room ≤ self.old.room) × (is_over ≡ false → self.new.room < self.old.room)) }
         ensures large { (left : List ℕ) → S.left source.old ≡ Some left → IfErr result (λ e. (e ≡ read_error.OutOfMemory)
             ⊎ ((e ≡ read_error.TooLarge) × (self.old.room ≡ 0) × (0 < length left))) }
@@ -133,6 +134,7 @@ impl Held {
         requires { IsHeld self.old }
         ensures held { IsHeld self.new }
         ensures bytes { (self.new.bytes.items ≡ self.old.bytes.items) × (self.new.room ≡ self.old.room) }
+        ensures total { total_of self.new ≤ total_of self.old }
         ensures read { (left : List ℕ) → MayFollow is_over left → read_of commented self.old left ≡ read_of commented self.new left }
         ensures begins { BeginsAhead is_over commented (pending_of self.new) }
     {
@@ -151,6 +153,7 @@ impl Held {
         requires { IsHeld self.old }
         ensures held { IsHeld self.new }
         ensures room { self.new.room ≡ self.old.room }
+        ensures total { total_of self.new ≤ total_of self.old }
         ensures found { IfOk result (λ cut. IsCut is_over commented self.old self.new starts.new.items cut) }
         ensures fault { IfErr result (λ e. (e ≡ read_error.OutOfMemory)
             ⊎ ((fault : _) × (e ≡ read_error.Refused fault) × IsRefused is_over commented self.old fault)) }

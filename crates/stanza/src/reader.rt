@@ -1,8 +1,8 @@
 //! The stanzas of a text that comes piece by piece.
 ghost use Rattle.std.specs.Prelude.{◌≡◌, ◌≢◌, ◌<◌, ◌≤◌, ◌⊎◌, ◌+◌, ◌-◌, ◌^◌, ◌∷◌, [], ℕ, Bool, false, true, List, length, min, IfErr, IfOk, IfSome, OnOk, Err, None, Ok, Option, Some};
 ghost use Rattle.std.specs.Option.{is_some};
-ghost use Rattle.stanza.specs.Held.{Finds, IsHeld, IsPlaced, read_of};
-ghost use Rattle.stanza.specs.Reading.{Reading, IsAnswer, begins, to_read};
+ghost use Rattle.stanza.specs.Held.{Finds, IsHeld, IsPlaced, read_of, total_of};
+ghost use Rattle.stanza.specs.Reading.{GoesOn, Reading, begins, to_read};
 ghost use Rattle.stanza.specs.declared.error.ReadError.TheVariants as read_error;
 
 use crate::error::ReadError;
@@ -60,10 +60,12 @@ fn read_on<S: Source>(
     ensures held { OnOk result (IsHeld held.new) }
     ensures size { length block.new ≡ length block.old }
     ensures placed { IfOk result (λ found. IfSome found (λ place. IsPlaced commented held.new.bytes.items place starts.new.items)) }
+    ensures less { IfOk result (λ found. IfSome found (λ _. total_of held.new < total_of held.old)) }
     ensures known { (left : List ℕ) → S.left source.old ≡ Some left → IfOk result (λ found.
         (more : List ℕ) × (S.left source.new ≡ Some more) × Finds commented held.old held.new left more found) }
     ensures refused { (left : List ℕ) → S.left source.old ≡ Some left → IfErr result (λ e. (e ≡ read_error.OutOfMemory)
         ⊎ (read_of commented held.old left ≡ Err e ∷ [])) }
+    ensures gives { (left : List ℕ) → S.left source.old ≡ Some left → IfErr result (λ e. e ≢ read_error.Read) }
     ensures sure { S.is_sure source.old ≡ true → OnOk result (S.is_sure source.new ≡ true) × IfErr result (λ e. e ≢ read_error.Read) }
     ensures count { OnOk result (S.faults source.new ≡ S.faults source.old) }
     ensures failed { IfErr result (λ e. e ≡ read_error.Read → S.faults source.new ≡ min (S.faults source.old + 1) (2 ^ 64 - 1)) }
@@ -113,13 +115,15 @@ impl Reader {
     pub fn advance<S: Source>(&mut self, source: &mut S) -> Result<bool, ReadError>
         ensures commented { self.new.commented ≡ self.old.commented }
         ensures some { IfOk result (λ found. found ≡ is_some self.new.stanza) }
+        ensures less { IfOk result (λ found. found ≡ true → length self.new.pending + self.new.room < length self.old.pending + self.old.room) }
         ensures known { (left : List ℕ) → S.left source.old ≡ Some left → IfOk result (λ _.
-            (more : List ℕ) × (S.left source.new ≡ Some more) × IsAnswer self.old self.new left more) }
+            (more : List ℕ) × (S.left source.new ≡ Some more) × GoesOn self.old self.new left more) }
         ensures refused { (left : List ℕ) → S.left source.old ≡ Some left → self.old.failed ≡ None → IfErr result (λ e. (e ≡ read_error.OutOfMemory)
             ⊎ (to_read self.old left ≡ Err e ∷ [])) }
         ensures kept { IfErr result (λ e. self.new.failed ≡ Some e) }
         ensures goes_on { OnOk result (self.new.failed ≡ None) }
         ensures again { (e : _) → self.old.failed ≡ Some e → (result ≡ Err e) × (source.new ≡ source.old) }
+        ensures gives { (left : List ℕ) → S.left source.old ≡ Some left → self.old.failed ≡ None → IfErr result (λ e. e ≢ read_error.Read) }
         ensures sure { S.is_sure source.old ≡ true → self.old.failed ≡ None → IfErr result (λ e. e ≢ read_error.Read) }
         ensures count { OnOk result (S.faults source.new ≡ S.faults source.old) }
         ensures failed { self.old.failed ≡ None → IfErr result (λ e. e ≡ read_error.Read → S.faults source.new ≡ min (S.faults source.old + 1) (2 ^ 64 - 1)) }

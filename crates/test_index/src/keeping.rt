@@ -16,6 +16,12 @@ struct Few<'a> {
 impl Source for Few<'_> {
     ghost left = { λ few. Some few.bytes.now };
 
+    ghost faults = { λ _. 0 };
+
+    fn failures(&self) -> u64 {
+        0
+    }
+
     fn read(&mut self, block: &mut [u8]) -> Result<usize, ReadFailed> {
         let room = block.len().min(self.most.max(1));
         self.bytes.read(block.split_at_mut(room).0)
@@ -24,10 +30,19 @@ impl Source for Few<'_> {
 
 /// A device that fails.
 #[derive(Drop)]
-struct Broken;
+struct Broken {
+    failures: u64,
+}
 
 impl Source for Broken {
+    ghost faults = { λ broken. broken.failures };
+
+    fn failures(&self) -> u64 {
+        self.failures
+    }
+
     fn read(&mut self, _block: &mut [u8]) -> Result<usize, ReadFailed> {
+        self.failures = self.failures.saturating_add(1);
         Err(ReadFailed)
     }
 }
@@ -90,5 +105,5 @@ fn of_each_stanza_the_fields_of_its_package_are_kept(rt: HostRuntime) -> Result<
 
 #[test]
 fn a_device_that_fails_is_no_refusal(rt: HostRuntime) {
-    assert!(rt; keep(rt.alloc(), &mut Broken).err() == Some(KeepError::Read));
+    assert!(rt; keep(rt.alloc(), &mut Broken { failures: 0 }).err() == Some(KeepError::Read));
 }

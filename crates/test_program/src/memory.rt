@@ -51,6 +51,12 @@ pub(crate) struct Opened {
 }
 
 impl Source for Opened {
+    ghost faults = { λ _. 0 };
+
+    fn failures(&self) -> u64 {
+        0
+    }
+
     fn read(&mut self, block: &mut [u8]) -> Result<usize, ReadFailed> {
         let Some(left) = self.text.as_slice().get(self.taken..) else {
             return Ok(0);

@@ -1,16 +1,16 @@
-use Rattle.std.proofs.Common.{◌≡◌, ◌≤◌, ◌-◌, length}
-use Rattle.rules.specs.declared.limits.TheConstants.{TEXT_BYTES}
-use Rattle.kept_index.specs.Part.{IsKeptSoFar}
+-- What was kept so far, with what is kept of what is still to be read, makes what is kept of the text.
+use Rattle.std.proofs.Common.{◌≡◌, ◌+◌, ℕ, List, length, None, Some, false}
+use Rattle.stanza.specs.Reading.{to_read}
+use Rattle.kept_index.specs.Kept.{behind, kept_read, kept_text}
 use Rattle.kept_index.proofs.stream.keep.Given as goal
 
--- the block has room, and what was kept so far is right
-abbrev pub invariant-loop-count : goal.invariant-loop-count
-invariant-loop-count g l = record {
-  room : length l.block.items ≡ 262144;
-  within : l.keeping.count ≤ TEXT_BYTES;
-  so_far : IsKeptSoFar (g.S.Source.left l.fn.source) (g.S.Source.left l.source) l.keeping.kept.items l.keeping.left.items l.keeping.count;
+abbrev pub invariant-loop-reader : goal.invariant-loop-reader
+invariant-loop-reader g l = record {
+  sound : l.reader.failed ≡ None;
+  so_far : (text : List ℕ) → g.S.Source.left l.fn.source ≡ Some text
+      → (more : List ℕ) × (g.S.Source.left l.source ≡ Some more) × (behind l.kept.items (kept_read (to_read l.reader more)) ≡ kept_text text);
 }
 
--- each reading gives a byte or more
-abbrev pub decreases-loop-count : goal.decreases-loop-count
-decreases-loop-count g l = TEXT_BYTES - l.keeping.count
+-- each stanza has a byte or more
+abbrev pub decreases-loop-reader : goal.decreases-loop-reader
+decreases-loop-reader g l = length l.reader.pending + l.reader.room

@@ -3,7 +3,15 @@ use Rattle.std.proofs.Common.{◌≡◌, ◌+◌, ℕ, List, [], ◌∷◌, leng
 use Rattle.std.proofs.lemmas.Result.{err_from_is_err_and}
 use Rattle.stanza.specs.Held.{read_of}
 use Rattle.stanza.proofs.HeldLemmas.{filled-read, needs-more}
+use Rattle.stanza.specs.declared.error.ReadError.{ReadError}
+use Rattle.stanza.specs.declared.error.ReadError.TheVariants as read_error
 use Rattle.stanza.proofs.reader.read_on.Goals as goal
+
+no-read-of-memory : (let e : ReadError = read_error.OutOfMemory in e) ≡ read_error.Read → ⊥
+no-read-of-memory e = cc
+
+no-read-of-size : (let e : ReadError = read_error.TooLarge in e) ≡ read_error.Read → ⊥
+no-read-of-size e = cc
 
 pub returns-in_err-is_over-in-More-clause-refused : goal.returns-in_err-is_over-in-More-clause-refused
 returns-in_err-is_over-in-More-clause-refused g c = λ left known.
@@ -25,6 +33,7 @@ loop-place-preserved g c =
     record {
       held = filled.held;
       size = filled.size ∙ w.invariant.size;
+      total = omega (arith, w.invariant.total, c.in_ok-place.ensures.total, filled.total);
       some = omega (arith, w.invariant.some, filled.size);
       known = λ left known.
           let f = w.invariant.known left known in
@@ -33,3 +42,13 @@ loop-place-preserved g c =
       sure = λ sure. (filled.sure (w.invariant.sure sure)).0;
       count = filled.count ∙ w.invariant.count;
     }
+
+pub returns-in_err-is_over-in-More-clause-gives : goal.returns-in_err-is_over-in-More-clause-gives
+returns-in_err-is_over-in-More-clause-gives g c = λ left known.
+    let f = c.loop-place.invariant.known left known in
+    let e = c.in_err-is_over-in-More.ensures.large f.0 f.1 in
+    let p = err_from_is_err_and c.from_residual-in_err-is_over-in-More.result c.from_residual-in_err-is_over-in-More.ensures.1 in
+    rw (p.1, p.2) (elim e [
+      | inl memory ↦ λ read. no-read-of-memory (sym memory ∙ read)
+      | inr large ↦ λ read. no-read-of-size (sym large.0 ∙ read)
+    ])

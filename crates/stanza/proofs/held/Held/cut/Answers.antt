@@ -2,7 +2,7 @@
 use Rattle.std.proofs.Common.{◌≡◌, ◌+◌, ℕ, List, drop, take, length, refl, sym, ap, subst, ◌∙◌, arith}
 use Rattle.stanza.specs.Held.{pending_of}
 use Rattle.stanza.specs.Streamed.{FindsAhead}
-use Rattle.stanza.proofs.HeldLemmas.{IsHeld-moved, stanza-gives}
+use Rattle.stanza.proofs.HeldLemmas.{moved, stanza-gives, total-moved}
 use Rattle.stanza.proofs.held.Held.cut.Goals as goal
 
 pub returns-clause-found : goal.returns-clause-found
@@ -10,5 +10,11 @@ returns-clause-found c =
     let held = c.skip_gap.new.self in
     let pending : c.split_at.result.1.now ≡ pending_of held = c.split_at.ensures.back ∙ ap (drop held.begin) c.deref.ensures.value in
     let finds = subst (λ (text : List ℕ). FindsAhead c.args.is_over c.args.commented (held.before + 1) text c.stanza_ahead.new.starts.items c.in_ok-ahead.field-0) pending c.in_ok-ahead.ensures.found in
-    stanza-gives c.args.self.now held _ c.in-Some.ahead c.in_ok-ahead.field-0 c.stanza_ahead.new.starts.items c.args.is_over c.args.commented c.in-Some.is finds c.skip_gap.ensures.read
+    stanza-gives c.args.self.now held _ c.in-Some.ahead c.in_ok-ahead.field-0 c.stanza_ahead.new.starts.items c.args.is_over c.args.commented c.in-Some.is finds c.skip_gap.ensures.read c.skip_gap.ensures.total
     (record { bytes = refl; begin = refl; before = refl; room = refl })
+
+pub returns-clause-total : goal.returns-clause-total
+returns-clause-total c =
+    let held = c.skip_gap.new.self in
+    omega (arith, c.skip_gap.ensures.total, total-moved held (moved held c.in-Some.ahead.len c.in-Some.ahead.lines) c.in-Some.ahead.len c.in-Some.ahead.lines
+    (record { bytes = refl; begin = refl; before = refl; room = refl }))

@@ -4,7 +4,7 @@ use Rattle.std.proofs.lemmas.Result.{err_from_is_err_and}
 use Rattle.std.proofs.lemmas.List.{length-append}
 use Rattle.std.specs.Io.KnownBytes.{Consumes}
 use Rattle.stanza.specs.Held.{pending_of}
-use Rattle.stanza.proofs.HeldLemmas.{Fills-more, IsHeld-more}
+use Rattle.stanza.proofs.HeldLemmas.{Fills-more, IsHeld-more, total-more}
 use Rattle.stanza.proofs.held.Held.fill.Goals as goal
 use Rattle.stanza.proofs.held.Held.fill.Goals.{else-added-gt0-via-then-added-gt0+else-self-eq0, else-added-gt0-via-else-added-gt0}
 
@@ -33,6 +33,7 @@ loop-added-preserved g c =
       some = omega (arith, w.invariant.some, c.in_ok-count.ensures.size);
       filled = Fills-more c.args.self.now w.self c.add.new.self (g.S.Source.left c.args.source.now) (g.S.Source.left w.source) (g.S.Source.left c.read_some.new.source) block w.invariant.held w.invariant.filled
           taken c.in_ok-add.ensures.bytes rest.0 rest.1 rest.2;
+      total = total-more w.self c.add.new.self block w.invariant.held c.in_ok-add.ensures.bytes rest.0 rest.2 ∙ w.invariant.total;
       less = omega (arith, w.invariant.less, rest.2, c.split_at.ensures.front_len);
       sure = λ sure. (c.in_ok-count.ensures.sure (w.invariant.sure sure)).0;
       count = c.in_ok-count.ensures.count ∙ w.invariant.count;

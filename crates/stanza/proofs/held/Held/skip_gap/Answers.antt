@@ -3,7 +3,7 @@ use Rattle.std.proofs.Common.{◌≡◌, ◌+◌, ℕ, List, drop, length, refl,
 use Rattle.std.proofs.lemmas.List.{length-drop}
 use Rattle.stanza.specs.Held.{pending_of}
 use Rattle.stanza.specs.Streamed.{BeginsAhead, SkipsAhead}
-use Rattle.stanza.proofs.HeldLemmas.{IsHeld-moved, gap-moved, moved, pending-moved}
+use Rattle.stanza.proofs.HeldLemmas.{IsHeld-moved, gap-moved, moved, pending-moved, total-moved}
 use Rattle.stanza.proofs.held.Held.skip_gap.Goals as goal
 
 pub overflow_add-self : goal.overflow_add-self
@@ -51,3 +51,8 @@ returns-clause-begins c =
     subst (λ (text : List ℕ). BeginsAhead c.args.is_over c.args.commented text)
     (ap (drop c.gap_ahead-len.result.0) pending ∙ sym (pending-moved c.args.self.now (moved c.args.self.now c.gap_ahead-len.result.0 c.gap_ahead-len.result.1) c.gap_ahead-len.result.0 c.gap_ahead-len.result.1 (record { bytes = refl; begin = refl; before = refl; room = refl })))
     c.gap_ahead-len.ensures.begins
+
+pub returns-clause-total : goal.returns-clause-total
+returns-clause-total c =
+    total-moved c.args.self.now (moved c.args.self.now c.gap_ahead-len.result.0 c.gap_ahead-len.result.1) c.gap_ahead-len.result.0 c.gap_ahead-len.result.1
+    (record { bytes = refl; begin = refl; before = refl; room = refl })
