@@ -1,7 +1,7 @@
 -- A group from which the walk can begin: the greatest part of the first names.
 use Rattle.std.proofs.Common.{◌≡◌, ◌⊎◌, ℕ, ◌+◌, ◌<◌, ◌≤◌, true, List, [], ◌∷◌, Option, Some, None, drop, get_or, length, take, refl, sym, ap, subst, ◌∙◌, arith}
 use Rattle.std.specs.Prelude.{slice_get}
-use Rattle.std.specs.List.{All, Any, Contains, filter}
+use Rattle.std.specs.List.{All, Any, Contains}
 use Rattle.std.proofs.lemmas.Bool.{cases_order}
 use Rattle.std.specs.declared.cmp.Ordering.TheVariants.{Less}
 use Rattle.std.proofs.lemmas.List.{drop_more, get_or-drop, get_or-take, get_or_default, length-take-le}
@@ -9,18 +9,19 @@ use Rattle.std.proofs.lemmas.Option.{get_or_from_slice_get, slice_get_within}
 use Rattle.std.proofs.Math.ListN.{drop_of_length-le}
 use Rattle.std.proofs.Math.Seq.{take-length}
 use Rattle.std.proofs.lemmas.List.Elements.{All-contains, All-cons}
-use Rattle.rules.specs.Configure.{GroupPasses, IsGreatestPart}
+use Rattle.rules.specs.Configure.{AreConfigurable, GroupPasses, HasConfigurable, IsGreatestPart}
 use Rattle.rules.specs.Database.{Record}
-use Rattle.rules.specs.ElementLaws.{All-intro, Any-elim, Any-intro, Contains-cons, Contains-filter_intro, Contains-head, Contains-nil, Contains-rest}
+use Rattle.rules.specs.ElementLaws.{All-intro, Any-elim, Any-intro, Contains-cons, Contains-head, Contains-nil, Contains-rest}
 use Rattle.rules.specs.Name.{IsAscending, name_cmp}
 use Rattle.rules.proofs.Decided.{dec_Contains}
 use Rattle.rules.proofs.GroupLemmas.{GroupPasses-from_each, none_of}
+use Rattle.plancheck_group.specs.Part.{IsPartWith}
 use Rattle.plain.specs.Order.{IsLesserGroup}
 use Rattle.plain.specs.Underway.{unconfigured_of}
 use Rattle.plain.specs.Walk.{IsInOrAbove, IsOnWalk, IsPassing}
 use Rattle.plain.proofs.LeastGroupLemmas.{names_unconfigured, all_of_none, some_length}
 use Rattle.plain.proofs.SortedLemmas.{not_below_itself}
-use Rattle.fixed_order.specs.Alone.{IsFirstWith, PassesAlone, is_below}
+use Rattle.fixed_order.specs.Alone.{IsFirstWith, MayPass, PassesAlone, is_below}
 use Rattle.fixed_order.specs.Turn.{AsksBefore, HasRings, is_ring}
 use Rattle.fixed_order.specs.Waiting.{AscendWith}
 use Rattle.fixed_order.specs.Walked.{IsBeginning}
@@ -120,18 +121,27 @@ nothing_passes db names none = record {
   greatest = λ other within passes. All-intro (Contains []) other (λ n there. absurd (none other (some_length other n there) within passes));
 }
 
--- of the names below a bound none passes alone and of the rings below it no part passes: no part of them passes
-pub nothing_lower : (db : List Record) (names rings before : List (List ℕ)) (bound : Option (List ℕ))
-    → AscendWith (unconfigured_of db) names → HasRings db names rings → All (λ name. ¬ PassesAlone db name) before
-    → All (λ name. is_below bound name ≡ true) before → IsGreatestPart db (filter (is_below bound) rings) [] → IsGreatestPart db before []
-nothing_lower db names rings before bound are has alone below greatest = nothing_passes db before refused
+-- of the names below a bound none passes alone and of the rings' names below it no part passes: no part of them passes
+pub nothing_lower : (db : List Record) (names rings lower before : List (List ℕ)) (bound : Option (List ℕ))
+    → AscendWith (unconfigured_of db) names → HasRings db names rings → IsPartWith (MayPass db bound) rings lower
+    → All (λ name. ¬ PassesAlone db name) before → All (λ name. is_below bound name ≡ true) before → IsGreatestPart db lower []
+    → IsGreatestPart db before []
+unfolding MayPass AreConfigurable
+nothing_lower db names rings lower before bound are has part alone below greatest = nothing_passes db before refused
   where
     refused : (other : List (List ℕ)) → 0 < length other → All (Contains before) other → ¬ GroupPasses db other
     refused other some within passes = elim (alone_or_ring has.rank db other some passes asks) [
       | inl one ↦ All-contains (λ name. ¬ PassesAlone db name) before one.0 alone
           (All-contains (Contains before) other one.0 within one.1.within) (alone_passes db one.0 one.1.passes)
-      | inr ring ↦ none_of ring.0 ring.1.some (greatest.greatest ring.0 (All-intro (Contains (filter (is_below bound) rings)) ring.0
-          (λ name there. lower ring.0 ring.1.within ring.1.ringed name there)) ring.1.passes)
+      | inr ring ↦ none_of ring.0 ring.1.some (greatest.greatest ring.0 (All-intro (Contains lower) ring.0 (λ name there.
+          let here = All-contains (Contains other) ring.0 name ring.1.within there in
+          (part name).1 (
+            has.ringed name (named name here) (All-contains (λ n. is_ring (has.rank n) ≡ true) ring.0 name ring.1.ringed there),
+            (
+              All-contains (λ n. is_below bound n ≡ true) before name below (All-contains (Contains before) other name within here),
+              may name (All-contains (HasConfigurable db) ring.0 name ring.1.passes.configurable there),
+            ),
+          ))) ring.1.passes)
     ]
       where
         named : (name : List ℕ) → Contains other name → Contains names name
@@ -141,13 +151,8 @@ nothing_lower db names rings before bound are has alone below greatest = nothing
         asks = All-intro (AsksBefore has.rank db) other (λ name there.
             All-contains (AsksBefore has.rank db) names name has.asks (named name there))
 
-        lower : (part : List (List ℕ)) → All (Contains other) part → All (λ name. is_ring (has.rank name) ≡ true) part → (name : List ℕ)
-            → Contains part name → Contains (filter (is_below bound) rings) name
-        lower part inside ringed name there =
-            let here = All-contains (Contains other) part name inside there in
-            Contains-filter_intro (is_below bound) rings name
-            (has.ringed name (named name here) (All-contains (λ n. is_ring (has.rank n) ≡ true) part name ringed there))
-            (All-contains (λ n. is_below bound n ≡ true) before name below (All-contains (Contains before) other name within here))
+        may : (name : List ℕ) → HasConfigurable db name → All (HasConfigurable db) (name ∷ [])
+        may name configurable = All-cons (HasConfigurable db) name [] configurable (all_of_none (HasConfigurable db))
 
 -- each of ascending names is before the place, at it, or above the name there
 placed : (names : List (List ℕ)) (place : ℕ) (name other : List ℕ) → IsAscending names → place < length names

@@ -1,5 +1,5 @@
 -- Names that pass alone, and those below a bound (Policy 7.2 and 7.3).
-use Rattle.std.specs.Prelude.{ℕ, ◌<◌, ◌≤◌, Bool, true, List, [], ◌∷◌, Option, get_or, length, take}
+use Rattle.std.specs.Prelude.{◌≡◌, ℕ, ◌<◌, ◌≤◌, Bool, true, List, [], ◌∷◌, Option, get_or, length, take}
 use Rattle.std.specs.List.{All}
 use Rattle.std.specs.Option.{option_map_or}
 use Rattle.std.specs.Ordering.{is_lt}
@@ -12,12 +12,16 @@ unfoldable pub PassesAlone : List Record → List ℕ → Type 0
 PassesAlone db name = AreConfigurable db (name ∷ []) × AreDependsInstalled db (name ∷ [])
     × ArePreDependsInstalled db (name ∷ []) × AreUnbroken db (name ∷ [])
 
+-- the name is below the bound, if there is one, as a test
+abbrev pub is_below : Option (List ℕ) → List ℕ → Bool
+is_below bound name = option_map_or (λ other. is_lt (name_cmp name other)) bound true
+
+-- the name is below the bound, and its record may be configured
+unfoldable pub MayPass : List Record → Option (List ℕ) → List ℕ → Type 0
+MayPass db bound name = (is_below bound name ≡ true) × AreConfigurable db (name ∷ [])
+
 -- the place is that of the first name with the property, or the end
 pub record IsFirstWith (P : List ℕ → Type 0) (names : List (List ℕ)) (place : ℕ) : Type 0 where
   pub within : place ≤ length names
   pub before : All (λ name. ¬ P name) (take place names)
   pub has : (default : List ℕ) → place < length names → P (get_or names place default)
-
--- the name is below the bound, if there is one, as a test
-abbrev pub is_below : Option (List ℕ) → List ℕ → Bool
-is_below bound name = option_map_or (λ other. is_lt (name_cmp name other)) bound true

@@ -17,4 +17,4 @@ pub record AscendWith (others names : List (List ℕ)) : Type 0 where
 pub record IsWaitingIn (db : List Record) (waiting : Waiting) : Type 0 where
   pub names : AscendWith (unconfigured_of db) waiting.names.items
   pub down : IsFalling (unconfigured_of db) waiting.down.items
-  pub rings : HasRings db waiting.names.items waiting.rings.items
+  pub rings : HasRings db waiting.names.items waiting.rings.names.items

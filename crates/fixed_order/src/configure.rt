@@ -3,15 +3,16 @@
 // down, and each is left out where some of the others still pass without it (Policy 7.2 and 7.3).
 
 ghost use Rattle.std.specs.Prelude.{◌≡◌, ◌↔◌, ◌∷◌, [], ℕ, List, true, IfOk, IsTrue, MatchOption, OnOk};
-ghost use Rattle.std.specs.List.{All, Contains, filter};
+ghost use Rattle.std.specs.List.{All, Contains};
 ghost use Rattle.std.specs.Option.{option_copied};
 ghost use Rattle.rules.specs.Configure.{IsGreatestPart, IsIndivisible, others_of};
+ghost use Rattle.plancheck_group.specs.Part.{IsPartWith};
 ghost use Rattle.plain.specs.Change.{HasNothingToRemove};
 ghost use Rattle.plain.specs.Order.{AreConfigures, IsConfigurableGroup, IsLeastGroup, after_all};
 ghost use Rattle.plain.specs.Underway.{unconfigured_of};
 ghost use Rattle.plain.specs.Walk.{IsOnWalk};
 ghost use Rattle.fixed_order.specs.Ground.{IsGround, IsUnderwayOn, members_in};
-ghost use Rattle.fixed_order.specs.Alone.{IsFirstWith, PassesAlone, is_below};
+ghost use Rattle.fixed_order.specs.Alone.{IsFirstWith, MayPass, PassesAlone, is_below};
 ghost use Rattle.fixed_order.specs.Waiting.{IsWaitingIn};
 ghost use Rattle.fixed_order.specs.Walked.{IsBeginning, IsFalling, IsWalkedTo};
 
@@ -63,13 +64,26 @@ fn is_below(name: &Name, bound: Option<&Name>) -> bool
     }
 }
 
-// The names below the bound, copied.
-fn lower_names(alloc: Global, names: &[Name], bound: Option<&Name>) -> Result<Vec<Name>, AllocError>
-    ensures { IfOk result (λ lower. lower.items ≡ filter (is_below (option_copied bound.entry)) names.now) }
+// Whether the name is below the bound, if there is one, and its record may be configured.
+#[tactic(auto, unfolding(crate::specs::Alone::MayPass))]
+fn may_pass(db: &Records<'_, '_>, name: &Name, bound: Option<&Name>) -> bool
+    ensures { IsTrue result ↔ MayPass db.now (option_copied bound.entry) name.now }
+{
+    is_below(name, bound) && are_configurable(db, from_ref(name))
+}
+
+// Those of the names, copied.
+fn lower_names(
+    alloc: Global,
+    db: &Records<'_, '_>,
+    names: &[Name],
+    bound: Option<&Name>,
+) -> Result<Vec<Name>, AllocError>
+    ensures { IfOk result (λ lower. IsPartWith (MayPass db.now (option_copied bound.entry)) names.now lower.items) }
 {
     let mut lower = Vec::new(alloc);
     for name in names {
-        if is_below(name, bound) {
+        if may_pass(db, name, bound) {
             lower.push(name.try_copy(alloc)?)?;
         }
     }
@@ -90,11 +104,12 @@ fn lower_group(
     requires below { All (λ name. is_below (option_copied bound) name ≡ true) before.now }
     ensures { IfOk result (λ group. IsGreatestPart db.now before.now group.items) }
 {
-    if waiting.rings.len() == waiting.names.len() {
+    let rings = waiting.rings.names.as_slice();
+    if rings.len() == waiting.names.len() {
         let all = greatest_part(alloc, db, before)?;
         return Ok(all);
     }
-    let lower = lower_names(alloc, waiting.rings.as_slice(), bound)?;
+    let lower = lower_names(alloc, db, rings, bound)?;
     let some = greatest_part(alloc, db, lower.as_slice())?;
     if some.is_empty() {
         return Ok(some);
@@ -253,6 +268,23 @@ fn walked(
     Ok(Names::new(walk.kept))
 }
 
+// Whether no part of the group passes, as far as that is asked: a group with more names than a ring has such a part, or isn't
+// worth the test.
+fn is_whole(
+    alloc: Global,
+    db: &Records<'_, '_>,
+    most: usize,
+    group: &[Name],
+) -> Result<bool, AllocError>
+    ensures { IfOk result (λ whole. whole ≡ true → IsIndivisible db.now group.now) }
+{
+    if group.len() > most {
+        return Ok(false);
+    }
+    let whole = is_indivisible(alloc, db, group)?;
+    Ok(whole)
+}
+
 // The least group that may be configured, if there is one.
 fn least_group<'p, 'a>(
     ground: &Ground<'_, '_, 'p, 'a>,
@@ -268,7 +300,7 @@ fn least_group<'p, 'a>(
     if group.is_empty() {
         return Ok(None);
     }
-    let whole = is_indivisible(ground.alloc, db, group.as_slice())?;
+    let whole = is_whole(ground.alloc, db, waiting.rings.most, group.as_slice())?;
     let least = walked(ground, db, waiting.down.as_slice(), whole, group)?;
     Ok(Some(least))
 }

@@ -12,6 +12,7 @@ use std::marker::Model;
 #[derive(Drop)]
 pub(crate) struct Ranks<'n> {
     table: IndexMap<&'n [u8], usize>,
+    most: usize,
 }
 
 impl<'n> Model for Ranks<'n> {
@@ -42,6 +43,7 @@ impl<'n> Ranks<'n> {
     pub(crate) fn new(alloc: Global) -> Ranks<'n> {
         Ranks {
             table: IndexMap::new(alloc),
+            most: 1,
         }
     }
 
@@ -49,6 +51,16 @@ impl<'n> Ranks<'n> {
     pub(crate) fn insert(&mut self, name: &'n [u8], rank: usize) -> Result<(), AllocError> {
         self.table.insert(name, rank)?;
         Ok(())
+    }
+
+    /// Says that a ring has so many names.
+    pub(crate) fn widen(&mut self, members: usize) {
+        self.most = self.most.max(members);
+    }
+
+    /// How many names the largest of the rings has, or one.
+    pub(crate) fn most(&self) -> usize {
+        self.most
     }
 
     /// The rank of the name, and 0 where it has none.

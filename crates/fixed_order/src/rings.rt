@@ -236,6 +236,7 @@ fn ranks_by<'n>(
         let members = walk.left.len();
         let rank = rank_of(names.len(), above, members);
         rank_each(names, walk.left.as_slice(), rank, &mut ranks)?;
+        ranks.widen(members);
         above = above.saturating_add(members);
         walk.left.clear();
     }

@@ -154,6 +154,13 @@ fn copies(alloc: Global, names: &[Name]) -> Result<Vec<Name>, AllocError>
     Ok(copied)
 }
 
+/// Names that are in rings, and how many the largest of these has, or one.
+#[derive(Drop)]
+pub(crate) struct Rings {
+    pub(crate) names: Vec<Name>,
+    pub(crate) most: usize,
+}
+
 /// Those of the names that are in rings, where names may ask for one another in turn, in their order, or all names where that isn't
 /// told apart. For each
 /// atom of their Depends linear in the records that have or provide its name. Memory alone can fail.
@@ -161,14 +168,18 @@ pub(crate) fn rings_of(
     alloc: Global,
     db: &Records<'_, '_>,
     names: &[Name],
-) -> Result<Vec<Name>, AllocError>
-    ensures { IfOk result (λ rings. HasRings db.now names.now rings.items) }
+) -> Result<Rings, AllocError>
+    ensures { IfOk result (λ rings. HasRings db.now names.now rings.names.items) }
 {
     let ranks = ranks_of(alloc, db, names)?;
     if ask_before(db, &ranks, names) {
-        let rings = ringed(alloc, &ranks, names)?;
-        return Ok(rings);
+        let found = ringed(alloc, &ranks, names)?;
+        let most = ranks.most();
+        return Ok(Rings { names: found, most });
     }
     let all = copies(alloc, names)?;
-    Ok(all)
+    Ok(Rings {
+        names: all,
+        most: names.len(),
+    })
 }

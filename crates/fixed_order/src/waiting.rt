@@ -11,7 +11,7 @@ ghost use Rattle.fixed_order.specs.Walked.{IsFalling};
 
 use crate::ground::Ground;
 use crate::key::{Key, in_order};
-use crate::turn::rings_of;
+use crate::turn::{Rings, rings_of};
 use rules::Name;
 use status::Records;
 use std::alloc::{AllocError, Global};
@@ -22,7 +22,7 @@ use std::alloc::{AllocError, Global};
 pub(crate) struct Waiting<'a> {
     pub(crate) names: Vec<Name>,
     pub(crate) down: Vec<Key<'a>>,
-    pub(crate) rings: Vec<Name>,
+    pub(crate) rings: Rings,
 }
 
 // The names of what isn't configured, in the order of the records.

@@ -16,4 +16,4 @@ pub walked-requires-clause-falls : goal.walked-requires-clause-falls
 walked-requires-clause-falls c = subst (IsFalling (unconfigured_of c.args.db.now)) (sym c.as_slice-2.ensures.value) c.requires.down
 
 pub walked-requires-clause-whole : goal.walked-requires-clause-whole
-walked-requires-clause-whole c = λ so. subst (IsIndivisible c.args.db.now) c.as_slice.ensures.value (c.in_ok-whole.ensures.0 so)
+walked-requires-clause-whole c = λ so. subst (IsIndivisible c.args.db.now) c.as_slice.ensures.value (c.in_ok-whole.ensures so)

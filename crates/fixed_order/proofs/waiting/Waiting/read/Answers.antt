@@ -15,6 +15,6 @@ returns c =
           (ascend_with (unconfigured_of c.args.db.now) c.in_ok-keys.keys.items c.in_ok-keys.ensures);
       down = falling_of (unconfigured_of c.args.db.now) c.in_ok-keys.keys.items c.falling-down.result.items c.in_ok-keys.ensures
           c.falling-down.ensures;
-      rings = subst (λ (names : List (List ℕ)). HasRings c.args.db.now names c.in_ok-rings.rings.items) c.as_slice-2.ensures.value
+      rings = subst (λ (names : List (List ℕ)). HasRings c.args.db.now names c.in_ok-rings.rings.names.items) c.as_slice-2.ensures.value
           c.in_ok-rings.ensures;
     }
