@@ -1,6 +1,7 @@
 #!/usr/bin/python3
-"""libsolv_request.py DIR NAME: solves by libsolv, from the texts that tools/collect-inputs wrote into DIR, the request to
-install the package NAME, without its recommendations, and prints the steps."""
+"""libsolv_request.py DIR NAME, or libsolv_request.py DIR --request FILE: solves by libsolv, from the texts that
+tools/collect-inputs wrote into DIR, the request to install the package NAME, or the goals of a request that have no version,
+without recommendations, and prints what is installed. Packages may be removed for it."""
 
 import os
 import sys
@@ -9,8 +10,29 @@ import tempfile
 import solv
 
 
+ACTIONS = {
+    "install": solv.Job.SOLVER_INSTALL,
+    "upgrade": solv.Job.SOLVER_INSTALL | solv.Job.SOLVER_FORCEBEST,
+    "remove": solv.Job.SOLVER_ERASE,
+    "upgrade-all": solv.Job.SOLVER_UPDATE,
+}
+
+
+def goals_of(words):
+    if words[0] != "--request":
+        return [f"install {words[0]}"]
+    with open(words[1], encoding="utf-8") as text:
+        return text.read().splitlines()
+
+
+def jobs_for(pool, goal):
+    action, _, name = goal.partition(" ")
+    selection = pool.select(name, solv.Selection.SELECTION_NAME) if name else pool.Selection_all()
+    return selection.jobs(ACTIONS[action])
+
+
 def main():
-    folder, name = sys.argv[1], sys.argv[2]
+    folder = sys.argv[1]
     pool = solv.Pool()
     pool.setdisttype(solv.Pool.DISTTYPE_DEB)
     pool.setarch("amd64")
@@ -25,8 +47,9 @@ def main():
         if file.startswith("index-"):
             pool.add_repo(file).add_debpackages(solv.xfopen(os.path.join(folder, file)))
     pool.createwhatprovides()
-    jobs = pool.select(name, solv.Selection.SELECTION_NAME).jobs(solv.Job.SOLVER_INSTALL)
+    jobs = [job for goal in goals_of(sys.argv[2:]) for job in jobs_for(pool, goal)]
     solver = pool.Solver()
+    solver.set_flag(solv.Solver.SOLVER_FLAG_ALLOW_UNINSTALL, 1)
     solver.set_flag(solv.Solver.SOLVER_FLAG_IGNORE_RECOMMENDED, 1)
     if solver.solve(jobs):
         sys.exit("libsolv_request.py: the request can't be solved")

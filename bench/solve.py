@@ -1,18 +1,22 @@
 #!/usr/bin/python3
-"""solve.py DIR PROGRAM [--empty] [--apt] [--libsolv] [--conflicts] [--part K/N] GOAL..: solves requests by debplan and shows
-what comes out, a row of a table for each. A GOAL is `install:NAME`, `remove:NAME`, `upgrade:NAME`, `upgrade-all`, or
+"""solve.py DIR PROGRAM [OPTION..] GOAL..: solves requests by debplan and shows what comes out, a row of a table for each. A
+GOAL is `install:NAME`, `remove:NAME`, `upgrade:NAME`, `upgrade-all`, `file:PATH`, which is a request of several goals, or
 `random:COUNT`, which stands for as many names of the indices to be installed, drawn at random but the same in each run
 (`gone:COUNT`: installed names to be removed). DIR is what tools/collect-inputs wrote on this machine, PROGRAM is debplan.
 Each plan has to be judged `yes` by check-plan, and each refutation by check-refutation.
 
   --empty      nothing is installed
-  --apt        beside it the packages that `apt-get -s` would change, without recommended ones
+  --apt        beside it the packages that `apt-get -s` would change, without recommended ones; beside `file:PATH` those of
+               its dist-upgrade
   --libsolv    beside it the time of libsolv from the same texts; wants Debian's package python3-solv
+  --rounds N   times are medians and memory is the greatest of N runs, in which debplan, apt and libsolv take turns; apt
+               then reads its lists in each run, and its time and memory are shown
+  --same OTHER the program OTHER has to give the same answer, byte for byte
   --conflicts  beside it the least --limit, of 0, 1, 2, 3, 4, 6, 8, 16 and so on, doubled up to 65536, with which the request
                is decided: that many conflicts of the search, or hardly fewer
   --part K/N   every N-th goal alone, from the K-th on, so that N processes can share a sample
 
-Exit status: 0, 1 where an answer isn't judged yes or a request is undecided, 2 for wrong words."""
+Exit status: 0, 1 where an answer isn't judged yes or isn't the same, or a request is undecided, 2 for wrong words."""
 
 import argparse
 import glob
@@ -20,6 +24,7 @@ import itertools
 import os
 import random
 import re
+import statistics
 import subprocess
 import sys
 import tempfile
@@ -83,7 +88,16 @@ class Outcome:
 
 
 def lines_of(goal):
-    return goal.replace(":", " ") + "\n"
+    """The request for a goal."""
+    kind, _, path = goal.partition(":")
+    if kind != "file":
+        return goal.replace(":", " ") + "\n"
+    with open(path, encoding="utf-8") as text:
+        return text.read()
+
+
+def time_and_peak(wall, peak):
+    return f"{wall:,.0f} ms, {peak:.0f} MiB"
 
 
 class Bench:
@@ -105,25 +119,30 @@ class Bench:
         _, said, _, _ = run([self.program, answer, *inputs, path])
         return said.strip()
 
-    def apt(self, goal):
-        """What apt would change: packages new, upgraded and removed, or that it refuses."""
+    def apt_command(self, goal):
         kind, _, name = goal.partition(":")
         words = {"install": ["install", name], "remove": ["remove", name], "upgrade": ["install", "--only-upgrade", name]}
-        settings = [f"Dir::State::status={self.status}", *(f"Dir::Cache::{cache}={self.room}/{cache}" for cache in CACHES)]
+        caches = {cache: "" if self.options.rounds > 1 else os.path.join(self.room, cache) for cache in CACHES}
+        settings = [f"Dir::State::status={self.status}", *(f"Dir::Cache::{cache}={path}" for cache, path in caches.items())]
         command = ["apt-get", "-s", "--no-install-recommends", *(word for setting in settings for word in ("-o", setting))]
-        code, said, _, _ = run([*command, *words.get(kind, ["dist-upgrade"])])
-        if code:
-            return "refuses"
+        return [*command, *words.get(kind, ["dist-upgrade"])]
+
+    def apt_cell(self, code, said, wall, peak):
+        """What apt would change: packages new, upgraded and removed, or that it refuses."""
         new = sum(1 for _, old in INST.findall(said) if not old)
         upgraded = sum(1 for _, old in INST.findall(said) if old)
-        return f"{new}/{upgraded}/{len(REMV.findall(said))}"
+        changes = "refuses" if code else f"{new}/{upgraded}/{len(REMV.findall(said))}"
+        return f"{changes}, {time_and_peak(wall, peak)}" if self.options.rounds > 1 else changes
 
-    def libsolv(self, goal):
-        kind, _, name = goal.partition(":")
-        if kind != "install":
-            return ""
-        code, _, wall, _ = run(["/usr/bin/python3", os.path.join(HERE, "libsolv_request.py"), self.folder, name])
-        return f"{wall:.0f} ms" if code == 0 else "refuses"
+    def libsolv_cell(self, code, said, wall, peak):
+        return ("refuses, " if code else "") + time_and_peak(wall, peak)
+
+    def by_turns(self, commands):
+        """Runs each command once a round: of each the exit status, what the last run prints, the median time, and the peak."""
+        rounds = [[run(command) for command in commands] for _ in range(self.options.rounds)]
+        for runs in zip(*rounds):
+            codes, texts, walls, peaks = zip(*runs)
+            yield codes[-1], texts[-1], statistics.median(walls), max(peaks)
 
     def conflicts(self, inputs):
         """The least of the limits with which the request is decided."""
@@ -139,8 +158,13 @@ class Bench:
             text.write(lines_of(goal))
         sources = os.path.join(self.folder, "sources")
         inputs = ["--arch", "amd64", "--status", self.status, "--sources", sources, "--request", request]
-        code, said, wall, peak = run([self.program, "solve", *inputs])
-        cells = [f"`{lines_of(goal).strip()}`"]
+        others = [(self.apt_command(goal), self.apt_cell)] if self.options.apt else []
+        if self.options.libsolv:
+            script = os.path.join(HERE, "libsolv_request.py")
+            others += [(["/usr/bin/python3", script, self.folder, "--request", request], self.libsolv_cell)]
+        commands = [[self.program, "solve", *inputs], *(command for command, _ in others)]
+        (code, said, wall, peak), *beside = self.by_turns(commands)
+        cells = [f"`{goal if goal.startswith('file:') else lines_of(goal).strip()}`"]
         if code == 0:
             judged, outcome = self.judged("check-plan", inputs, said), Outcome(said, self.start)
             cells += ["plan", f"{outcome.new}/{outcome.upgraded}/{outcome.removed}", f"{outcome.steps}"]
@@ -151,12 +175,12 @@ class Bench:
         else:
             judged = "undecided"
             cells += [said.strip(), "", "", "", ""]
+        if self.options.same and run([self.options.same, "solve", *inputs])[:2] != (code, said):
+            judged += ", not the same"
         if judged != "yes":
             self.faults += 1
             cells[1] += f" ({judged})"
-        cells += [f"{wall:.0f} ms", f"{peak:.0f} MiB"]
-        cells += [self.apt(goal)] if self.options.apt else []
-        cells += [self.libsolv(goal)] if self.options.libsolv else []
+        cells += [f"{wall:.0f} ms", f"{peak:.0f} MiB", *(cell(*ran) for (_, cell), ran in zip(others, beside))]
         cells += [self.conflicts(inputs)] if self.options.conflicts else []
         print("| " + " | ".join(cells) + " |", flush=True)
 
@@ -193,6 +217,8 @@ def main():
     parser.add_argument("--libsolv", action="store_true")
     parser.add_argument("--conflicts", action="store_true")
     parser.add_argument("--part", default="1/1")
+    parser.add_argument("--rounds", type=int, default=1)
+    parser.add_argument("--same", type=os.path.abspath)
     parser.add_argument("goals", nargs="+")
     options = parser.parse_args()
     bench = Bench(options)
