@@ -1,5 +1,5 @@
 //! Two steps on a file in memory of which one call fails, each in turn; and the bytes that are written.
-use disk::{Failing, Fuse, MemoryDisk, Unsynced};
+use disk::{Disk, Failing, Fuse, MemoryDisk, Unsynced};
 use journal::{OpenError, append, create, open, read_all, read_journal};
 use plantext::{PlanError, read_step};
 use std::alloc::{AllocError, Global};
@@ -68,17 +68,29 @@ fn are_kept(alloc: Global, disk: &MemoryDisk, count: usize) -> Result<bool, Allo
     Ok(true)
 }
 
+// The ways in which this call can fail, alone or with all that follow.
+fn fuses_of(calls: usize) -> [Fuse; 6] {
+    let fuse = |lasting, failing| Fuse {
+        calls,
+        lasting,
+        failing,
+    };
+    [
+        fuse(false, Failing::Undone),
+        fuse(false, Failing::Half),
+        fuse(false, Failing::Done),
+        fuse(true, Failing::Undone),
+        fuse(true, Failing::Half),
+        fuse(true, Failing::Done),
+    ]
+}
+
 #[test]
 fn each_failing_call_leaves_what_was_acknowledged(rt: HostRuntime) -> Result<(), Fail> {
     let alloc = rt.alloc();
     // Three calls create it, and four add a step.
     for call in 0..12usize {
-        for failing in [Failing::Undone, Failing::Half, Failing::Done] {
-            let fuse = Fuse {
-                calls: call,
-                lasting: false,
-                failing,
-            };
+        for fuse in fuses_of(call) {
             let mut disk = MemoryDisk::with_fuse(alloc, Vec::new(alloc), fuse);
             match acknowledged(alloc, &mut disk)? {
                 Some(count) => {
@@ -88,6 +100,59 @@ fn each_failing_call_leaves_what_was_acknowledged(rt: HostRuntime) -> Result<(),
                 }
                 None => assert!(rt; call < 3, "at {call}"),
             }
+        }
+    }
+    Ok(())
+}
+
+// A journal with one step, behind which a record was torn.
+fn torn_file(alloc: Global) -> Result<Vec<u8>, OpenError> {
+    let mut disk = MemoryDisk::new(alloc, Vec::new(alloc));
+    let mut ledger = create(alloc, &mut disk, START, b"amd64").map_err(|_| OpenError::Disk)?;
+    is_added(alloc, &mut ledger, &mut disk, b"remove foo\n")?;
+    let mut file = disk.bytes().to_vec(alloc)?;
+    file.extend_from_slice(b"\0\0\0\x0apur")?;
+    Ok(file)
+}
+
+// How many steps the journal shows that is opened from the disk.
+fn opened_steps(alloc: Global, disk: &mut MemoryDisk) -> Result<usize, OpenError> {
+    let file = read_all(alloc, disk)?;
+    let ledger = open(alloc, disk, &file, b"amd64")?;
+    Ok(ledger.history().len())
+}
+
+// Whether each file that a crash leaves, at any moment of the calls that were made, shows the one step.
+fn is_left(alloc: Global, disk: &MemoryDisk) -> Result<bool, AllocError> {
+    for count in 0..disk.calls().len() + 1 {
+        for unsynced in [
+            Unsynced::Lost,
+            Unsynced::Kept,
+            Unsynced::Half,
+            Unsynced::Filled(0x7f, 3),
+        ] {
+            let left = disk.left(alloc, count, unsynced)?;
+            if steps_in(alloc, &left).ok() != Some(1) {
+                return Ok(false);
+            }
+        }
+    }
+    Ok(true)
+}
+
+#[test]
+fn each_failing_call_of_an_opening_leaves_what_was_there(rt: HostRuntime) -> Result<(), Fail> {
+    let alloc = rt.alloc();
+    // Two calls read it, a sync makes its last gate sure, and a cut with a sync takes the torn record off.
+    for call in 0..6usize {
+        for fuse in fuses_of(call) {
+            let mut disk = MemoryDisk::with_fuse(alloc, torn_file(alloc)?, fuse);
+            match opened_steps(alloc, &mut disk) {
+                Ok(steps) => assert!(rt; call == 5 && steps == 1, "at {call}"),
+                Err(OpenError::Disk) => assert!(rt; call < 5 && disk.failures() == 1, "at {call}"),
+                Err(_) => assert!(rt; false, "at {call}"),
+            }
+            assert!(rt; is_left(alloc, &disk)?, "at {call}");
         }
     }
     Ok(())

@@ -1,62 +1,46 @@
 //! Control texts that come piece by piece: each cutting of a text gives what the whole text gives.
-ghost use Rattle.std.specs.Prelude.{None};
-
 use crate::texts::{write_part, write_printed};
 use rows::unescaped;
 use stanza::{ReadFailed, ReadStanza, Reader, Source};
 use std::alloc::{AllocError, Global};
 use std::process::Abort;
 
-// A text that is given in three pieces, whose second and third begin at these offsets.
+// A text that is given in three pieces.
 #[derive(Drop)]
 struct Pieces<'a> {
-    text: &'a [u8],
-    at: usize,
-    second: usize,
-    third: usize,
-    failures: u64,
+    first: &'a [u8],
+    second: &'a [u8],
+    third: &'a [u8],
 }
 
 impl<'a> Pieces<'a> {
+    // The text with its second and third piece beginning at these offsets.
     fn new(text: &'a [u8], second: usize, third: usize) -> Pieces<'a> {
+        let (front, last) = text.split_at(third.min(text.len()));
+        let (first, middle) = front.split_at(second.min(front.len()));
         Pieces {
-            text,
-            at: 0,
-            second,
-            third,
-            failures: 0,
-        }
-    }
-
-    // Where the piece that comes next ends.
-    fn piece_end(&self) -> usize {
-        if self.at < self.second {
-            self.second
-        } else if self.at < self.third {
-            self.third
-        } else {
-            self.text.len()
+            first,
+            second: middle,
+            third: last,
         }
     }
 }
 
 impl Source for Pieces<'_> {
-    ghost left = { λ _. None };
-
-    ghost faults = { λ pieces. pieces.failures };
+    ghost faults = { λ _. 0 };
 
     fn failures(&self) -> u64 {
-        self.failures
+        0
     }
 
     fn read(&mut self, block: &mut [u8]) -> Result<usize, ReadFailed> {
-        let end = self.piece_end().min(self.at + block.len());
-        let count = end - self.at;
-        for offset in 0..count {
-            block[offset] = self.text[self.at + offset];
+        if !self.first.is_empty() {
+            return self.first.read(block);
         }
-        self.at = end;
-        Ok(count)
+        if !self.second.is_empty() {
+            return self.second.read(block);
+        }
+        self.third.read(block)
     }
 }
 
@@ -93,20 +77,21 @@ fn read_in_pieces(
         Reader::new(alloc, most)?
     };
     let mut shown = Vec::new(alloc);
-    loop {
+    // No text has more stanzas than bytes.
+    for _ in 0..text.len() + 1 {
         match reader.advance(&mut source) {
-            Ok(true) => {
-                if let Some(stanza) = reader.stanza() {
-                    write_stanza(alloc, &mut shown, &stanza)?;
-                }
-            }
-            Ok(false) => return Ok(shown),
+            Ok(_) => {}
             Err(fault) => {
                 write_printed(alloc, &mut shown, &fault)?;
-                return Ok(shown);
+                break;
             }
         }
+        match reader.stanza() {
+            Some(stanza) => write_stanza(alloc, &mut shown, &stanza)?,
+            None => break,
+        }
     }
+    Ok(shown)
 }
 
 // Whether each cutting of the text in three is shown so.
@@ -166,4 +151,60 @@ $$$$$$$$→E10 TooLarge
 #[test]
 fn no_more_is_read_than_may_be(rt: HostRuntime) -> Result<(), AllocError> {
     assert_rows(&rt, false, 7, LIMITED)
+}
+
+// A stanza of the fields `n0` to `n99`, and behind them these lines.
+fn with_many_fields(alloc: Global, lines: &[u8]) -> Result<Vec<u8>, AllocError> {
+    let mut text = Vec::new(alloc);
+    for number in 0..100usize {
+        text.extend_from_slice(b"n")?;
+        write_printed(alloc, &mut text, &number)?;
+        text.extend_from_slice(b": x\n")?;
+    }
+    text.extend_from_slice(lines)?;
+    Ok(text)
+}
+
+fn are_refused_among_many(alloc: Global, commented: bool, row: &str) -> Result<bool, AllocError> {
+    let Some((lines, wanted)) = row.split_once('→') else {
+        return Ok(false);
+    };
+    let text = with_many_fields(alloc, unescaped(alloc, lines)?.as_slice())?;
+    let mut source = text.as_slice();
+    let mut reader = if commented {
+        Reader::with_comments(alloc, 10_000)?
+    } else {
+        Reader::new(alloc, 10_000)?
+    };
+    let mut shown = Vec::new(alloc);
+    if let Err(fault) = reader.advance(&mut source) {
+        write_printed(alloc, &mut shown, &fault)?;
+    }
+    Ok(shown.as_slice() == wanted.as_bytes())
+}
+
+const AMONG_MANY: &str = "\
+n100: y→
+n0: y→E4 DuplicateField 101
+N63: y→E4 DuplicateField 101
+A: y$N99: y→E4 DuplicateField 102
+A: y$B: y$a: y→E4 DuplicateField 103
+Explanation: y$A: y$explanation: y→E4 DuplicateField 103
+";
+
+const AMONG_MANY_COMMENTED: &str = "\
+Explanation: y$A: y$explanation: y→
+Explanation: y$explanation: y$#x$N64: y→E4 DuplicateField 104
+";
+
+// Fields are gone over while they are few, and of many there is a table.
+#[test]
+fn a_field_is_repeated_among_many(rt: HostRuntime) -> Result<(), AllocError> {
+    for row in AMONG_MANY.lines() {
+        assert!(rt; are_refused_among_many(rt.alloc(), false, row)?, "{row}");
+    }
+    for row in AMONG_MANY_COMMENTED.lines() {
+        assert!(rt; are_refused_among_many(rt.alloc(), true, row)?, "{row}");
+    }
+    Ok(())
 }
