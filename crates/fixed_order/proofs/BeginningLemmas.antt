@@ -121,6 +121,28 @@ nothing_passes db names none = record {
   greatest = λ other within passes. All-intro (Contains []) other (λ n there. absurd (none other (some_length other n there) within passes));
 }
 
+-- a name that may be configured, as the list of it
+may_alone : (db : List Record) (name : List ℕ) → HasConfigurable db name → All (HasConfigurable db) (name ∷ [])
+may_alone db name configurable = All-cons (HasConfigurable db) name [] configurable (all_of_none (HasConfigurable db))
+
+-- the greatest part of those that may pass is that of all
+pub greatest_below : (db : List Record) (names lower part : List (List ℕ)) (bound : Option (List ℕ)) → IsPartWith (MayPass db bound) names lower
+    → All (λ name. is_below bound name ≡ true) names → IsGreatestPart db lower part → IsGreatestPart db names part
+unfolding MayPass AreConfigurable
+greatest_below db names lower part bound is below greatest = record {
+  within = All-intro (Contains names) part (λ name there. ((is name).0 (All-contains (Contains lower) part name greatest.within there)).0);
+  passes = greatest.passes;
+  greatest = λ other inside passes. greatest.greatest other (All-intro (Contains lower) other (λ name there.
+      let here = All-contains (Contains names) other name inside there in
+      (is name).1 (
+        here,
+        (
+          All-contains (λ n. is_below bound n ≡ true) names name below here,
+          may_alone db name (All-contains (HasConfigurable db) other name passes.configurable there),
+        ),
+      ))) passes;
+}
+
 -- of the names below a bound none passes alone and of the rings' names below it no part passes: no part of them passes
 pub nothing_lower : (db : List Record) (names rings lower before : List (List ℕ)) (bound : Option (List ℕ))
     → AscendWith (unconfigured_of db) names → HasRings db names rings → IsPartWith (MayPass db bound) rings lower
@@ -139,7 +161,7 @@ nothing_lower db names rings lower before bound are has part alone below greates
             has.ringed name (named name here) (All-contains (λ n. is_ring (has.rank n) ≡ true) ring.0 name ring.1.ringed there),
             (
               All-contains (λ n. is_below bound n ≡ true) before name below (All-contains (Contains before) other name within here),
-              may name (All-contains (HasConfigurable db) ring.0 name ring.1.passes.configurable there),
+              may_alone db name (All-contains (HasConfigurable db) ring.0 name ring.1.passes.configurable there),
             ),
           ))) ring.1.passes)
     ]
@@ -150,9 +172,6 @@ nothing_lower db names rings lower before bound are has part alone below greates
         asks : All (AsksBefore has.rank db) other
         asks = All-intro (AsksBefore has.rank db) other (λ name there.
             All-contains (AsksBefore has.rank db) names name has.asks (named name there))
-
-        may : (name : List ℕ) → HasConfigurable db name → All (HasConfigurable db) (name ∷ [])
-        may name configurable = All-cons (HasConfigurable db) name [] configurable (all_of_none (HasConfigurable db))
 
 -- each of ascending names is before the place, at it, or above the name there
 placed : (names : List (List ℕ)) (place : ℕ) (name other : List ℕ) → IsAscending names → place < length names

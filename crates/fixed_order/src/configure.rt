@@ -90,6 +90,21 @@ fn lower_names(
     Ok(lower)
 }
 
+// The greatest part of the names, which are below the bound. Of those that were configured nothing is asked.
+fn part_below(
+    alloc: Global,
+    db: &Records<'_, '_>,
+    names: &[Name],
+    bound: Option<&Name>,
+) -> Result<Vec<Name>, AllocError>
+    requires { All (λ name. is_below (option_copied bound) name ≡ true) names.now }
+    ensures { IfOk result (λ part. IsGreatestPart db.now names.now part.items) }
+{
+    let lower = lower_names(alloc, db, names, bound)?;
+    let part = greatest_part(alloc, db, lower.as_slice())?;
+    Ok(part)
+}
+
 // The greatest part of the names below the bound, of which none passes alone: it's something only where a part of the rings
 // passes.
 fn lower_group(
@@ -106,7 +121,7 @@ fn lower_group(
 {
     let rings = waiting.rings.names.as_slice();
     if rings.len() == waiting.names.len() {
-        let all = greatest_part(alloc, db, before)?;
+        let all = part_below(alloc, db, before, bound)?;
         return Ok(all);
     }
     let lower = lower_names(alloc, db, rings, bound)?;
@@ -114,7 +129,7 @@ fn lower_group(
     if some.is_empty() {
         return Ok(some);
     }
-    let group = greatest_part(alloc, db, before)?;
+    let group = part_below(alloc, db, before, bound)?;
     Ok(group)
 }
 
