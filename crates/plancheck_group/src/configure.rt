@@ -1,14 +1,14 @@
 // What a group of packages needs to be configured together (Policy 7.2 and 7.3).
 
 ghost use Rattle.std.specs.Prelude.{◌≡◌, ◌≢◌, ◌↔◌, ◌++◌, IsTrue, true};
-ghost use Rattle.std.specs.List.{All, Any, Contains};
+ghost use Rattle.std.specs.List.{All, Any};
 ghost use Rattle.rules.specs.Configure.{AreConfigurable, HasConfigurable, AreDependsInstalled, ArePreDependsInstalled, AreUnbroken, IsConfigurable, IsUnbroken, is_present_among, members_of};
 ghost use Rattle.rules.specs.Database.{ForMembers, ForOthers, HasRecord, IsInstalled, installed_of, pkg_of};
 ghost use Rattle.rules.specs.Package.{Matches, MatchesSome, MeetsClause};
 ghost use Rattle.rules.specs.Sound.{MeetsClauses};
 ghost use Rattle.plancheck_group.specs.Part.{AreSupplied, DoesNotBreak};
 
-use crate::part::{Among, is_among};
+use crate::part::Among;
 use plancheck_end::{are_met, breaks_other, is_met, is_same};
 use relation::{Atom, Clause, Pkg};
 use rules::Name;
@@ -41,13 +41,6 @@ pub fn are_configurable(db: &Records<'_, '_>, names: &[Name]) -> bool
     names
         .iter()
         .all(|name| has_configurable(db, name.as_bytes()))
-}
-
-// Whether the names contain the record's.
-fn is_member(names: &[Name], found: &StateRecord<'_, '_>) -> bool
-    ensures { IsTrue result ↔ Contains names.now found.now.name }
-{
-    is_among(names, found)
 }
 
 // Whether the record is of another name, or its Pre-Depends are met by installed packages.
@@ -104,7 +97,7 @@ fn is_not_broken_by(
 {
     match other.present_pkg() {
         None => true,
-        Some(there) => is_same(other.name(), member.name()) || !breaks_other(there, here),
+        Some(there) => !breaks_other(there, here) || is_same(other.name(), member.name()),
     }
 }
 
@@ -128,21 +121,45 @@ fn is_unbroken(db: &Records<'_, '_>, member: &StateRecord<'_, '_>) -> bool
     }
 }
 
-fn is_other_or_unbroken(db: &Records<'_, '_>, names: &[Name], member: &StateRecord<'_, '_>) -> bool
-    ensures { IsTrue result ↔ (Contains names.now member.now.name → IsUnbroken db.now member.now) }
+// Whether the record is of another name, or no present package of another name breaks its package.
+fn is_other_or_unbroken(db: &Records<'_, '_>, name: &[u8], member: &StateRecord<'_, '_>) -> bool
+    ensures { IsTrue result ↔ (member.now.name ≡ name.now → IsUnbroken db.now member.now) }
 {
-    !is_member(names, member) || is_unbroken(db, member)
+    !is_same(member.name(), name) || is_unbroken(db, member)
+}
+
+fn are_others_or_unbroken(
+    db: &Records<'_, '_>,
+    mut members: Holders<'_, '_, '_>,
+    name: &[u8],
+) -> bool
+    ensures { IsTrue result ↔ All (λ member. member.name ≡ name.now → IsUnbroken db.now member) members.entry }
+{
+    members.all(|member| is_other_or_unbroken(db, name, member))
+}
+
+// Whether no present package of another name breaks the name's package.
+fn is_name_unbroken(db: &Records<'_, '_>, name: &[u8]) -> bool
+    ensures { IsTrue result ↔ All (λ member. member.name ≡ name.now → IsUnbroken db.now member) db.now }
+{
+    are_others_or_unbroken(db, db.holders(name), name)
+}
+
+fn are_each_unbroken(db: &Records<'_, '_>, names: &[Name]) -> bool
+    ensures { IsTrue result
+        ↔ All (λ name. All (λ member. member.name ≡ name → IsUnbroken db.now member) db.now) names.now }
+{
+    names
+        .iter()
+        .all(|name| is_name_unbroken(db, name.as_bytes()))
 }
 
 /// Whether no present package of another name breaks a member of the group. For each member linear in the
 /// records.
-#[tactic(auto, unfolding(rules::specs::Configure::AreUnbroken))]
 pub fn are_unbroken(db: &Records<'_, '_>, names: &[Name]) -> bool
     ensures { IsTrue result ↔ AreUnbroken db.now names.now }
 {
-    db.as_slice()
-        .iter()
-        .all(|member| is_other_or_unbroken(db, names, member))
+    are_each_unbroken(db, names)
 }
 
 // Whether the record is present, of one of the names, and matches the atom.
