@@ -1,3 +1,4 @@
+pub mod ApartLemmas
 pub mod EndLemmas
 pub mod SatisfiedLemmas
 pub mod QuietLemmas

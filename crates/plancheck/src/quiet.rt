@@ -33,7 +33,9 @@ fn no_holder_matches(db: &Records<'_, '_>, pkg: &Pkg<'_>, atom: &Atom<'_>) -> bo
     none_matches(pkg, atom, db.holders(atom.name()))
 }
 
-fn no_atom_matches(db: &Records<'_, '_>, pkg: &Pkg<'_>, atoms: &[Atom<'_>]) -> bool
+/// Whether no present package of another name than this matches one of the atoms. For each atom linear in the records that have or
+/// provide its name, and in what they provide.
+pub(crate) fn no_atom_matches(db: &Records<'_, '_>, pkg: &Pkg<'_>, atoms: &[Atom<'_>]) -> bool
     ensures { IsTrue result ↔ All (λ atom. All (λ other. IsPresent other → pkg.now.name ≢ other.name
         → ¬ Matches (pkg_of other) atom) db.now) atoms.now }
 {

@@ -214,6 +214,16 @@ fn is_other_or_expendable(db: &Records<'_, '_>, name: &[u8], removed: &StateReco
     }
 }
 
+fn are_others_or_expendable(
+    db: &Records<'_, '_>,
+    mut removed: Holders<'_, '_, '_>,
+    name: &[u8],
+) -> bool
+    ensures { IsTrue result ↔ All (λ removed. removed.name ≡ name.now → IsPresent removed → IsNeededByNone db.now removed) removed.entry }
+{
+    removed.all(|removed| is_other_or_expendable(db, name, removed))
+}
+
 /// Whether no installed package of another name needs the present package of this name. Linear in the records and
 /// the installed packages' clauses, for each that the package matches in the records that have or provide a name of
 /// it.
@@ -221,7 +231,5 @@ fn is_other_or_expendable(db: &Records<'_, '_>, name: &[u8], removed: &StateReco
 pub fn is_not_needed(db: &Records<'_, '_>, name: &[u8]) -> bool
     ensures { IsTrue result ↔ IsNotNeeded db.now name.now }
 {
-    db.as_slice()
-        .iter()
-        .all(|removed| is_other_or_expendable(db, name, removed))
+    are_others_or_expendable(db, db.holders(name), name)
 }

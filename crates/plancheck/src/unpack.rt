@@ -2,12 +2,14 @@
 
 ghost use Rattle.std.specs.Prelude.{◌≡◌, ◌≢◌, ◌↔◌, IsTrue};
 ghost use Rattle.std.specs.List.{All, Any};
-ghost use Rattle.rules.specs.Database.{ForOthers, IsInstalled, IsPresent, SomeOther, pkg_of};
-ghost use Rattle.rules.specs.Package.{BreaksOther, Matches};
-ghost use Rattle.rules.specs.Unpack.{BreaksNone, FitsFromBefore, FitsThenAndNow, HasNoConflict, HasPreDepends, IsCompatible, IsSatisfied, SatisfiesAtom};
+ghost use Rattle.rules.specs.Database.{IsInstalled, IsPresent, SomeOther, pkg_of};
+ghost use Rattle.rules.specs.Package.{ConflictsWith, Matches};
+ghost use Rattle.rules.specs.Unpack.{BreaksNone, FitsFromBefore, FitsThenAndNow, HasNoConflict, HasPreDepends, IsSatisfied, SatisfiesAtom};
+ghost use Rattle.plancheck.specs.Apart.{ArePeaceful, IsApart};
 
+use crate::quiet::no_atom_matches;
 use debversion::Version;
-use plancheck_end::{breaks_other, conflicts_with, is_same};
+use plancheck_end::{conflicts_with, is_same};
 use relation::{Atom, Clause, Pkg};
 use status::{Holders, Records, StateRecord};
 
@@ -97,55 +99,68 @@ pub fn has_pre_depends(db: &Records<'_, '_>, pkg: &Pkg<'_>) -> bool
         .all(|clause| is_satisfied(db, pkg.name(), clause))
 }
 
-// Whether neither of the two conflicts with the other.
-#[tactic(auto, unfolding(rules::specs::Unpack::IsCompatible))]
-fn is_compatible(pkg: &Pkg<'_>, other: &StateRecord<'_, '_>) -> bool
-    ensures { IsTrue result ↔ IsCompatible pkg.now other.now }
+// Whether the package of the record, if it is present and of another name, doesn't conflict with the package.
+fn is_own_or_peaceful(pkg: &Pkg<'_>, other: &StateRecord<'_, '_>) -> bool
+    ensures { IsTrue result
+        ↔ (other.now.name ≢ pkg.now.name → IsPresent other.now → ¬ ConflictsWith (pkg_of other.now) pkg.now) }
 {
     match other.present_pkg() {
         None => true,
-        Some(there) => !conflicts_with(pkg, there) && !conflicts_with(there, pkg),
+        Some(there) => !conflicts_with(there, pkg) || is_same(other.name(), pkg.name()),
     }
 }
 
-// Whether the record is of the package's own name or compatible with it.
-fn is_own_or_compatible(pkg: &Pkg<'_>, other: &StateRecord<'_, '_>) -> bool
-    ensures { IsTrue result ↔ (other.now.name ≢ pkg.now.name → IsCompatible pkg.now other.now) }
-{
-    is_same(other.name(), pkg.name()) || is_compatible(pkg, other)
-}
-
-/// Whether no present package of another name conflicts with the package, either way. Linear in the records,
-/// for each in both packages' Conflicts and Provides.
-#[tactic(auto, unfolding(rules::specs::Unpack::HasNoConflict))]
-pub fn has_no_conflict(db: &Records<'_, '_>, pkg: &Pkg<'_>) -> bool
-    ensures { IsTrue result ↔ HasNoConflict db.now pkg.now }
+// Whether no present package of another name conflicts with the package.
+fn are_others_peaceful(db: &Records<'_, '_>, pkg: &Pkg<'_>) -> bool
+    ensures { IsTrue result ↔ ArePeaceful db.now pkg.now }
 {
     db.as_slice()
         .iter()
-        .all(|other| is_own_or_compatible(pkg, other))
+        .all(|other| is_own_or_peaceful(pkg, other))
 }
 
-// Whether the record is of the package's own name, isn't installed, or isn't broken by it.
-fn is_own_or_unbroken(pkg: &Pkg<'_>, other: &StateRecord<'_, '_>) -> bool
-    ensures { IsTrue result
-        ↔ (other.now.name ≢ pkg.now.name → IsInstalled other.now → ¬ BreaksOther pkg.now (pkg_of other.now)) }
+/// Whether no present package of another name conflicts with the package, either way. For each of its Conflicts atoms
+/// linear in the records that have or provide its name; and linear in the records, for each in its Conflicts.
+pub fn has_no_conflict(db: &Records<'_, '_>, pkg: &Pkg<'_>) -> bool
+    ensures { IsTrue result ↔ HasNoConflict db.now pkg.now }
+{
+    no_atom_matches(db, pkg, pkg.conflicts()) && are_others_peaceful(db, pkg)
+}
+
+// Whether the record isn't installed, has the package's name, or doesn't match the atom.
+fn is_apart(pkg: &Pkg<'_>, atom: &Atom<'_>, other: &StateRecord<'_, '_>) -> bool
+    ensures { IsTrue result ↔ IsApart pkg.now other.now atom.now }
 {
     match other.present_pkg() {
         Some(there) if other.state().is_installed() => {
-            is_same(other.name(), pkg.name()) || !breaks_other(pkg, there)
+            is_same(other.name(), pkg.name()) || !atom.matched_by(there)
         }
         _ => true,
     }
 }
 
-/// Whether the package breaks no installed package of another name. Linear in the records, for each in the
-/// package's Breaks and the other's Provides.
-#[tactic(auto, unfolding(rules::specs::Unpack::BreaksNone))]
+fn are_apart(pkg: &Pkg<'_>, atom: &Atom<'_>, mut others: Holders<'_, '_, '_>) -> bool
+    ensures { IsTrue result ↔ All (λ other. IsApart pkg.now other atom.now) others.entry }
+{
+    others.all(|other| is_apart(pkg, atom, other))
+}
+
+fn is_atom_apart(db: &Records<'_, '_>, pkg: &Pkg<'_>, atom: &Atom<'_>) -> bool
+    ensures { IsTrue result ↔ All (λ other. IsApart pkg.now other atom.now) db.now }
+{
+    are_apart(pkg, atom, db.holders(atom.name()))
+}
+
+fn are_atoms_apart(db: &Records<'_, '_>, pkg: &Pkg<'_>, atoms: &[Atom<'_>]) -> bool
+    ensures { IsTrue result ↔ All (λ atom. All (λ other. IsApart pkg.now other atom) db.now) atoms.now }
+{
+    atoms.iter().all(|atom| is_atom_apart(db, pkg, atom))
+}
+
+/// Whether the package breaks no installed package of another name. For each of its Breaks atoms linear in the records that
+/// have or provide its name, and in what they provide.
 pub fn breaks_none(db: &Records<'_, '_>, pkg: &Pkg<'_>) -> bool
     ensures { IsTrue result ↔ BreaksNone db.now pkg.now }
 {
-    db.as_slice()
-        .iter()
-        .all(|other| is_own_or_unbroken(pkg, other))
+    are_atoms_apart(db, pkg, pkg.breaks())
 }

@@ -1,0 +1,17 @@
+-- What doesn't hold the atom's name doesn't match it.
+use Rattle.std.proofs.Common.{◌∙◌, true≢false, subst, sym}
+use Rattle.rules.specs.Database.{Record}
+use Rattle.status.specs.HolderLaws.{holders-all, matching-holds}
+use Rattle.status.specs.Holders.{AreHolders}
+use Rattle.plancheck.specs.Apart.{IsApart}
+use Rattle.plancheck.proofs.unpack.is_atom_apart.Goals as goal
+
+pub returns : goal.returns
+returns c =
+    let P : Record → Type 0 = λ other. IsApart c.args.pkg.now other c.args.atom.now in
+    let both = holders-all P c.args.atom.now.name c.args.db.now c.holders.result
+    (subst (λ name. AreHolders name c.args.db.now c.holders.result) c.name.ensures c.holders.ensures)
+    (λ other not_held is apart matches. true≢false (sym (matching-holds other c.args.atom.now matches) ∙ not_held)) in (
+      λ all. both.0 (c.are_apart.ensures.0 all),
+      λ all. c.are_apart.ensures.1 (both.1 all),
+    )
