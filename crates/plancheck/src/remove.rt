@@ -191,7 +191,7 @@ fn is_own_or_needs_not(
     requires { there.now ≡ pkg_of removed.now }
     ensures { IsTrue result ↔ (other.now.name ≢ removed.now.name → NeedsNot db.now removed.now other.now) }
 {
-    is_same(other.name(), removed.name()) || needs_not(db, removed, there, other)
+    needs_not(db, removed, there, other) || is_same(other.name(), removed.name())
 }
 
 // Whether no installed package of another name needs the package of the record.
