@@ -17,7 +17,7 @@ use status::Records;
 use std::alloc::{AllocError, Global};
 
 /// The names that wait to be configured, in their order and from the greatest down, and those of them that may ask for one
-/// another in turn. Names that were configured since may still be among them.
+/// another in turn. Names that were configured since may still be among the falling ones.
 #[derive(Drop)]
 pub(crate) struct Waiting<'a> {
     pub(crate) names: Vec<Name>,
@@ -117,6 +117,7 @@ impl<'a> Waiting<'a> {
         let down = falling(keys);
         Ok(Waiting { names, down, rings })
     }
+
     /// Leaves out the names of the group, which is configured: else each is asked again whether it passes. Linear in the
     /// names, for each in the group's.
     pub(crate) fn leave_out(&mut self, group: &[Name])
