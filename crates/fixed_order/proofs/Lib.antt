@@ -5,6 +5,8 @@ pub mod NamedLemmas
 pub mod RemovalLemmas
 pub mod PurgeLemmas
 pub mod WalkLemmas
+pub mod WaitingLemmas
+pub mod TurnLemmas
 pub mod FixedLemmas
 pub mod BeginningLemmas
 pub mod FoundLemmas

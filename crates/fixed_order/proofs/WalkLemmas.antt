@@ -1,16 +1,16 @@
 -- The walk to the least group: how far it has come, behind each name that is looked at.
-use Rattle.std.proofs.Common.{◌≡◌, ℕ, ◌-◌, ◌<◌, List, [], ◌∷◌, get_or, length, sym, subst, arith}
+use Rattle.std.proofs.Common.{◌≡◌, ℕ, ◌-◌, ◌<◌, List, [], ◌∷◌, get_or, length, refl, sym, subst, arith}
 use Rattle.std.specs.List.{AllPairs, Contains, ReversedBelow}
 use Rattle.std.specs.List.Sorted.{IsPermutation}
 use Rattle.std.specs.declared.cmp.Ordering.TheVariants.{Less}
 use Rattle.std.proofs.lemmas.List.Elements.{All-contains}
 use Rattle.std.proofs.lemmas.List.Sorted.{Contains-permutation}
-use Rattle.rules.specs.Configure.{IsGreatestPart, others_of}
+use Rattle.rules.specs.Configure.{IsGreatestPart, IsIndivisible, others_of}
 use Rattle.rules.specs.Database.{Record}
-use Rattle.rules.specs.ElementLaws.{All-intro, Contains-cons, Contains-head, Contains-nil, Contains-rest}
+use Rattle.rules.specs.ElementLaws.{All-intro, Any-intro, Contains-cons, Contains-head, Contains-nil, Contains-rest}
 use Rattle.rules.specs.Name.{IsAscending, name_cmp}
 use Rattle.rules.specs.Universe.{Universe}
-use Rattle.rules.proofs.GroupLemmas.{others_of-contains}
+use Rattle.rules.proofs.GroupLemmas.{GroupPasses-from_each, others_of-contains}
 use Rattle.rules.proofs.Rising.{pairs_head, pairs_tail}
 use Rattle.plain.specs.Order.{IsLeastGroup}
 use Rattle.plain.specs.Underway.{unconfigured_of}
@@ -19,6 +19,7 @@ use Rattle.plain.proofs.LeastGroupLemmas.{names_unconfigured, walk_ends, walk_ke
 use Rattle.plain.proofs.SortedLemmas.{not_below_itself}
 use Rattle.fixed_order.specs.Names.{AreAllWith}
 use Rattle.fixed_order.specs.Walked.{IsFalling, IsWalkedTo}
+use Rattle.fixed_order.proofs.BeginningLemmas.{some_from}
 use mathlib.Core.Logic.{inl, inr}
 
 -- what is behind the name in falling names is below it
@@ -141,4 +142,19 @@ pub falling_of : (names up down : List (List ℕ)) → AreAllWith (Contains name
 falling_of names up down are falling = record {
   falls = falling.falls;
   all = λ name within. falling.all name ((are.each name).1 within);
+}
+
+-- of a group no part of which passes nothing does without one of its names
+pub nothing_without : (db : List Record) (group : List (List ℕ)) (name : List ℕ) → Contains group name → IsIndivisible db group
+    → IsGreatestPart db (others_of name group) []
+unfolding IsIndivisible
+nothing_without db group name here indivisible = record {
+  within = All-intro (Contains (others_of name group)) [] (λ n there. absurd (Contains-nil n there));
+  passes = GroupPasses-from_each db [] (λ n there. absurd (Contains-nil n there));
+  greatest = λ other within passes. All-intro (Contains []) other (λ n there. absurd (indivisible other (record {
+    some = some_from other (λ empty. Contains-nil n (subst (λ (ns : List (List ℕ)). Contains ns n) empty there));
+    within = All-intro (Contains group) other (λ m inside. (others_of-contains name group m (All-contains (Contains (others_of name group)) other m within inside)).0);
+    proper = Any-intro (λ m. ¬ Contains other m) group name here (λ inside.
+        (others_of-contains name group name (All-contains (Contains (others_of name group)) other name within inside)).1 refl);
+  }) passes));
 }

@@ -4,3 +4,6 @@ pub mod Ground
 pub mod Removal
 pub mod Purge
 pub mod Walked
+pub mod Alone
+pub mod Turn
+pub mod Waiting

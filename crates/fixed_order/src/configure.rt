@@ -1,116 +1,165 @@
-// The third phase: the least group that may be configured is configured, until there is none. It is found from a group that
-// passes: names are looked at from the greatest down, and each is left out where some of the others still pass without it
-// (Policy 7.2 and 7.3).
+// The third phase: the least group that may be configured is configured, until there is none. It is the first name that passes
+// alone, unless names before it pass together; then it is found from a group that passes: names are looked at from the greatest
+// down, and each is left out where some of the others still pass without it (Policy 7.2 and 7.3).
 
-ghost use Rattle.std.specs.Prelude.{◌≡◌, ◌↔◌, ◌≤◌, ◌∷◌, [], length, ℕ, List, IfOk, IsTrue, MatchOption, OnOk};
-ghost use Rattle.std.specs.List.{Contains};
-ghost use Rattle.rules.specs.Configure.{others_of};
-ghost use Rattle.rules.specs.Name.{IsAscending};
+ghost use Rattle.std.specs.Prelude.{◌≡◌, ◌↔◌, ◌∷◌, [], ℕ, List, true, IfOk, IsTrue, MatchOption, OnOk};
+ghost use Rattle.std.specs.List.{All, Contains};
+ghost use Rattle.std.specs.Option.{option_copied};
+ghost use Rattle.rules.specs.Configure.{AreConfigurable, AreDependsInstalled, ArePreDependsInstalled, IsGreatestPart, IsIndivisible, others_of};
+ghost use Rattle.plancheck_group.specs.Part.{IsPartWith};
 ghost use Rattle.plain.specs.Change.{HasNothingToRemove};
 ghost use Rattle.plain.specs.Order.{AreConfigures, IsConfigurableGroup, IsLeastGroup, after_all};
 ghost use Rattle.plain.specs.Underway.{unconfigured_of};
 ghost use Rattle.plain.specs.Walk.{IsOnWalk};
 ghost use Rattle.fixed_order.specs.Ground.{IsGround, IsUnderwayOn, members_in};
-ghost use Rattle.fixed_order.specs.Names.{AreAllWith};
+ghost use Rattle.fixed_order.specs.Alone.{IsFirstWith, MayPass, NoneIsBroken, PassesAlone, is_below};
+ghost use Rattle.fixed_order.specs.Waiting.{IsWaitingIn};
 ghost use Rattle.fixed_order.specs.Walked.{IsBeginning, IsFalling, IsWalkedTo};
 
 use crate::ground::Ground;
-use crate::key::{Key, in_order};
+use crate::key::Key;
+use crate::waiting::Waiting;
 use plancheck::apply;
 use plancheck_end::is_same;
 use plancheck_group::{
-    are_configurable, are_depends_installed, are_pre_depends_installed, are_unbroken, greatest_part,
+    are_configurable, are_depends_installed, are_pre_depends_installed, greatest_part,
+    is_indivisible,
 };
 use rules::{Name, Names, Step};
 use status::Records;
 use std::alloc::{AllocError, Global};
 use std::slice::from_ref;
 
-// The names of what isn't configured, in the order of the records.
-fn waiting<'p, 'a>(
-    ground: &Ground<'_, '_, 'p, 'a>,
-    db: &Records<'p, 'a>,
-) -> Result<Vec<Key<'a>>, AllocError>
-    requires ground { IsGround ground.now }
-    requires underway { IsUnderwayOn ground.now db.now }
-    ensures { IfOk result (λ keys. keys.items ≡ unconfigured_of db.now) }
+// Whether the names of a group may be configured and what they ask for is installed, or theirs.
+fn have_what_they_ask(db: &Records<'_, '_>, group: &[Name]) -> bool
+    ensures { IsTrue result ↔ (AreConfigurable db.now group.now × AreDependsInstalled db.now group.now
+        × ArePreDependsInstalled db.now group.now) }
 {
-    let mut keys = Vec::new(ground.alloc);
-    for found in db.as_slice() {
-        if found.state().is_unconfigured() {
-            keys.push(Key::new(found.name()))?;
+    are_configurable(db, group)
+        && are_depends_installed(db, group)
+        && are_pre_depends_installed(db, group)
+}
+
+// Whether the name passes alone. In a plain change nothing breaks it, so that isn't asked.
+fn passes_alone(db: &Records<'_, '_>, name: &Name) -> bool
+    requires { NoneIsBroken db.now }
+    ensures { IsTrue result ↔ PassesAlone db.now name.now }
+{
+    have_what_they_ask(db, from_ref(name))
+}
+
+// The place of the first name that passes alone, or the end.
+fn first_alone(db: &Records<'_, '_>, names: &[Name]) -> usize
+    requires { NoneIsBroken db.now }
+    ensures { IsFirstWith (PassesAlone db.now) names.now result }
+{
+    for place in 0..names.len() {
+        if passes_alone(db, &names[place]) {
+            return place;
         }
     }
-    Ok(keys)
+    names.len()
 }
 
-// The names of what isn't configured, in their order.
-fn unconfigured<'p, 'a>(
-    ground: &Ground<'_, '_, 'p, 'a>,
-    db: &Records<'p, 'a>,
-) -> Result<Vec<Key<'a>>, AllocError>
-    requires ground { IsGround ground.now }
-    requires underway { IsUnderwayOn ground.now db.now }
-    ensures { IfOk result (λ keys. AreAllWith (Contains (unconfigured_of db.now)) keys.items) }
+// Whether the name is below the bound, if there is one.
+fn is_below(name: &Name, bound: Option<&Name>) -> bool
+    ensures { result ≡ is_below (option_copied bound.entry) name.now }
 {
-    let keys = waiting(ground, db)?;
-    let ordered = in_order(keys)?;
-    Ok(ordered)
+    match bound {
+        Some(bound) => name.as_bytes().cmp(bound.as_bytes()).is_lt(),
+        None => true,
+    }
 }
 
-// The names, owned.
-fn names_of(alloc: Global, keys: &[Key<'_>]) -> Result<Vec<Name>, AllocError>
-    ensures { IfOk result (λ names. names.items ≡ keys.now) }
+// Whether the name is below the bound, if there is one, and its record may be configured.
+#[tactic(auto, unfolding(crate::specs::Alone::MayPass))]
+fn may_pass(db: &Records<'_, '_>, name: &Name, bound: Option<&Name>) -> bool
+    ensures { IsTrue result ↔ MayPass db.now (option_copied bound.entry) name.now }
+{
+    is_below(name, bound) && are_configurable(db, from_ref(name))
+}
+
+// Those of the names, copied.
+fn lower_names(
+    alloc: Global,
+    db: &Records<'_, '_>,
+    names: &[Name],
+    bound: Option<&Name>,
+) -> Result<Vec<Name>, AllocError>
+    ensures { IfOk result (λ lower. IsPartWith (MayPass db.now (option_copied bound.entry)) names.now lower.items) }
+{
+    let mut lower = Vec::new(alloc);
+    for name in names {
+        if may_pass(db, name, bound) {
+            lower.push(name.try_copy(alloc)?)?;
+        }
+    }
+    Ok(lower)
+}
+
+// The greatest part of the names below the bound, of which none passes alone: it's something only where a part of the rings
+// passes.
+fn lower_group(
+    alloc: Global,
+    db: &Records<'_, '_>,
+    waiting: &Waiting<'_>,
+    before: &[Name],
+    bound: Option<&Name>,
+) -> Result<Vec<Name>, AllocError>
+    requires waiting { IsWaitingIn db.now waiting.now }
+    requires alone { All (λ name. ¬ PassesAlone db.now name) before.now }
+    requires below { All (λ name. is_below (option_copied bound) name ≡ true) before.now }
+    ensures { IfOk result (λ group. IsGreatestPart db.now before.now group.items) }
+{
+    let rings = waiting.rings.names.as_slice();
+    if rings.len() == waiting.names.len() {
+        let all = greatest_part(alloc, db, before)?;
+        return Ok(all);
+    }
+    let lower = lower_names(alloc, db, rings, bound)?;
+    let some = greatest_part(alloc, db, lower.as_slice())?;
+    if some.is_empty() {
+        return Ok(some);
+    }
+    let group = greatest_part(alloc, db, before)?;
+    Ok(group)
+}
+
+// The name alone.
+fn alone(alloc: Global, name: &Name) -> Result<Vec<Name>, AllocError>
+    ensures { IfOk result (λ names. names.items ≡ name.now ∷ []) }
 {
     let mut names = Vec::new(alloc);
-    for key in keys {
-        names.push(key.try_name(alloc)?)?;
-    }
+    names.push(name.try_copy(alloc)?)?;
     Ok(names)
 }
 
-// The names from the greatest down.
-fn falling(keys: Vec<Key<'_>>) -> Vec<Key<'_>>
-    requires { IsAscending keys.items }
-    ensures { IsFalling keys.entry.items result.items }
-{
-    let mut down = keys;
-    down.reverse();
-    down
-}
-
-// Whether the name passes alone: it decides where the walk begins, and nothing of where it ends.
-fn passes_alone(db: &Records<'_, '_>, name: &Name) -> bool {
-    let alone = from_ref(name);
-    are_configurable(db, alone)
-        && are_depends_installed(db, alone)
-        && are_pre_depends_installed(db, alone)
-        && are_unbroken(db, alone)
-}
-
-// How many names there are up to the first that passes alone, or to the end.
-fn front_len(db: &Records<'_, '_>, names: &[Name]) -> usize
-    ensures { result ≤ length names.now }
-{
-    match names.iter().position(|name| passes_alone(db, name)) {
-        Some(place) => place + 1,
-        None => names.len(),
-    }
-}
-
-// A group from which the walk can begin: the greatest part of the names up to the first that passes alone, if it is something,
-// or else of all. It is nothing where no group may be configured.
-fn first_group(alloc: Global, db: &Records<'_, '_>, names: &[Name]) -> Result<Vec<Name>, AllocError>
-    requires { AreAllWith (Contains (unconfigured_of db.now)) names.now }
+// A group from which the walk can begin: what passes of the names before the first that passes alone, if it is something, or
+// else that one. It is nothing where no group may be configured.
+fn first_group(
+    alloc: Global,
+    db: &Records<'_, '_>,
+    waiting: &Waiting<'_>,
+) -> Result<Vec<Name>, AllocError>
+    requires waiting { IsWaitingIn db.now waiting.now }
+    requires unbroken { NoneIsBroken db.now }
     ensures { IfOk result (λ group. IsBeginning db.now group.items) }
 {
-    let (front, _) = names.split_at(front_len(db, names));
-    let group = greatest_part(alloc, db, front)?;
-    if group.is_empty() {
-        let whole = greatest_part(alloc, db, names)?;
-        return Ok(whole);
+    let names = waiting.names.as_slice();
+    let place = first_alone(db, names);
+    let (before, rest) = names.split_at(place);
+    let bound = rest.first();
+    let group = lower_group(alloc, db, waiting, before, bound)?;
+    if !group.is_empty() {
+        return Ok(group);
     }
-    Ok(group)
+    match bound {
+        Some(name) => {
+            let one = alone(alloc, name)?;
+            Ok(one)
+        }
+        None => Ok(group),
+    }
 }
 
 // Whether the name is one of these.
@@ -140,19 +189,42 @@ struct Walk {
     group: Vec<Name>,
 }
 
-// Keeps the name, or leaves it out where some of the others pass without it.
+// The greatest part of the group's names but for this one. It is nothing where no part of the group passes.
+fn part_without(
+    alloc: Global,
+    db: &Records<'_, '_>,
+    whole: bool,
+    group: &[Name],
+    key: &Key<'_>,
+) -> Result<Vec<Name>, AllocError>
+    requires within { Contains group.now key.now }
+    requires whole { whole ≡ true → IsIndivisible db.now group.now }
+    ensures part { IfOk result (λ part. IsGreatestPart db.now (others_of key.now group.now) part.items) }
+    ensures none { IfOk result (λ part. whole ≡ true → part.items ≡ []) }
+{
+    if whole {
+        return Ok(Vec::new(alloc));
+    }
+    let others = others_of(alloc, group, key.name())?;
+    let part = greatest_part(alloc, db, others.as_slice())?;
+    Ok(part)
+}
+
+// Keeps the name, or leaves it out where some of the others pass without it; none do where no part of the group passes.
 fn look_at(
     alloc: Global,
     db: &Records<'_, '_>,
     walk: &mut Walk,
+    whole: bool,
     key: &Key<'_>,
 ) -> Result<(), AllocError>
-    requires { Contains walk.old.group.items key.now }
-    ensures { OnOk result ((left : List (List ℕ)) → IsWalkedTo db.now (key.now ∷ left) walk.old.kept.items walk.old.group.items
+    requires within { Contains walk.old.group.items key.now }
+    requires whole { whole ≡ true → IsIndivisible db.now walk.old.group.items }
+    ensures walked { OnOk result ((left : List (List ℕ)) → IsWalkedTo db.now (key.now ∷ left) walk.old.kept.items walk.old.group.items
         → IsWalkedTo db.now left walk.new.kept.items walk.new.group.items) }
+    ensures whole { OnOk result (whole ≡ true → IsIndivisible db.now walk.new.group.items) }
 {
-    let others = others_of(alloc, walk.group.as_slice(), key.name())?;
-    let part = greatest_part(alloc, db, others.as_slice())?;
+    let part = part_without(alloc, db, whole, walk.group.as_slice(), key)?;
     if part.is_empty() {
         walk.kept.insert(0, key.try_name(alloc)?)?;
         return Ok(());
@@ -166,26 +238,32 @@ fn walk_on(
     alloc: Global,
     db: &Records<'_, '_>,
     walk: &mut Walk,
+    whole: bool,
     key: &Key<'_>,
 ) -> Result<(), AllocError>
-    ensures { OnOk result ((left : List (List ℕ)) → IsWalkedTo db.now (key.now ∷ left) walk.old.kept.items walk.old.group.items
+    requires { whole ≡ true → IsIndivisible db.now walk.old.group.items }
+    ensures walked { OnOk result ((left : List (List ℕ)) → IsWalkedTo db.now (key.now ∷ left) walk.old.kept.items walk.old.group.items
         → IsWalkedTo db.now left walk.new.kept.items walk.new.group.items) }
+    ensures whole { OnOk result (whole ≡ true → IsIndivisible db.now walk.new.group.items) }
 {
     if !has(walk.group.as_slice(), key.name()) {
         return Ok(());
     }
-    look_at(alloc, db, walk, key)
+    look_at(alloc, db, walk, whole, key)
 }
 
-// The least group that is among the parts of this one, which passes; the names are looked at from the greatest down.
+// The least group that is among the parts of this one, which passes; the names are looked at from the greatest down. Where no
+// part passes, which is asked once, none is asked for.
 fn walked(
     ground: &Ground<'_, '_, '_, '_>,
     db: &Records<'_, '_>,
     down: &[Key<'_>],
+    whole: bool,
     group: Vec<Name>,
 ) -> Result<Names, AllocError>
     requires falls { IsFalling (unconfigured_of db.now) down.now }
     requires walk { IsOnWalk db.now [] group.items }
+    requires whole { whole ≡ true → IsIndivisible db.now group.items }
     ensures { IfOk result (IsLeastGroup ground.now.universe.now db.now) }
 {
     let mut walk = Walk {
@@ -193,35 +271,76 @@ fn walked(
         group,
     };
     for key in down {
-        walk_on(ground.alloc, db, &mut walk, key)?;
+        walk_on(ground.alloc, db, &mut walk, whole, key)?;
     }
     Ok(Names::new(walk.kept))
+}
+
+// Whether no part of the group passes, as far as that is asked: a group with more names than a ring has such a part, or isn't
+// worth the test.
+fn is_whole(
+    alloc: Global,
+    db: &Records<'_, '_>,
+    most: usize,
+    group: &[Name],
+) -> Result<bool, AllocError>
+    ensures { IfOk result (λ whole. whole ≡ true → IsIndivisible db.now group.now) }
+{
+    if group.len() > most {
+        return Ok(false);
+    }
+    let whole = is_indivisible(alloc, db, group)?;
+    Ok(whole)
 }
 
 // The least group that may be configured, if there is one.
 fn least_group<'p, 'a>(
     ground: &Ground<'_, '_, 'p, 'a>,
     db: &Records<'p, 'a>,
+    waiting: &Waiting<'a>,
 ) -> Result<Option<Names>, AllocError>
-    requires ground { IsGround ground.now }
-    requires underway { IsUnderwayOn ground.now db.now }
+    requires waiting { IsWaitingIn db.now waiting.now }
+    requires unbroken { NoneIsBroken db.now }
     ensures { IfOk result (λ group. MatchOption group
         ((names : List (List ℕ)) → ¬ IsConfigurableGroup ground.now.universe.now db.now names)
         (IsLeastGroup ground.now.universe.now db.now)) }
 {
-    let keys = unconfigured(ground, db)?;
-    let names = names_of(ground.alloc, keys.as_slice())?;
-    let group = first_group(ground.alloc, db, names.as_slice())?;
+    let group = first_group(ground.alloc, db, waiting)?;
     if group.is_empty() {
         return Ok(None);
     }
-    let down = falling(keys);
-    let least = walked(ground, db, down.as_slice(), group)?;
+    let whole = is_whole(ground.alloc, db, waiting.rings.most, group.as_slice())?;
+    let least = walked(ground, db, waiting.down.as_slice(), whole, group)?;
     Ok(Some(least))
 }
 
-/// Takes the configures, and answers them. For each, names are tested alone up to the first that passes; then it costs what
-/// `plancheck_group::greatest_part` does of these names, and again of those that are left for each name of the walk. Memory
+// Takes the configures, and answers them.
+fn configures_of<'p, 'a>(
+    ground: &Ground<'_, '_, 'p, 'a>,
+    db: &mut Records<'p, 'a>,
+    waiting: Waiting<'a>,
+) -> Result<Vec<Step>, AllocError>
+    requires ground { IsGround ground.now }
+    requires waiting { IsWaitingIn db.old waiting }
+    requires underway { IsUnderwayOn ground.now db.old }
+    requires nothing { HasNothingToRemove (members_in ground.now) db.old }
+    ensures configures { IfOk result (λ steps. AreConfigures ground.now.universe.now db.old steps.items) }
+    ensures after { IfOk result (λ steps. db.new ≡ after_all ground.now.universe.now db.old steps.items) }
+{
+    let mut waiting = waiting;
+    let mut steps = Vec::new(ground.alloc);
+    while let Some(names) = least_group(ground, db, &waiting)? {
+        waiting.leave_out(names.as_slice());
+        let step = Step::Configure(names);
+        apply(db, ground.universe, None, &step)?;
+        steps.push(step)?;
+    }
+    Ok(steps)
+}
+
+/// Takes the configures, and answers them. For each, names are tested alone up to the first that passes, and where names may ask
+/// for one another in turn it costs what `plancheck_group::greatest_part` does of those of them that come before that one; only
+/// where some of these pass a walk is made, which costs as much again for each name of a group that is no least one. Memory
 /// alone can fail.
 pub(crate) fn configures<'p, 'a>(
     ground: &Ground<'_, '_, 'p, 'a>,
@@ -233,11 +352,7 @@ pub(crate) fn configures<'p, 'a>(
     ensures configures { IfOk result (λ steps. AreConfigures ground.now.universe.now db.old steps.items) }
     ensures after { IfOk result (λ steps. db.new ≡ after_all ground.now.universe.now db.old steps.items) }
 {
-    let mut steps = Vec::new(ground.alloc);
-    while let Some(names) = least_group(ground, db)? {
-        let step = Step::Configure(names);
-        apply(db, ground.universe, None, &step)?;
-        steps.push(step)?;
-    }
+    let waiting = Waiting::read(ground, db)?;
+    let steps = configures_of(ground, db, waiting)?;
     Ok(steps)
 }

@@ -10,10 +10,14 @@ mod key;
 mod members;
 mod named;
 mod purge;
+mod ranks;
 mod removal;
+mod rings;
 mod selection;
 mod state;
+mod turn;
 mod unpack;
+mod waiting;
 
 pub use fixed::fixed_order;
 pub use named::{has_names, has_pair_names};

@@ -4,8 +4,12 @@ use Rattle.std.specs.List.{Contains}
 use Rattle.fixed_order.proofs.WalkLemmas.{walk_passes}
 use Rattle.fixed_order.proofs.configure.walk_on.Goals as goal
 
-pub returns-then-not-has : goal.returns-then-not-has
-returns-then-not-has c = λ left walked. walk_passes c.args.db.now c.args.key.now left c.args.walk.now.kept.items c.args.walk.now.group.items walked
+pub returns-then-not-has-clause-walked : goal.returns-then-not-has-clause-walked
+returns-then-not-has-clause-walked c = λ left walked. walk_passes c.args.db.now c.args.key.now left c.args.walk.now.kept.items c.args.walk.now.group.items walked
     (λ within. absurd (let e : true ≡ false = sym (c.has.ensures.1
     (subst (λ (names : List (List ℕ)). Contains names c.name.result.now) (sym c.as_slice.ensures.value)
     (subst (Contains c.args.walk.now.group.items) (sym c.name.ensures) within))) ∙ c.if-not-has.true in cc))
+
+pub look_at-requires-clause-within : goal.look_at-requires-clause-within
+look_at-requires-clause-within c = subst (Contains c.args.walk.now.group.items) c.name.ensures
+    (subst (λ (names : List (List ℕ)). Contains names c.name.result.now) c.as_slice.ensures.value (c.has.ensures.0 c.if-not-has.false))

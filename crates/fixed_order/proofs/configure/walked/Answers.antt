@@ -22,21 +22,27 @@ none_left db down kept group place past walked = subst (λ (left : List (List �
     (drop_of_length-le down past) walked
 
 pub loop-key-preserved : goal.loop-key-preserved
-loop-key-preserved c = c.in_ok-walk_on.ensures (drop (c.loop-key.key-index + 1) c.args.down.now)
-    (next_left c.args.db.now c.args.down.now c.loop-key.walk.kept.items c.loop-key.walk.group.items c.loop-key.key-index c.key-item.result
-    c.loop-key-test.true c.key-item.is c.loop-key.invariant)
+loop-key-preserved c = record {
+  walked = c.in_ok-walk_on.ensures.walked (drop (c.loop-key.key-index + 1) c.args.down.now)
+      (next_left c.args.db.now c.args.down.now c.loop-key.walk.kept.items c.loop-key.walk.group.items c.loop-key.key-index c.key-item.result
+      c.loop-key-test.true c.key-item.is c.loop-key.invariant.walked);
+  whole = c.in_ok-walk_on.ensures.whole;
+}
 
 pub loop-key-init : goal.loop-key-init
-loop-key-init c = subst (λ (kept : List (List ℕ)). IsWalkedTo c.args.db.now c.args.down.now kept c.args.group.items) (sym c.new.ensures.items)
-    (walk_starts c.args.db.now c.args.down.now c.args.group.items c.requires.falls c.requires.walk)
+loop-key-init c = record {
+  walked = subst (λ (kept : List (List ℕ)). IsWalkedTo c.args.db.now c.args.down.now kept c.args.group.items) (sym c.new.ensures.items)
+      (walk_starts c.args.db.now c.args.down.now c.args.group.items c.requires.falls c.requires.walk);
+  whole = c.requires.whole;
+}
 
 pub new-requires-2-clause-some : goal.new-requires-2-clause-some
 new-requires-2-clause-some c = least_some c.args.ground.now.universe.now c.args.db.now c.loop-key.walk.kept.items c.loop-key.walk.group.items
     (none_left c.args.db.now c.args.down.now c.loop-key.walk.kept.items c.loop-key.walk.group.items c.loop-key.key-index
-    c.loop-key-test.false c.loop-key.invariant)
+    c.loop-key-test.false c.loop-key.invariant.walked)
 
 pub returns : goal.returns
 returns c = subst (λ (names : List (List ℕ)). IsLeastGroup c.args.ground.now.universe.now c.args.db.now names) (sym c.new-2.ensures)
     (walk_is_over c.args.ground.now.universe.now c.args.db.now c.loop-key.walk.kept.items c.loop-key.walk.group.items
     (none_left c.args.db.now c.args.down.now c.loop-key.walk.kept.items c.loop-key.walk.group.items c.loop-key.key-index
-    c.loop-key-test.false c.loop-key.invariant))
+    c.loop-key-test.false c.loop-key.invariant.walked))

@@ -4,10 +4,12 @@ use Rattle.plain.specs.Change.{HasNothingToRemove}
 use Rattle.plain.specs.Order.{AreNextSteps, IsNextConfigure}
 use Rattle.plain.specs.Underway.{unconfigured_of}
 use Rattle.fixed_order.specs.Ground.{IsUnderwayOn, members_in}
-use Rattle.fixed_order.proofs.configure.configures.Given as goal
+use Rattle.fixed_order.specs.Waiting.{IsWaitingIn}
+use Rattle.fixed_order.proofs.configure.configures_of.Given as goal
 
 abbrev pub invariant-loop-steps : goal.invariant-loop-steps
 invariant-loop-steps l = record {
+  waiting : IsWaitingIn l.db l.waiting;
   underway : IsUnderwayOn l.ground l.db;
   nothing : HasNothingToRemove (members_in l.ground) l.db;
   so_far : AreNextSteps (IsNextConfigure l.ground.universe.now) l.ground.universe.now l.initial.db l.steps.items l.db;

@@ -3,7 +3,7 @@ use Rattle.std.proofs.Common.{sym, ap, ◌∙◌}
 use Rattle.rules.specs.State.{is_unconfigured_state}
 use Rattle.plain.proofs.ConfigureLemmas.{unconfigured_present}
 use Rattle.fixed_order.proofs.NamedLemmas.{record_named}
-use Rattle.fixed_order.proofs.configure.waiting.Goals as goal
+use Rattle.fixed_order.proofs.waiting.keys_of.Goals as goal
 
 pub new-requires : goal.new-requires
 new-requires c = record_named c.args.ground.now c.args.db.now c.as_slice-found-items.result.now c.loop-found.found-index

@@ -1,0 +1,18 @@
+-- What doesn't hold the name hasn't it.
+use Rattle.std.proofs.Common.{◌≡◌, ◌∙◌, true≢false, sym}
+use Rattle.std.specs.List.{All}
+use Rattle.rules.specs.Database.{Record}
+use Rattle.status.specs.HolderLaws.{holders-all, named-holds}
+use Rattle.fixed_order.specs.Turn.{AsksBefore, AsksBeforeBy, rank_in}
+use Rattle.fixed_order.proofs.turn.asks_before.Goals as goal
+
+pub returns : goal.returns
+unfolding AsksBefore
+returns c =
+    let P : Record → Type 0 = λ member. member.name ≡ c.args.name.now
+    → All (AsksBeforeBy (rank_in c.args.ranks.now) c.args.db.now c.args.name.now) member.relations.depends in
+    let both = holders-all P c.args.name.now c.args.db.now c.holders.result c.holders.ensures
+    (λ member not_held named. absurd (true≢false (sym (named-holds c.args.name.now member named) ∙ not_held))) in (
+      λ all. both.0 (c.are_others_or_ask_before.ensures.0 all),
+      λ all. c.are_others_or_ask_before.ensures.1 (both.1 all),
+    )
