@@ -1,12 +1,15 @@
--- What waits to be configured, behind a configure: names are among those that waited, and each asks for names before it as it did.
-use Rattle.std.proofs.Common.{◌≡◌, ℕ, Bool, true, false, List, refl, subst}
+-- What waits to be configured, behind a configure: what waited but for the group, and each name asks for names before it as it did.
+use Rattle.std.proofs.Common.{◌≡◌, ℕ, Bool, true, false, List, bytes_eq, refl, subst, sym}
 use Rattle.std.specs.List.{All, Contains, filter}
+use Rattle.std.specs.declared.cmp.Ordering.TheVariants.{Less}
 use Rattle.std.proofs.lemmas.List.Elements.{All-contains, All-weaker}
+use Rattle.std.proofs.lemmas.List.Kept.{AllPairs-filter}
 use Rattle.rules.specs.Configure.{IsConfigurable}
 use Rattle.rules.specs.Database.{Record, IsInstalled, IsPresent, installed_of, pkg_of}
-use Rattle.rules.specs.ElementLaws.{All-intro, Contains-filter, Contains-map}
+use Rattle.rules.specs.ElementLaws.{All-intro, Any-elim, Any-from_list_any, Contains-filter, Contains-filter_intro, Contains-map}
 use Rattle.rules.specs.Legal.{Allowed}
-use Rattle.rules.specs.NamedLaws.{contains-is_among}
+use Rattle.rules.specs.Name.{name_cmp}
+use Rattle.rules.specs.NamedLaws.{bytes_eq-true, contains-is_among}
 use Rattle.rules.specs.Package.{Pkg, Atom}
 use Rattle.rules.specs.Run.{after}
 use Rattle.rules.specs.State.{is_installed_state}
@@ -21,7 +24,8 @@ use Rattle.plain.proofs.ConfigureLemmas.{configure_leaves, group_record, unconfi
 use Rattle.plain.specs.Underway.{IsUnderway, unconfigured_of}
 use Rattle.fixed_order.specs.Turn.{AsksBefore, AsksBeforeBy, ComesBeforeBy}
 use Rattle.fixed_order.specs.Names.{AreAllWith}
-use Rattle.fixed_order.specs.Waiting.{AscendWith, IsWaitingIn}
+use Rattle.fixed_order.specs.Waiting.{AscendWith, IsWaitingIn, is_away, is_in}
+use Rattle.fixed_order.specs.Walked.{IsFalling}
 use Rattle.fixed_order.specs.declared.waiting.Waiting.{Waiting}
 use mathlib.Core.Logic.{inl, inr}
 
@@ -81,31 +85,48 @@ module _ (rank : List ℕ → ℕ) (group : List (List ℕ)) (db : List Record)
       more : (clauses : List (List Atom)) → All (AsksBeforeBy rank db name) clauses → All (AsksBeforeBy rank behind name) clauses
       more clauses all = All-weaker (AsksBeforeBy rank db name) (AsksBeforeBy rank behind name) (clause_kept name) clauses all
 
--- behind a configure that is allowed the same waits
-pub waiting_kept : (u : Universe) (start : List Record) (members : List Pkg) (db : List Record) (group : List (List ℕ)) (waiting : Waiting)
-    → IsUnderway u start members db → Allowed u db (Configure group) → IsWaitingIn db waiting
-    → IsWaitingIn (after u db (Configure group)) waiting
-waiting_kept u start members db group waiting underway allowed was = record {
-  names = record {
-    ascending = was.names.ascending;
-    all = λ name within. was.names.all name (waited name within);
-  };
-  down = record {
+-- a name that isn't among the group's is away
+away : (group : List (List ℕ)) (name : List ℕ) → ¬ Contains group name → is_away group name ≡ true
+away group name apart = at (is_in group name) refl
+  where
+    at : (b : Bool) → is_in group name ≡ b → is_away group name ≡ true
+    at true e = absurd (Any-elim (λ other. bytes_eq name other ≡ true) group ⊥
+        (λ other within same. apart (subst (Contains group) (sym (bytes_eq-true name other same)) within))
+        (Any-from_list_any (λ other. bytes_eq name other) group e))
+    at false e = rw e refl
+
+-- behind a configure that is allowed what waited waits, but for the names of its group
+pub waiting_left : (u : Universe) (start : List Record) (members : List Pkg) (db : List Record) (group : List (List ℕ))
+    (waiting left : Waiting) → IsUnderway u start members db → Allowed u db (Configure group) → IsWaitingIn db waiting
+    → left.names.items ≡ filter (is_away group) waiting.names.items → left.down.items ≡ waiting.down.items
+    → left.rings.names.items ≡ filter (is_away group) waiting.rings.names.items → IsWaitingIn (after u db (Configure group)) left
+waiting_left u start members db group waiting left underway allowed was names_are down_is rings_are = record {
+  names = subst (AscendWith (unconfigured_of (after u db (Configure group)))) (sym names_are) (record {
+    ascending = AllPairs-filter (λ earlier later. name_cmp earlier later ≡ Less) (is_away group) waiting.names.items was.names.ascending;
+    all = λ name within. Contains-filter_intro (is_away group) waiting.names.items name (was.names.all name (waited name within).0)
+        (away group name (waited name within).1);
+  });
+  down = subst (IsFalling (unconfigured_of (after u db (Configure group)))) (sym down_is) (record {
     falls = was.down.falls;
-    all = λ name within. was.down.all name (waited name within);
-  };
+    all = λ name within. was.down.all name (waited name within).0;
+  });
   rings = record {
     rank = was.rings.rank;
-    asks = All-weaker (AsksBefore was.rings.rank db) (AsksBefore was.rings.rank (after u db (Configure group)))
-        (asks_kept was.rings.rank group db (λ old there among.
-        unconfigured_present old.state (may old there among).0))
-        waiting.names.items was.rings.asks;
-    ringed = was.rings.ringed;
+    asks = All-intro (AsksBefore was.rings.rank (after u db (Configure group))) left.names.items (λ name within.
+        asks_kept was.rings.rank group db (λ old there among. unconfigured_present old.state (may old there among).0) name
+        (All-contains (AsksBefore was.rings.rank db) waiting.names.items name was.rings.asks (left_of name within).0));
+    ringed = λ name within ring. subst (λ (names : List (List ℕ)). Contains names name) (sym rings_are)
+        (Contains-filter_intro (is_away group) waiting.rings.names.items name (was.rings.ringed name (left_of name within).0 ring)
+        (left_of name within).1);
   };
 }
   where
-    waited : (name : List ℕ) → Contains (unconfigured_of (after u db (Configure group))) name → Contains (unconfigured_of db) name
-    waited name within = (((configure_leaves u db group underway.distinct allowed).0 name).0 within).0
+    waited : (name : List ℕ) → Contains (unconfigured_of (after u db (Configure group))) name → Contains (unconfigured_of db) name × ¬ Contains group name
+    waited name within = ((configure_leaves u db group underway.distinct allowed).0 name).0 within
+
+    left_of : (name : List ℕ) → Contains left.names.items name → Contains waiting.names.items name × (is_away group name ≡ true)
+    left_of name within = Contains-filter (is_away group) waiting.names.items name
+        (subst (λ (names : List (List ℕ)). Contains names name) names_are within)
 
     may : (old : Record) → Contains db old → is_among group old ≡ true → IsConfigurable old
     may old there among = the_record IsConfigurable db underway.distinct old there

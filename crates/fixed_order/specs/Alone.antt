@@ -20,6 +20,10 @@ is_below bound name = option_map_or (λ other. is_lt (name_cmp name other)) boun
 unfoldable pub MayPass : List Record → Option (List ℕ) → List ℕ → Type 0
 MayPass db bound name = (is_below bound name ≡ true) × AreConfigurable db (name ∷ [])
 
+-- no present package breaks another
+abbrev pub NoneIsBroken : List Record → Type 0
+NoneIsBroken db = (names : List (List ℕ)) → AreUnbroken db names
+
 -- the place is that of the first name with the property, or the end
 pub record IsFirstWith (P : List ℕ → Type 0) (names : List (List ℕ)) (place : ℕ) : Type 0 where
   pub within : place ≤ length names

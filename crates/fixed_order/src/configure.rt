@@ -5,14 +5,14 @@
 ghost use Rattle.std.specs.Prelude.{◌≡◌, ◌↔◌, ◌∷◌, [], ℕ, List, true, IfOk, IsTrue, MatchOption, OnOk};
 ghost use Rattle.std.specs.List.{All, Contains};
 ghost use Rattle.std.specs.Option.{option_copied};
-ghost use Rattle.rules.specs.Configure.{IsGreatestPart, IsIndivisible, others_of};
+ghost use Rattle.rules.specs.Configure.{AreConfigurable, AreDependsInstalled, ArePreDependsInstalled, IsGreatestPart, IsIndivisible, others_of};
 ghost use Rattle.plancheck_group.specs.Part.{IsPartWith};
 ghost use Rattle.plain.specs.Change.{HasNothingToRemove};
 ghost use Rattle.plain.specs.Order.{AreConfigures, IsConfigurableGroup, IsLeastGroup, after_all};
 ghost use Rattle.plain.specs.Underway.{unconfigured_of};
 ghost use Rattle.plain.specs.Walk.{IsOnWalk};
 ghost use Rattle.fixed_order.specs.Ground.{IsGround, IsUnderwayOn, members_in};
-ghost use Rattle.fixed_order.specs.Alone.{IsFirstWith, MayPass, PassesAlone, is_below};
+ghost use Rattle.fixed_order.specs.Alone.{IsFirstWith, MayPass, NoneIsBroken, PassesAlone, is_below};
 ghost use Rattle.fixed_order.specs.Waiting.{IsWaitingIn};
 ghost use Rattle.fixed_order.specs.Walked.{IsBeginning, IsFalling, IsWalkedTo};
 
@@ -22,28 +22,35 @@ use crate::waiting::Waiting;
 use plancheck::apply;
 use plancheck_end::is_same;
 use plancheck_group::{
-    are_configurable, are_depends_installed, are_pre_depends_installed, are_unbroken,
-    greatest_part, is_indivisible,
+    are_configurable, are_depends_installed, are_pre_depends_installed, greatest_part,
+    is_indivisible,
 };
 use rules::{Name, Names, Step};
 use status::Records;
 use std::alloc::{AllocError, Global};
 use std::slice::from_ref;
 
-// Whether the name passes alone.
-#[tactic(auto, unfolding(crate::specs::Alone::PassesAlone))]
+// Whether the names of a group may be configured and what they ask for is installed, or theirs.
+fn have_what_they_ask(db: &Records<'_, '_>, group: &[Name]) -> bool
+    ensures { IsTrue result ↔ (AreConfigurable db.now group.now × AreDependsInstalled db.now group.now
+        × ArePreDependsInstalled db.now group.now) }
+{
+    are_configurable(db, group)
+        && are_depends_installed(db, group)
+        && are_pre_depends_installed(db, group)
+}
+
+// Whether the name passes alone. In a plain change nothing breaks it, so that isn't asked.
 fn passes_alone(db: &Records<'_, '_>, name: &Name) -> bool
+    requires { NoneIsBroken db.now }
     ensures { IsTrue result ↔ PassesAlone db.now name.now }
 {
-    let alone = from_ref(name);
-    are_configurable(db, alone)
-        && are_depends_installed(db, alone)
-        && are_pre_depends_installed(db, alone)
-        && are_unbroken(db, alone)
+    have_what_they_ask(db, from_ref(name))
 }
 
 // The place of the first name that passes alone, or the end.
 fn first_alone(db: &Records<'_, '_>, names: &[Name]) -> usize
+    requires { NoneIsBroken db.now }
     ensures { IsFirstWith (PassesAlone db.now) names.now result }
 {
     for place in 0..names.len() {
@@ -149,7 +156,8 @@ fn first_group(
     db: &Records<'_, '_>,
     waiting: &Waiting<'_>,
 ) -> Result<Vec<Name>, AllocError>
-    requires { IsWaitingIn db.now waiting.now }
+    requires waiting { IsWaitingIn db.now waiting.now }
+    requires unbroken { NoneIsBroken db.now }
     ensures { IfOk result (λ group. IsBeginning db.now group.items) }
 {
     let names = waiting.names.as_slice();
@@ -306,7 +314,8 @@ fn least_group<'p, 'a>(
     db: &Records<'p, 'a>,
     waiting: &Waiting<'a>,
 ) -> Result<Option<Names>, AllocError>
-    requires { IsWaitingIn db.now waiting.now }
+    requires waiting { IsWaitingIn db.now waiting.now }
+    requires unbroken { NoneIsBroken db.now }
     ensures { IfOk result (λ group. MatchOption group
         ((names : List (List ℕ)) → ¬ IsConfigurableGroup ground.now.universe.now db.now names)
         (IsLeastGroup ground.now.universe.now db.now)) }
@@ -324,16 +333,19 @@ fn least_group<'p, 'a>(
 fn configures_of<'p, 'a>(
     ground: &Ground<'_, '_, 'p, 'a>,
     db: &mut Records<'p, 'a>,
-    waiting: &Waiting<'a>,
+    waiting: Waiting<'a>,
 ) -> Result<Vec<Step>, AllocError>
-    requires waiting { IsWaitingIn db.old waiting.now }
+    requires ground { IsGround ground.now }
+    requires waiting { IsWaitingIn db.old waiting }
     requires underway { IsUnderwayOn ground.now db.old }
     requires nothing { HasNothingToRemove (members_in ground.now) db.old }
     ensures configures { IfOk result (λ steps. AreConfigures ground.now.universe.now db.old steps.items) }
     ensures after { IfOk result (λ steps. db.new ≡ after_all ground.now.universe.now db.old steps.items) }
 {
+    let mut waiting = waiting;
     let mut steps = Vec::new(ground.alloc);
-    while let Some(names) = least_group(ground, db, waiting)? {
+    while let Some(names) = least_group(ground, db, &waiting)? {
+        waiting.leave_out(names.as_slice());
         let step = Step::Configure(names);
         apply(db, ground.universe, None, &step)?;
         steps.push(step)?;
@@ -356,6 +368,6 @@ pub(crate) fn configures<'p, 'a>(
     ensures after { IfOk result (λ steps. db.new ≡ after_all ground.now.universe.now db.old steps.items) }
 {
     let waiting = Waiting::read(ground, db)?;
-    let steps = configures_of(ground, db, &waiting)?;
+    let steps = configures_of(ground, db, waiting)?;
     Ok(steps)
 }

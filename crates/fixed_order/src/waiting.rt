@@ -1,12 +1,12 @@
 // What waits to be configured, before the first configure.
 
 ghost use Rattle.std.specs.Prelude.{◌≡◌, IfOk};
-ghost use Rattle.std.specs.List.{Contains};
+ghost use Rattle.std.specs.List.{Contains, filter};
 ghost use Rattle.rules.specs.Name.{IsAscending};
 ghost use Rattle.plain.specs.Underway.{unconfigured_of};
 ghost use Rattle.fixed_order.specs.Ground.{IsGround, IsUnderwayOn};
 ghost use Rattle.fixed_order.specs.Names.{AreAllWith};
-ghost use Rattle.fixed_order.specs.Waiting.{IsWaitingIn};
+ghost use Rattle.fixed_order.specs.Waiting.{IsWaitingIn, is_away, is_in};
 ghost use Rattle.fixed_order.specs.Walked.{IsFalling};
 
 use crate::ground::Ground;
@@ -17,7 +17,7 @@ use status::Records;
 use std::alloc::{AllocError, Global};
 
 /// The names that wait to be configured, in their order and from the greatest down, and those of them that may ask for one
-/// another in turn. Names that were configured since may still be among them.
+/// another in turn. Names that were configured since may still be among the falling ones.
 #[derive(Drop)]
 pub(crate) struct Waiting<'a> {
     pub(crate) names: Vec<Name>,
@@ -78,6 +78,29 @@ fn falling(keys: Vec<Key<'_>>) -> Vec<Key<'_>>
     down
 }
 
+// Whether the name is of the group.
+fn is_in(group: &[Name], name: &Name) -> bool
+    ensures { result ≡ is_in group.now name.now }
+{
+    group
+        .iter()
+        .any(|other| name.as_bytes() == other.as_bytes())
+}
+
+// Whether the name isn't of the group.
+fn is_away(group: &[Name], name: &Name) -> bool
+    ensures { result ≡ is_away group.now name.now }
+{
+    !is_in(group, name)
+}
+
+// Keeps the names that aren't of the group.
+fn keep_away(names: &mut Vec<Name>, group: &[Name])
+    ensures { names.new.items ≡ filter (is_away group.now) names.old.items }
+{
+    names.retain(|name| is_away(group, name));
+}
+
 impl<'a> Waiting<'a> {
     /// What waits in this database. About n log n comparisons of n names, and what `rings_of` says. Memory alone can fail.
     pub(crate) fn read<'p>(
@@ -93,5 +116,16 @@ impl<'a> Waiting<'a> {
         let rings = rings_of(ground.alloc, db, names.as_slice())?;
         let down = falling(keys);
         Ok(Waiting { names, down, rings })
+    }
+
+    /// Leaves out the names of the group, which is configured: else each is asked again whether it passes. Linear in the
+    /// names, for each in the group's.
+    pub(crate) fn leave_out(&mut self, group: &[Name])
+        ensures names { self.new.names.items ≡ filter (is_away group.now) self.old.names.items }
+        ensures down { self.new.down.items ≡ self.old.down.items }
+        ensures rings { self.new.rings.names.items ≡ filter (is_away group.now) self.old.rings.names.items }
+    {
+        keep_away(&mut self.names, group);
+        keep_away(&mut self.rings.names, group);
     }
 }

@@ -1,5 +1,6 @@
 -- Each step is that of the least group, and at the end there is none.
-use Rattle.std.proofs.Common.{rules, ℕ, List, ◌<◌, length, sym, subst}
+use Rattle.std.proofs.Common.{rules, ℕ, List, ◌<◌, length, ap, sym, subst, ◌∙◌}
+use Rattle.std.specs.List.{filter}
 use Rattle.rules.specs.Database.{Record}
 use Rattle.rules.specs.Run.{after}
 use Rattle.rules.specs.declared.step.Step.{Step}
@@ -9,11 +10,18 @@ use Rattle.plain.specs.Order.{AreNextSteps, IsConfigurableGroup, IsLeastGroup, I
 use Rattle.plain.proofs.ConfigureLemmas.{configures_keep, configure_leaves}
 use Rattle.plain.specs.Underway.{unconfigured_of}
 use Rattle.plain.proofs.GrowLemmas.{configures_end, configures_grow}
+use Rattle.plain.proofs.PeaceLemmas.{nothing_clashes}
+use Rattle.plain.proofs.UnderwayLemmas.{underway_has_old_and_new}
 use Rattle.fixed_order.proofs.FoundLemmas.{where_none, where_some}
 use Rattle.fixed_order.specs.Ground.{IsUnderwayOn, members_in}
-use Rattle.fixed_order.specs.Waiting.{IsWaitingIn}
-use Rattle.fixed_order.proofs.WaitingLemmas.{waiting_kept}
+use Rattle.fixed_order.specs.Waiting.{IsWaitingIn, is_away}
+use Rattle.fixed_order.proofs.WaitingLemmas.{waiting_left}
 use Rattle.fixed_order.proofs.configure.configures_of.Goals as goal
+
+pub least_group-requires-clause-unbroken : goal.least_group-requires-clause-unbroken
+least_group-requires-clause-unbroken c = λ names. (nothing_clashes c.args.ground.now.universe.now c.args.ground.now.start.now
+    (members_in c.args.ground.now) c.loop-steps.db c.requires.ground.change.plain (underway_has_old_and_new c.args.ground.now.universe.now
+    c.args.ground.now.start.now (members_in c.args.ground.now) c.loop-steps.db c.loop-steps.invariant.underway)).unbroken names
 
 pub apply-requires-clause-allowed : goal.apply-requires-clause-allowed
 apply-requires-clause-allowed c = (where_some ((names : List (List ℕ)) → ¬ IsConfigurableGroup c.args.ground.now.universe.now c.loop-steps.db names) (IsLeastGroup c.args.ground.now.universe.now c.loop-steps.db) _ c.in-Some.names c.in-Some.is c.in_ok-names.ensures).group.allowed
@@ -23,10 +31,13 @@ loop-steps-preserved c =
     let kept = configures_keep c.args.ground.now.universe.now c.args.ground.now.start.now c.loop-steps.db (members_in c.args.ground.now)
     c.in-Some.names c.loop-steps.invariant.underway c.loop-steps.invariant.nothing (where_some ((names : List (List ℕ)) → ¬ IsConfigurableGroup c.args.ground.now.universe.now c.loop-steps.db names) (IsLeastGroup c.args.ground.now.universe.now c.loop-steps.db) _ c.in-Some.names c.in-Some.is c.in_ok-names.ensures).group.allowed in
     record {
-      waiting = subst (λ (db : List Record). IsWaitingIn db c.args.waiting.now) (sym c.in_ok-apply.ensures.after)
-          (waiting_kept c.args.ground.now.universe.now c.args.ground.now.start.now (members_in c.args.ground.now) c.loop-steps.db c.in-Some.names
-          c.args.waiting.now c.loop-steps.invariant.underway (where_some ((names : List (List ℕ)) → ¬ IsConfigurableGroup c.args.ground.now.universe.now c.loop-steps.db names) (IsLeastGroup c.args.ground.now.universe.now c.loop-steps.db) _ c.in-Some.names c.in-Some.is c.in_ok-names.ensures).group.allowed
-          c.loop-steps.invariant.waiting);
+      waiting = subst (λ (db : List Record). IsWaitingIn db c.leave_out.new.self) (sym c.in_ok-apply.ensures.after)
+          (waiting_left c.args.ground.now.universe.now c.args.ground.now.start.now (members_in c.args.ground.now) c.loop-steps.db c.in-Some.names
+          c.loop-steps.waiting c.leave_out.new.self c.loop-steps.invariant.underway (where_some ((names : List (List ℕ)) → ¬ IsConfigurableGroup c.args.ground.now.universe.now c.loop-steps.db names) (IsLeastGroup c.args.ground.now.universe.now c.loop-steps.db) _ c.in-Some.names c.in-Some.is c.in_ok-names.ensures).group.allowed
+          c.loop-steps.invariant.waiting
+          (c.leave_out.ensures.names ∙ ap (λ (group : List (List ℕ)). filter (is_away group) c.loop-steps.waiting.names.items) c.as_slice.ensures.names)
+          c.leave_out.ensures.down
+          (c.leave_out.ensures.rings ∙ ap (λ (group : List (List ℕ)). filter (is_away group) c.loop-steps.waiting.rings.names.items) c.as_slice.ensures.names));
       underway = subst (λ (db : List Record). IsUnderwayOn c.args.ground.now db) (sym c.in_ok-apply.ensures.after) kept.0;
       nothing = subst (λ (db : List Record). HasNothingToRemove (members_in c.args.ground.now) db) (sym c.in_ok-apply.ensures.after) kept.1;
       so_far = subst (λ (db : List Record). AreNextSteps (IsNextConfigure c.args.ground.now.universe.now) c.args.ground.now.universe.now

@@ -13,7 +13,7 @@ returns-then-is_empty c = no_group_is_left c.args.ground.now.universe.now c.args
     (sym c.is_empty.ensures ∙ c.if-is_empty.true)))
 
 pub walked-requires-clause-falls : goal.walked-requires-clause-falls
-walked-requires-clause-falls c = subst (IsFalling (unconfigured_of c.args.db.now)) (sym c.as_slice-2.ensures.value) c.requires.down
+walked-requires-clause-falls c = subst (IsFalling (unconfigured_of c.args.db.now)) (sym c.as_slice-2.ensures.value) c.requires.waiting.down
 
 pub walked-requires-clause-whole : goal.walked-requires-clause-whole
 walked-requires-clause-whole c = λ so. subst (IsIndivisible c.args.db.now) c.as_slice.ensures.value (c.in_ok-whole.ensures so)
