@@ -1,6 +1,8 @@
 //! The program `debplan`: `cli::run` over the machine's own files, with its words and its streams.
 #![tactic(auto)]
 
+ghost use Rattle.std.specs.Prelude.{◌≡◌, ◌≤◌, IfOk, length};
+
 use cli::{Host, ReadError, ReadFailed, Source, refuse_for_memory, run};
 use rules::TEXT_BYTES;
 use std::alloc::{AllocError, Global};
@@ -24,16 +26,29 @@ impl Source for Opened {
     }
 
     fn read(&mut self, block: &mut [u8]) -> Result<usize, ReadFailed> {
-        for _ in 0..usize::MAX {
-            match self.file.read(block) {
-                Ok(count) => return Ok(count),
-                Err(error) if error.kind() == ErrorKind::Interrupted => {}
-                Err(_) => break,
+        match read_file(&mut self.file, block) {
+            Ok(count) => Ok(count),
+            Err(failed) => {
+                self.failures = self.failures.saturating_add(1);
+                Err(failed)
             }
         }
-        self.failures = self.failures.saturating_add(1);
-        Err(ReadFailed)
     }
+}
+
+// Reads into the block, and once more where a signal came in between.
+fn read_file(file: &mut File, block: &mut [u8]) -> Result<usize, ReadFailed>
+    ensures size { length block.new ≡ length block.old }
+    ensures count { IfOk result (λ count. count ≤ length block.new) }
+{
+    for _ in 0..usize::MAX {
+        match file.read(block) {
+            Ok(count) => return Ok(count),
+            Err(error) if error.kind() == ErrorKind::Interrupted => {}
+            Err(_) => return Err(ReadFailed),
+        }
+    }
+    Err(ReadFailed)
 }
 
 /// The files of the machine.
