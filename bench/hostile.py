@@ -1,8 +1,8 @@
 #!/usr/bin/python3
 """hostile.py PROGRAM [--most SECONDS] [--rounds N] [FAMILY..]: has inputs solved that are made to be slow, each family in
 growing sizes, and each answer judged. PROGRAM is debplan; FAMILY is a part of the name of a family, and without one all are
-run. It prints a row for each size: the answer, the time of `solve`, that of the judge on its answer, and the greater peak memory,
-which below some 25 MiB is that of this program. Some families hand a plan or a refutation to the judge alone.
+run. It prints a row for each size: the answer, the time of `solve`, that of the judge on its answer, and the greater peak
+memory, which below some 25 MiB is that of this program. Some families hand a plan or a refutation to the judge alone.
 
   --most SECONDS   a process is ended after so many, 60 where it isn't given; larger sizes of its family are left out
   --rounds N       the times are medians of N runs, 1 where it isn't given
