@@ -404,7 +404,7 @@ def main():
     parser.add_argument("--most", type=float, default=60)
     parser.add_argument("--rounds", type=int, default=1)
     parser.add_argument("families", nargs="*", metavar="FAMILY")
-    options = parser.parse_args()
+    options = parser.parse_intermixed_args()
     with tempfile.TemporaryDirectory() as room:
         hostile = Hostile(options, room)
         print("| Family | Size | Answer | Solved | Judged | Peak |\n|---|---|---|---|---|---|")
