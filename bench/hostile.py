@@ -1,8 +1,8 @@
 #!/usr/bin/python3
 """hostile.py PROGRAM [--most SECONDS] [--rounds N] [FAMILY..]: has inputs solved that are made to be slow, each family in
 growing sizes, and each answer judged. PROGRAM is debplan; FAMILY is a part of the name of a family, and without one all are
-run. It prints a row for each size: the answer, the time of `solve`, that of the judge on its answer, and the greater peak memory,
-which below some 25 MiB is that of this program. Some families hand a plan or a refutation to the judge alone.
+run. It prints a row for each size: the answer, the time of `solve`, that of the judge on its answer, and the greater peak
+memory, which below some 25 MiB is that of this program. Some families hand a plan or a refutation to the judge alone.
 
   --most SECONDS   a process is ended after so many, 60 where it isn't given; larger sizes of its family are left out
   --rounds N       the times are medians of N runs, 1 where it isn't given
@@ -404,7 +404,7 @@ def main():
     parser.add_argument("--most", type=float, default=60)
     parser.add_argument("--rounds", type=int, default=1)
     parser.add_argument("families", nargs="*", metavar="FAMILY")
-    options = parser.parse_args()
+    options = parser.parse_intermixed_args()
     with tempfile.TemporaryDirectory() as room:
         hostile = Hostile(options, room)
         print("| Family | Size | Answer | Solved | Judged | Peak |\n|---|---|---|---|---|---|")
