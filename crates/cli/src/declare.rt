@@ -7,7 +7,7 @@ use std::alloc::{AllocError, Global};
 const VERSION: &str = "0.1.0";
 
 /// The version of the program, and the toolchain that proves it (`rt version`).
-const VERSION_AND_TOOLCHAIN: &str = "0.1.0\ntoolchain: rattle-kit-13f logic dac8208d650f15bf";
+const VERSION_AND_TOOLCHAIN: &str = "0.1.0\ntoolchain: rattle-kit-13b logic dac8208d650f15bf";
 
 /// Of which versions an answer speaks, and what each exit status means, as it stands below each help.
 const ANSWERS: &str =
