@@ -1,51 +1,9 @@
 //! What is kept of a text, row by row: the text and what is kept of it, with `$` for a newline. Where the text is refused,
 //! `-` stands.
-ghost use Rattle.std.specs.Prelude.{Some};
-
-use kept_index::{KeepError, ReadFailed, Source, keep};
+use crate::devices::{Broken, Few};
+use kept_index::{KeepError, keep};
 use rows::unescaped;
 use std::alloc::{AllocError, Global};
-
-/// Bytes of which no reading gives more than so many.
-#[derive(Drop)]
-struct Few<'a> {
-    bytes: &'a [u8],
-    most: usize,
-}
-
-impl Source for Few<'_> {
-    ghost left = { λ few. Some few.bytes.now };
-
-    ghost faults = { λ _. 0 };
-
-    fn failures(&self) -> u64 {
-        0
-    }
-
-    fn read(&mut self, block: &mut [u8]) -> Result<usize, ReadFailed> {
-        let room = block.len().min(self.most.max(1));
-        self.bytes.read(block.split_at_mut(room).0)
-    }
-}
-
-/// A device that fails.
-#[derive(Drop)]
-struct Broken {
-    failures: u64,
-}
-
-impl Source for Broken {
-    ghost faults = { λ broken. broken.failures };
-
-    fn failures(&self) -> u64 {
-        self.failures
-    }
-
-    fn read(&mut self, _block: &mut [u8]) -> Result<usize, ReadFailed> {
-        self.failures = self.failures.saturating_add(1);
-        Err(ReadFailed)
-    }
-}
 
 const ROWS: &str = "\
 →
