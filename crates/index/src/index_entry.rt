@@ -4,13 +4,13 @@ ghost use Rattle.std.specs.Prelude.{◌≡◌, IfOk};
 
 use crate::index_package::IndexPackage;
 use crate::index_stanza::IndexStanza;
-use relation::{Pkg, Version};
+use relation::{Pkg, Provided, Version};
 use rules::IndexPlace;
 use std::alloc::{AllocError, Global};
 use std::marker::Model;
 
-/// A package of an index: its relation fields have been tested, and `pkg` reads them each time that it is called. It borrows
-/// the text of the index.
+/// A package of an index: its relation fields have been tested, and `pkg` reads them each time that it is called, `provides`
+/// Provides alone. It borrows the text of the index.
 #[derive(Drop)]
 pub struct IndexEntry<'a> {
     indexed: IndexStanza<'a>,
@@ -58,6 +58,14 @@ impl<'a> IndexEntry<'a> {
         ensures { result ≡ self.now.place }
     {
         self.indexed.place()
+    }
+
+    /// What the package provides: the items that its Provides has (Policy 7.5). Memory alone can fail, and none is taken where
+    /// the field isn't there. Linear in the field.
+    pub fn provides(&self, alloc: Global) -> Result<Vec<Provided<'a>>, AllocError>
+        ensures { IfOk result (λ items. items.items ≡ self.now.pkg.relations.provides) }
+    {
+        self.indexed.provides(alloc)
     }
 
     /// The package, with its relations. Memory alone can fail. Linear in the stanza.

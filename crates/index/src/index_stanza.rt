@@ -6,18 +6,20 @@ ghost use Rattle.relation.specs.PkgFields.{fields_of};
 ghost use Rattle.relation.specs.PkgText.{pkg_fault, pkg_of, read_pkg};
 ghost use Rattle.package_stanza.specs.Stanza.{is_essential as marked_essential, read_stanza};
 
-use relation::{Pkg, PkgError, PkgFault, PkgFields, Version};
+use relation::{Pkg, PkgError, PkgFault, PkgFields, Provided, Version, parse_tested_provides};
 use rules::IndexPlace;
 use stanza::Stanza;
 use std::alloc::{AllocError, Global};
 use std::marker::Model;
 
 /// A stanza of an index that counts: its package, whether it is marked essential, its place in the indices, and the stanza
-/// itself. Its relation fields have been tested, and `pkg` reads them each time that it is called.
+/// itself. Its relation fields have been tested: `pkg` reads them each time that it is called, and `provides` its Provides.
 #[derive(Drop)]
 pub struct IndexStanza<'a> {
     name: &'a [u8],
     version: Version<'a>,
+    // The value of Provides, so that none has to be looked for.
+    provides: Option<&'a [u8]>,
     arch: &'a [u8],
     is_essential: bool,
     place: IndexPlace,
@@ -26,6 +28,7 @@ pub struct IndexStanza<'a> {
 
 impl<'a> Model for IndexStanza<'a> {
     ghost use Rattle.std.specs.Prelude.{◌≡◌, None};
+    ghost use Rattle.std.specs.Option.{option_copied, option_map};
     ghost use Rattle.relation.specs.PkgFields.{fields_of};
     ghost use Rattle.relation.specs.PkgText.{pkg_fault, pkg_of, value_in};
     ghost use Rattle.rules.specs.FileRecord.{IndexStanza as IndexStanzaValue};
@@ -40,7 +43,8 @@ impl<'a> Model for IndexStanza<'a> {
 
     ghost invariant = { λ s. (pkg_fault (fields_of s.stanza) ≡ None)
         × (s.name.now ≡ value_in (fields_of s.stanza).name)
-        × (s.version ≡ value_in (fields_of s.stanza).version) };
+        × (s.version ≡ value_in (fields_of s.stanza).version)
+        × (option_copied s.provides ≡ option_map (λ field. field.value) (fields_of s.stanza).provides) };
 }
 
 impl<'a> IndexStanza<'a> {
@@ -65,6 +69,7 @@ impl<'a> IndexStanza<'a> {
         Ok(IndexStanza {
             name,
             version,
+            provides: fields.provides(),
             arch,
             is_essential,
             place,
@@ -106,6 +111,16 @@ impl<'a> IndexStanza<'a> {
         ensures pkg { read_pkg result.1.now result.0.now ≡ Ok self.now.listed.pkg }
     {
         (&self.stanza, self.arch)
+    }
+
+    /// What the package provides. Memory alone can fail, and none is taken where no field says it. Linear in that field.
+    pub fn provides(&self, alloc: Global) -> Result<Vec<Provided<'a>>, AllocError>
+        ensures { IfOk result (λ items. items.items ≡ self.now.listed.pkg.relations.provides) }
+    {
+        match self.provides {
+            None => Ok(Vec::new(alloc)),
+            Some(value) => parse_tested_provides(alloc, value, self.arch),
+        }
     }
 
     /// The package, with its relations. Memory alone can fail. Linear in the stanza.

@@ -98,7 +98,7 @@ unfolding FitsByName FitsByProvides FitsProvided
 pkg_to atom place pkg offer within passes =
     let parts = both (bytes_eq offer.name atom.name) (is_meeting atom.restriction offer.version) passes in
     let named : offer.name ≡ atom.name = bytes_eq-true offer.name atom.name parts.0 in
-    elim (Contains-cons (own_offer place pkg) (flat_map (offers_by place) pkg.relations.provides) offer within) [
+    elim (Contains-cons (own_offer place pkg.name pkg.version) (flat_map (offers_by place) pkg.relations.provides) offer within) [
       | inl same ↦ (
         sym (ap (λ (found : Offer). found.place) same),
         inl (
@@ -125,15 +125,15 @@ IsOffered atom offers place = (offer : Offer) × Contains offers offer × (fits 
 pkg_from : (atom : Atom) (place : ℕ) (pkg : Pkg) → FitsSome pkg atom → IsOffered atom (offers_at place pkg) place
 unfolding FitsByName FitsByProvides FitsProvided
 pkg_from atom place pkg (inl own) = (
-  own_offer place pkg,
-  Contains-head (own_offer place pkg) (flat_map (offers_by place) pkg.relations.provides),
+  own_offer place pkg.name pkg.version,
+  Contains-head (own_offer place pkg.name pkg.version) (flat_map (offers_by place) pkg.relations.provides),
   rw (bytes_eq-same pkg.name atom.name own.0) (passes_own pkg.version atom.restriction own.1),
   refl,
 )
 pkg_from atom place pkg (inr some) = Any-elim (λ item. FitsProvided item atom) pkg.relations.provides (IsOffered atom (offers_at place pkg) place)
     (λ item there holds. (
       provided_offer place item,
-      Contains-rest (own_offer place pkg) (flat_map (offers_by place) pkg.relations.provides) (provided_offer place item)
+      Contains-rest (own_offer place pkg.name pkg.version) (flat_map (offers_by place) pkg.relations.provides) (provided_offer place item)
           (of_item place pkg.relations.provides item there holds.0),
       rw (bytes_eq-same item.name atom.name holds.1) (passes_met item.version atom.restriction holds.2),
       refl,

@@ -16,9 +16,9 @@ pub record Offer : Type 0 where
   pub version : Option (List ℕ)
   pub place : ℕ
 
--- what a package at this place offers by its own name
-abbrev pub own_offer : ℕ → Pkg → Offer
-own_offer place pkg = record { name = pkg.name; version = Some pkg.version; place = place }
+-- what a package at this place offers by its own name and version, which are these
+abbrev pub own_offer : ℕ → List ℕ → List ℕ → Offer
+own_offer place name version = record { name = name; version = Some version; place = place }
 
 -- what an item of Provides of the package at this place offers
 abbrev pub provided_offer : ℕ → Provided → Offer
@@ -30,7 +30,7 @@ offers_by place item = if item.foreign then [] else provided_offer place item �
 
 -- what the package at this place offers
 abbrev pub offers_at : ℕ → Pkg → List Offer
-offers_at place pkg = own_offer place pkg ∷ flat_map (offers_by place) pkg.relations.provides
+offers_at place pkg = own_offer place pkg.name pkg.version ∷ flat_map (offers_by place) pkg.relations.provides
 
 -- what these packages offer, the first of which stands at this place
 abbrev pub offers_from : ℕ → List Pkg → List Offer

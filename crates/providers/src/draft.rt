@@ -4,15 +4,18 @@ ghost use Rattle.std.specs.List.{flat_map};
 ghost use Rattle.providers.specs.Offers.{offers_at, offers_by};
 
 use crate::offer::Offer;
+use crate::seen::SeenPkg;
+use debversion::Version;
 use relation::{Pkg, Provided};
 use std::alloc::{AllocError, Global};
 use std::marker::Model;
 use std::snapshot::Snapshot;
+use universe::{CountingProvides, Pair};
 
 /// Packages, which contracts alone see, and what they offer, in their order.
 #[derive(Drop)]
 pub(crate) struct Draft<'a> {
-    pub(crate) packages: Vec<Snapshot<Pkg<'a>>>,
+    pub(crate) packages: Vec<Snapshot<SeenPkg<'a>>>,
     pub(crate) offers: Vec<Offer<'a>>,
 }
 
@@ -54,19 +57,6 @@ fn push_items<'a>(
     Ok(())
 }
 
-// Puts what the package offers behind the others.
-fn push_offers<'a>(
-    offers: &mut Vec<Offer<'a>>,
-    place: usize,
-    pkg: &Pkg<'a>,
-) -> Result<(), AllocError>
-    ensures { OnOk result (offers.new.items ≡ offers.old.items ++ offers_at place pkg.now) }
-{
-    offers.push(Offer::own(pkg, place))?;
-    push_items(offers, place, pkg.provides())?;
-    Ok(())
-}
-
 impl<'a> Draft<'a> {
     /// No packages.
     pub(crate) fn new(alloc: Global) -> Draft<'a>
@@ -78,14 +68,52 @@ impl<'a> Draft<'a> {
         }
     }
 
+    // Puts a package that was seen behind the others. The name, the version and the items of Provides are the package's own.
+    fn push_seen(
+        &mut self,
+        seen: &SeenPkg<'a>,
+        name: &'a [u8],
+        version: &Version<'a>,
+        items: &[Provided<'a>],
+    ) -> Result<(), AllocError>
+        requires name { name.now ≡ seen.now.name }
+        requires version { version.now ≡ seen.now.version }
+        requires items { items.now ≡ seen.now.relations.provides }
+        ensures packages { OnOk result (self.new.0 ≡ self.old.0 ++ seen.now ∷ []) }
+        ensures offers { OnOk result (self.new.1 ≡ self.old.1 ++ offers_at (length self.old.0) seen.now) }
+    {
+        let place = self.packages.len();
+        self.offers.push(Offer::own(name, version, place))?;
+        push_items(&mut self.offers, place, items)?;
+        self.packages.push(Snapshot::of(seen))?;
+        Ok(())
+    }
+
     /// Puts a package behind the others. Memory alone can fail. Linear in its items of Provides.
     pub(crate) fn push(&mut self, pkg: &Pkg<'a>) -> Result<(), AllocError>
         ensures packages { OnOk result (self.new.0 ≡ self.old.0 ++ pkg.now ∷ []) }
         ensures offers { OnOk result (self.new.1 ≡ self.old.1 ++ offers_at (length self.old.0) pkg.now) }
     {
-        let place = self.packages.len();
-        push_offers(&mut self.offers, place, pkg)?;
-        self.packages.push(Snapshot::of(pkg))?;
-        Ok(())
+        self.push_seen(
+            &SeenPkg::of_pkg(pkg),
+            pkg.name(),
+            pkg.version(),
+            pkg.provides(),
+        )
+    }
+
+    /// Puts the package of the pair behind the others. Of a stanza in an index, Provides alone is read. Memory alone can fail.
+    /// Linear in that field.
+    pub(crate) fn push_pair(&mut self, alloc: Global, pair: &Pair<'_, 'a>) -> Result<(), AllocError>
+        ensures packages { OnOk result (self.new.0 ≡ self.old.0 ++ pair.now.pkg ∷ []) }
+        ensures offers { OnOk result (self.new.1 ≡ self.old.1 ++ offers_at (length self.old.0) pair.now.pkg) }
+    {
+        let provides = CountingProvides::of_pair(alloc, pair)?;
+        self.push_seen(
+            &SeenPkg::of_pair(pair),
+            pair.name(),
+            pair.version(),
+            provides.items(),
+        )
     }
 }

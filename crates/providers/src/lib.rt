@@ -9,6 +9,7 @@ mod places;
 mod providers;
 mod range;
 mod run;
+mod seen;
 mod spans;
 mod ticks;
 

@@ -9,7 +9,7 @@ ghost use Rattle.providers.specs.Offers.{is_offer_of, offer_cmp, own_offer, prov
 ghost use Rattle.providers.specs.OfferLaws.{offer_cmp_total};
 
 use debversion::Version;
-use relation::{Pkg, Provided};
+use relation::Provided;
 use std::cmp::Ordering;
 use std::marker::Model;
 
@@ -55,13 +55,13 @@ fn version_cmp(version: Option<&Version<'_>>, other: Option<&Version<'_>>) -> Or
 }
 
 impl<'a> Offer<'a> {
-    /// What the package at the place offers by its own name.
-    pub(crate) fn own(pkg: &Pkg<'a>, place: usize) -> Offer<'a>
-        ensures { result ≡ own_offer place pkg.now }
+    /// What the package at the place offers by its own name and version, which are these.
+    pub(crate) fn own(name: &'a [u8], version: &Version<'a>, place: usize) -> Offer<'a>
+        ensures { result ≡ own_offer place name.now version.now }
     {
         Offer {
-            name: pkg.name(),
-            version: Some(pkg.version().again()),
+            name,
+            version: Some(version.again()),
             place,
         }
     }

@@ -9,6 +9,7 @@ ghost use Rattle.providers.specs.Offers.{AreOrdered, offers_of, versioned_of};
 use crate::draft::Draft;
 use crate::offer::Offer;
 use crate::places::{meeting, ordered_places};
+use crate::seen::SeenPkg;
 use crate::spans::{run_at, spans_of};
 use crate::ticks::Ticks;
 use indexmap::IndexMap;
@@ -16,13 +17,13 @@ use relation::{Atom, Pkg};
 use std::alloc::{AllocError, Global};
 use std::marker::Model;
 use std::snapshot::Snapshot;
-use universe::{CountingPkg, Universe};
+use universe::Universe;
 
 /// Packages, of which contracts alone know, and what they offer: in order, with a table of where the offers of each name
 /// stand. It borrows their texts.
 #[derive(Drop)]
 pub struct Providers<'a> {
-    packages: Vec<Snapshot<Pkg<'a>>>,
+    packages: Vec<Snapshot<SeenPkg<'a>>>,
     offers: Vec<Offer<'a>>,
     spans: IndexMap<&'a [u8], (usize, usize)>,
 }
@@ -53,7 +54,7 @@ fn draft_of<'a>(alloc: Global, packages: &[&Pkg<'a>]) -> Result<Draft<'a>, Alloc
     Ok(draft)
 }
 
-// The packages of the pairs, and what they offer. A package that is read for it is let go before the next one.
+// The packages of the pairs, and what they offer. The items that are read for it are let go before the next ones.
 fn draft_of_universe<'a>(
     alloc: Global,
     universe: &Universe<'_, 'a>,
@@ -63,8 +64,7 @@ fn draft_of_universe<'a>(
 {
     let mut draft = Draft::new(alloc);
     for pair in universe.pairs() {
-        let pkg = CountingPkg::of_pair(alloc, pair)?;
-        draft.push(pkg.pkg())?;
+        draft.push_pair(alloc, pair)?;
     }
     Ok(draft)
 }
@@ -105,7 +105,7 @@ impl<'a> Providers<'a> {
     }
 
     /// The packages of the pairs of the universe, in their order: the one at place 0 is that of the pair with the number 1.
-    /// Each is read once and let go before the next. Memory alone can fail. It costs what `of_packages` does, and reading.
+    /// Of one that doesn't stand, Provides alone is read. Memory alone can fail. It costs what `of_packages` does, and that.
     pub fn of_universe(
         alloc: Global,
         universe: &Universe<'_, 'a>,

@@ -1,7 +1,8 @@
 -- Where the relation fields have no refusal, none of them has, and none of their versions is refused.
-use Rattle.std.proofs.Common.{◌≡◌, Some, None}
+use Rattle.std.proofs.Common.{◌≡◌, ℕ, List, Option, Some, None, subst}
+use Rattle.std.specs.Option.{option_map}
 use Rattle.stanza.specs.Field.{FieldText}
-use Rattle.relation.specs.PkgText.{on_line, relation_fault_in, relations_fault}
+use Rattle.relation.specs.PkgText.{on_line, pkg_fault, pkg_name_fault, pkg_version_fault, relation_fault_in, relations_fault}
 use Rattle.relation_text.specs.Refusal.{fault_of, separator_of}
 use Rattle.relation_text.specs.Spelling.{parts_of}
 use Rattle.relation.specs.Value.{HaveGoodVersions}
@@ -34,3 +35,18 @@ each_without_fault fields e =
       breaks = breaks.0;
       provides = breaks.1;
     }
+
+value_in_field : (provides : Option FieldText) (value : List ℕ) → option_map (λ field. field.value) provides ≡ Some value
+    → relation_fault_in Provides provides ≡ None → fault_of Provides value ≡ None
+value_in_field None value is e = cc
+value_in_field (Some field) value is e =
+    let same : field.value ≡ value = cc in
+    subst (λ (text : List ℕ). fault_of Provides text ≡ None) same (none_mapped (on_line field.line) (fault_of Provides field.value) e)
+
+-- where the fields of a package have no refusal, the value of Provides has none
+pub good_provides : (fields : PkgFields) (value : List ℕ) → pkg_fault fields ≡ None → option_map (λ field. field.value) fields.provides ≡ Some value
+    → fault_of Provides value ≡ None
+good_provides fields value e is =
+    let later = none_or (pkg_name_fault fields) _ e in
+    let relations = none_or (pkg_version_fault fields) (relations_fault fields) later.1 in
+    value_in_field fields.provides value is (each_without_fault fields relations.1).provides

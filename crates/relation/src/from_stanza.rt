@@ -1,5 +1,6 @@
 //! The fields of a package in its stanza: their tests, and the package that they spell.
 ghost use Rattle.std.specs.Prelude.{◌≡◌, IfErr, IfOk, IsTrue, MatchOption, MatchResult, None, Ok, Some, codes};
+ghost use Rattle.std.specs.Option.{option_copied, option_map};
 ghost use Rattle.rules.specs.Name.{is_name};
 ghost use Rattle.stanza.specs.Field.{same_name};
 ghost use Rattle.relation.specs.PkgText as Spec;
@@ -155,6 +156,16 @@ impl<'a> PkgFields<'a> {
             (λ fault. Spec.pkg_version_fault self.now ≡ Some fault) }
     {
         version_in(self.line, &self.version)
+    }
+
+    /// The value of Provides, if the field is there (Policy 7.5).
+    pub fn provides(&self) -> Option<&'a [u8]>
+        ensures { option_copied result ≡ option_map (λ field. field.value) self.now.provides }
+    {
+        match &self.provides {
+            None => None,
+            Some(field) => Some(field.value()),
+        }
     }
 
     /// Tests the relation fields in the order Pre-Depends, Depends, Conflicts, Breaks, Provides, and takes no

@@ -1,14 +1,14 @@
 -- The package of one pair more.
-use Rattle.std.proofs.Common.{◌∙◌}
+use Rattle.std.proofs.Common.{refl}
 use Rattle.rules.specs.Universe.{Pair}
 use Rattle.providers.proofs.DraftLemmas.{more_offers, more_packages}
 use Rattle.providers.proofs.providers.draft_of_universe.Goals as goal
 
 pub loop-pair-preserved : goal.loop-pair-preserved
 loop-pair-preserved c = record {
-  packages = more_packages (λ (pair : Pair). pair.pkg) c.pairs-pair-items.result.now c.loop-pair.pair-index c.pair-item.result c.pkg-in-loop-pair.result.now
-      c.loop-pair.draft.0 c.push.new.self.0 c.loop-pair-test.true c.pair-item.is (c.pkg-in-loop-pair.ensures ∙ c.in_ok-pkg.ensures)
-      c.in_ok-push.ensures.packages c.loop-pair.invariant.packages;
-  offers = more_offers c.loop-pair.draft.0 c.push.new.self.0 c.pkg-in-loop-pair.result.now c.loop-pair.draft.1 c.push.new.self.1
-      c.in_ok-push.ensures.packages c.in_ok-push.ensures.offers c.loop-pair.invariant.offers;
+  packages = more_packages (λ (pair : Pair). pair.pkg) c.pairs-pair-items.result.now c.loop-pair.pair-index c.pair-item.result c.pair-item.result.pkg
+      c.loop-pair.draft.0 c.push_pair.new.self.0 c.loop-pair-test.true c.pair-item.is refl
+      c.in_ok-push_pair.ensures.packages c.loop-pair.invariant.packages;
+  offers = more_offers c.loop-pair.draft.0 c.push_pair.new.self.0 c.pair-item.result.pkg c.loop-pair.draft.1 c.push_pair.new.self.1
+      c.in_ok-push_pair.ensures.packages c.in_ok-push_pair.ensures.offers c.loop-pair.invariant.offers;
 }
