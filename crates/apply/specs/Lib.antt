@@ -1,0 +1,4 @@
+pub mod Fault
+pub mod Opening
+pub mod Planned
+pub mod Progress
