@@ -3,6 +3,7 @@ pub mod SelectionLemmas
 pub mod UnpackLemmas
 pub mod NamedLemmas
 pub mod RemovalLemmas
+pub mod NeedLemmas
 pub mod PurgeLemmas
 pub mod WalkLemmas
 pub mod WaitingLemmas

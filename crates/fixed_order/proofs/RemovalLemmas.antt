@@ -1,12 +1,13 @@
--- Which names are to be removed, the least of names with a property, and the next of the removals.
-use Rattle.std.proofs.Common.{◌≡◌, ◌↔◌, ℕ, ◌<◌, Bool, true, false, not, ◌&&◌, List, Option, Some, None, MatchOption, get_or, length, map, take, bytes_eq, refl, sym, ap, subst, ◌∙◌, arith, ◌⊎◌}
+-- Which names are to be removed, the least of names with a property, the next of the removals, and the names that it leaves.
+use Rattle.std.proofs.Common.{◌≡◌, ◌≢◌, ◌↔◌, ℕ, ◌<◌, Bool, true, false, not, ◌&&◌, List, Option, Some, None, MatchOption, get_or, length, map, take, bytes_eq, refl, sym, ap, subst, ◌∙◌, arith, ◌⊎◌}
 use Rattle.std.specs.Prelude.{is_some}
 use Rattle.std.specs.List.{All, Any, Contains, filter}
 use Rattle.std.specs.declared.cmp.Ordering.TheVariants.{Less}
 use Rattle.std.proofs.lemmas.Bool.{cases_order}
 use Rattle.std.proofs.lemmas.List.{get_or-take, get_or_default, length-take-le}
 use Rattle.std.proofs.lemmas.List.Elements.{All-contains}
-use Rattle.rules.specs.Database.{Record, HasRecord, IsInstalled, IsPresent}
+use Rattle.std.proofs.lemmas.List.Kept.{AllPairs-filter}
+use Rattle.rules.specs.Database.{Record, HasDistinctNames, HasRecord, IsInstalled, IsPresent}
 use Rattle.rules.specs.ElementLaws.{Any-elim, Any-intro, Any-from_list_any, list_any-from_contains, Contains-filter, Contains-filter_intro, Contains-map, Contains-map_intro}
 use Rattle.rules.specs.Legal.{Allowed, IsFirstFailing, IsFirstUnkept, RemoveAsks, remove_rules}
 use Rattle.rules.specs.declared.step.Rule.{Rule}
@@ -15,6 +16,7 @@ use Rattle.rules.specs.Name.{IsAscending, name_cmp}
 use Rattle.rules.specs.NamedLaws.{bytes_eq-true, bytes_eq-same}
 use Rattle.rules.specs.Package.{Pkg}
 use Rattle.rules.specs.Sound.{HasMember}
+use Rattle.rules.specs.Run.{after}
 use Rattle.rules.specs.State.{is_present_state}
 use Rattle.rules.specs.Universe.{Universe, listed_for}
 use Rattle.rules.specs.declared.step.Step.{Step}
@@ -23,9 +25,10 @@ use Rattle.rules.proofs.EndLemmas.{both_true}
 use Rattle.plain.specs.Change.{HasNothingToRemove, IsToRemove}
 use Rattle.plain.specs.Order.{IsNextRemoval, IsStillInstalled, MayGo}
 use Rattle.plain.specs.Underway.{is_member, is_to_remove}
+use Rattle.plain.proofs.RemovalLemmas.{deconfigure_leaves, removal_leaves}
 use Rattle.plain.proofs.SortedLemmas.{not_below_itself, not_both}
 use Rattle.fixed_order.specs.Names.{AreAllWith}
-use Rattle.fixed_order.specs.Removal.{IsLeastOf}
+use Rattle.fixed_order.specs.Removal.{IsLeastOf, is_other, left_by}
 use mathlib.Core.Logic.{inl, inr}
 
 -- the test of a member's name
@@ -167,3 +170,39 @@ to_remove_test members found answer present so =
 -- what passes the test is present
 pub to_remove_present : (members : List Pkg) (found : Record) → is_to_remove members found ≡ true → IsPresent found
 to_remove_present members found is = (both_true (is_present_state found.state) (not (is_member members found.name)) is).0
+
+-- The names that are left
+
+-- a name passes the test exactly where it is another one
+other_test : (name other : List ℕ) → (is_other name other ≡ true) ↔ (other ≢ name)
+other_test name other = at (bytes_eq other name) refl
+  where
+    at : (b : Bool) → bytes_eq other name ≡ b → (not b ≡ true) ↔ (other ≢ name)
+    at true is = (
+      (λ so. absurd (let e : false ≡ true = so in cc)),
+      (λ differ. absurd (differ (bytes_eq-true other name is))),
+    )
+    at false is = (
+      (λ so same. absurd (let e : true ≡ false = sym (bytes_eq-same other name same) ∙ is in cc)),
+      (λ differ. refl),
+    )
+
+-- behind the next of the removals just the names that it leaves are to be removed
+pub names_left : (u : Universe) (members : List Pkg) (db : List Record) (taken : Step) (names : List (List ℕ)) → HasDistinctNames db
+    → IsNextRemoval u members db taken → AreAllWith (IsToRemove members db) names
+    → AreAllWith (IsToRemove members (after u db taken)) (left_by taken names)
+names_left u members db (step.Unpack name version) names distinct next are = absurd next
+names_left u members db (step.Configure group) names distinct next are = absurd next
+names_left u members db (step.Purge name) names distinct next are = absurd next
+names_left u members db (step.Deconfigure name) names distinct next are =
+    all_with (IsToRemove members db) (IsToRemove members (after u db (step.Deconfigure name))) names
+    (λ other. let both = (deconfigure_leaves u members db name other distinct next.1.has.1).0 in (both.1, both.0)) are
+names_left u members db (step.Remove name) names distinct next are = record {
+  ascending = AllPairs-filter (λ earlier later. name_cmp earlier later ≡ Less) (is_other name) names are.ascending;
+  each = λ other. (
+    (λ within. let kept = Contains-filter (is_other name) names other within in
+        (removal_leaves u members db name other).1 ((are.each other).0 kept.0, (other_test name other).0 kept.1)),
+    (λ goes. let was = (removal_leaves u members db name other).0 goes in
+        Contains-filter_intro (is_other name) names other ((are.each other).1 was.0) ((other_test name other).1 was.1)),
+  );
+}

@@ -9,6 +9,7 @@ mod ground;
 mod key;
 mod members;
 mod named;
+mod needs;
 mod purge;
 mod ranks;
 mod removal;

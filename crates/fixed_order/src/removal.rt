@@ -12,13 +12,14 @@ ghost use Rattle.plain.specs.Order.{AreRemovals, IsNextRemoval, after_all};
 ghost use Rattle.plain.specs.Underway.{is_to_remove};
 ghost use Rattle.fixed_order.specs.Ground.{IsGround, IsUnderwayOn, members_in};
 ghost use Rattle.fixed_order.specs.Names.{AreAllWith};
-ghost use Rattle.fixed_order.specs.Removal.{IsLeastOf};
+ghost use Rattle.fixed_order.specs.Removal.{IsLeastOf, is_other, left_by};
 
 use crate::ground::Ground;
 use crate::key::{Key, in_order};
+use crate::needs::Needs;
 use crate::state::is_installed;
-use plancheck::{apply, remove_failing};
-use rules::{Step, allowed_where_none_fails};
+use plancheck::apply;
+use rules::{Name, Step};
 use status::{Records, StateRecord};
 use std::alloc::AllocError;
 use universe::Universe;
@@ -64,31 +65,25 @@ fn to_remove<'p, 'a>(
     Ok(ordered)
 }
 
-// Whether the removal of the name is allowed.
-fn can_be_removed(db: &Records<'_, '_>, universe: &Universe<'_, '_>, name: &[u8]) -> bool
-    ensures { IsTrue result ↔ Allowed universe.now db.now (Remove name.now) }
-{
-    allowed_where_none_fails();
-    remove_failing(db, name).is_none()
-}
-
 // The least of the names whose removal is allowed, if there is one.
 fn least_removable<'k, 'n>(
     db: &Records<'_, '_>,
     universe: &Universe<'_, '_>,
     keys: &'k [Key<'n>],
-) -> Option<&'k Key<'n>>
+    needs: &mut Needs<'n>,
+) -> Result<Option<&'k Key<'n>>, AllocError>
     requires { IsAscending keys.now }
-    ensures { MatchOption result
+    ensures { IfOk result (λ found. MatchOption found
         (All (λ name. ¬ Allowed universe.now db.now (Remove name)) keys.now)
-        (λ key. IsLeastOf (λ name. Allowed universe.now db.now (Remove name)) keys.now key.now) }
+        (λ key. IsLeastOf (λ name. Allowed universe.now db.now (Remove name)) keys.now key.now)) }
 {
     for key in keys {
-        if can_be_removed(db, universe, key.name()) {
-            return Some(key);
+        let goes = needs.may_go(db, universe, key.name())?;
+        if goes {
+            return Ok(Some(key));
         }
     }
-    None
+    Ok(None)
 }
 
 // The least of the names that is installed, if there is one.
@@ -110,24 +105,51 @@ fn least_installed<'k, 'n>(db: &Records<'_, '_>, keys: &'k [Key<'n>]) -> Option<
 fn next_removal<'p, 'a>(
     ground: &Ground<'_, '_, 'p, 'a>,
     db: &Records<'p, 'a>,
+    keys: &[Key<'a>],
+    needs: &mut Needs<'a>,
 ) -> Result<Option<Step>, AllocError>
     requires ground { IsGround ground.now }
     requires underway { IsUnderwayOn ground.now db.now }
+    requires keys { AreAllWith (IsToRemove (members_in ground.now) db.now) keys.now }
     ensures { IfOk result (λ step. MatchOption step (HasNothingToRemove (members_in ground.now) db.now)
         (IsNextRemoval ground.now.universe.now (members_in ground.now) db.now)) }
 {
-    let keys = to_remove(ground, db)?;
-    match least_removable(db, ground.universe, keys.as_slice()) {
+    match least_removable(db, ground.universe, keys, needs)? {
         Some(key) => Ok(Some(Step::Remove(key.try_name(ground.alloc)?))),
-        None => match least_installed(db, keys.as_slice()) {
+        None => match least_installed(db, keys) {
             Some(key) => Ok(Some(Step::Deconfigure(key.try_name(ground.alloc)?))),
             None => Ok(None),
         },
     }
 }
 
-/// Takes the removals and deconfigures, and answers them. For each it costs a look at every record, and what
-/// `plancheck::remove_failing` does of each name that is to be removed, up to the one that goes. Memory alone can fail.
+// Whether the key is of another name.
+fn is_other(name: &Name, key: &Key<'_>) -> bool
+    ensures { result ≡ is_other name.now key.now }
+{
+    key.name() != name.as_bytes()
+}
+
+// Leaves out the name.
+fn leave_out(keys: &mut Vec<Key<'_>>, name: &Name)
+    ensures { keys.new.items ≡ filter (is_other name.now) keys.old.items }
+{
+    keys.retain(|key| is_other(name, key));
+}
+
+// Leaves out the name that the step removes.
+fn leave_removed(keys: &mut Vec<Key<'_>>, step: &Step)
+    ensures { keys.new.items ≡ left_by step.now keys.old.items }
+{
+    match step {
+        Step::Remove(name) => leave_out(keys, name),
+        _ => {}
+    }
+}
+
+/// Takes the removals and deconfigures, and answers them. For each it costs what `Needs::may_go` does of each name that is to be
+/// removed, up to the one that goes: no more than the look at one clause, but for a name that goes or of which that clause
+/// doesn't need it any more. Memory alone can fail.
 pub(crate) fn removals<'p, 'a>(
     ground: &Ground<'_, '_, 'p, 'a>,
     db: &mut Records<'p, 'a>,
@@ -139,9 +161,12 @@ pub(crate) fn removals<'p, 'a>(
     ensures underway { IfOk result (λ _. IsUnderwayOn ground.now db.new) }
     ensures nothing { IfOk result (λ _. HasNothingToRemove (members_in ground.now) db.new) }
 {
+    let mut keys = to_remove(ground, db)?;
+    let mut needs = Needs::new(ground.alloc);
     let mut steps = Vec::new(ground.alloc);
-    while let Some(step) = next_removal(ground, db)? {
+    while let Some(step) = next_removal(ground, db, keys.as_slice(), &mut needs)? {
         apply(db, ground.universe, None, &step)?;
+        leave_removed(&mut keys, &step);
         steps.push(step)?;
     }
     Ok(steps)

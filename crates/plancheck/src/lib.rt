@@ -15,6 +15,7 @@ mod unpack;
 pub use check::check_plan;
 pub use held::{is_not_held, stands_as};
 pub use quiet::is_quiet;
+pub use remove::is_met_without;
 pub use step::{apply, legal};
 pub use table::{
     configure_failing, deconfigure_failing, purge_failing, remove_failing, unpack_failing,

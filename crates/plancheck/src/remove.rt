@@ -153,6 +153,43 @@ fn manages_without_all(
         .all(|clause| manages_without(db, removed, there, clause))
 }
 
+fn is_other_or_managed_without(
+    db: &Records<'_, '_>,
+    name: &[u8],
+    removed: &StateRecord<'_, '_>,
+    clause: &Clause<'_>,
+) -> bool
+    ensures { IsTrue result ↔ (removed.now.name ≡ name.now → IsPresent removed.now → IsMetWithout db.now removed.now clause.now) }
+{
+    match removed.present_pkg() {
+        None => true,
+        Some(there) => {
+            !is_same(removed.name(), name) || manages_without(db, removed, there, clause)
+        }
+    }
+}
+
+fn are_others_or_managed_without(
+    db: &Records<'_, '_>,
+    mut removed: Holders<'_, '_, '_>,
+    name: &[u8],
+    clause: &Clause<'_>,
+) -> bool
+    ensures { IsTrue result ↔ All (λ removed. removed.name ≡ name.now → IsPresent removed → IsMetWithout db.now removed clause.now) removed.entry }
+{
+    removed.all(|removed| is_other_or_managed_without(db, name, removed, clause))
+}
+
+/// Whether the clause manages without the present package of this name: if that matches it, a package of another name that
+/// stands does too. Where it is a clause of an installed package of another name and doesn't manage, the name is needed, by
+/// that one clause. For each of its atoms linear in the records that have or provide the atom's name.
+pub fn is_met_without(db: &Records<'_, '_>, name: &[u8], clause: &Clause<'_>) -> bool
+    ensures { IsTrue result
+        ↔ All (λ removed. removed.name ≡ name.now → IsPresent removed → IsMetWithout db.now removed clause.now) db.now }
+{
+    are_others_or_managed_without(db, db.holders(name), name, clause)
+}
+
 // Whether each clause of the other record that the package matches is matched by another.
 fn manages_without_needs(
     db: &Records<'_, '_>,

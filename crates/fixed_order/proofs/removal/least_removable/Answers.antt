@@ -7,11 +7,11 @@ use Rattle.rules.specs.declared.step.Step.TheVariants.{Remove}
 use Rattle.fixed_order.proofs.RemovalLemmas.{least_at}
 use Rattle.fixed_order.proofs.removal.least_removable.Goals as goal
 
-pub returns-then-can_be_removed : goal.returns-then-can_be_removed
-returns-then-can_be_removed c = least_at (λ name. Allowed c.args.universe.now c.args.db.now (Remove name)) c.args.keys.now
+pub returns-then-goes : goal.returns-then-goes
+returns-then-goes c = least_at (λ name. Allowed c.args.universe.now c.args.db.now (Remove name)) c.args.keys.now
     c.loop-key.key-index c.key-item.result c.requires c.loop-key-test.true c.key-item.is c.loop-key.invariant
     (subst (λ (name : List ℕ). Allowed c.args.universe.now c.args.db.now (Remove name)) c.name.ensures
-    (c.can_be_removed.ensures.0 c.if-can_be_removed.true))
+    (c.in_ok-goes.ensures.0 c.if-goes.true))
 
 pub returns : goal.returns
 returns c = up_to_end (All (λ name. ¬ Allowed c.args.universe.now c.args.db.now (Remove name))) c.args.keys.now

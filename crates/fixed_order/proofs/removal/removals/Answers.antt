@@ -4,14 +4,19 @@ use Rattle.rules.specs.Database.{Record}
 use Rattle.rules.specs.Run.{after}
 use Rattle.rules.specs.declared.step.Step.{Step}
 use Rattle.plain.specs.Order.{AreNextSteps, IsNextRemoval}
-use Rattle.plain.specs.Change.{HasNothingToRemove}
+use Rattle.plain.specs.Change.{HasNothingToRemove, IsToRemove}
 use Rattle.plain.specs.Underway.{removals_left}
 use Rattle.plain.proofs.GrowLemmas.{removals_end, removals_grow}
 use Rattle.plain.proofs.RemovalLemmas.{removals_are_allowed}
 use Rattle.fixed_order.proofs.FoundLemmas.{where_none, where_some}
 use Rattle.fixed_order.specs.Ground.{IsUnderwayOn, members_in}
-use Rattle.fixed_order.proofs.RemovalLemmas.{removal_unlisted}
+use Rattle.fixed_order.specs.Names.{AreAllWith}
+use Rattle.fixed_order.proofs.RemovalLemmas.{names_left, removal_unlisted}
 use Rattle.fixed_order.proofs.removal.removals.Goals as goal
+
+pub next_removal-requires-clause-keys : goal.next_removal-requires-clause-keys
+next_removal-requires-clause-keys c = subst (AreAllWith (IsToRemove (members_in c.args.ground.now) c.loop-steps.db)) (sym c.as_slice.ensures.value)
+    c.loop-steps.invariant.keys
 
 pub apply-requires-clause-listed : goal.apply-requires-clause-listed
 apply-requires-clause-listed c = removal_unlisted c.args.ground.now.universe.now (members_in c.args.ground.now) c.loop-steps.db
@@ -32,6 +37,13 @@ loop-steps-preserved c = record {
       c.args.ground.now.universe.now c.args.db.now steps (after c.args.ground.now.universe.now c.loop-steps.db c.in-Some.step)) (search rules)
       (removals_grow c.args.ground.now.universe.now (members_in c.args.ground.now) c.args.db.now c.loop-steps.db c.loop-steps.steps.items
       c.in-Some.step c.loop-steps.invariant.so_far (where_some (HasNothingToRemove (members_in c.args.ground.now) c.loop-steps.db) (IsNextRemoval c.args.ground.now.universe.now (members_in c.args.ground.now) c.loop-steps.db) _ c.in-Some.step c.in-Some.is c.in_ok-step.ensures)));
+  keys = subst (λ (db : List Record). AreAllWith (IsToRemove (members_in c.args.ground.now) db) c.leave_removed.new.keys.items)
+      (sym c.in_ok-apply.ensures.after)
+      (subst (AreAllWith (IsToRemove (members_in c.args.ground.now) (after c.args.ground.now.universe.now c.loop-steps.db c.in-Some.step)))
+      (sym c.leave_removed.ensures)
+      (names_left c.args.ground.now.universe.now (members_in c.args.ground.now) c.loop-steps.db c.in-Some.step c.loop-steps.keys.items
+      c.loop-steps.invariant.underway.distinct (where_some (HasNothingToRemove (members_in c.args.ground.now) c.loop-steps.db) (IsNextRemoval c.args.ground.now.universe.now (members_in c.args.ground.now) c.loop-steps.db) _ c.in-Some.step c.in-Some.is c.in_ok-step.ensures)
+      c.loop-steps.invariant.keys));
 }
 
 pub returns-clause-removals : goal.returns-clause-removals

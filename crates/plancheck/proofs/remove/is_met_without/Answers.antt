@@ -1,0 +1,15 @@
+-- What doesn't hold the name hasn't it.
+use Rattle.std.proofs.Common.{◌≡◌, ◌∙◌, true≢false, sym}
+use Rattle.rules.specs.Database.{IsPresent, Record}
+use Rattle.rules.specs.Remove.{IsMetWithout}
+use Rattle.status.specs.HolderLaws.{holders-all, named-holds}
+use Rattle.plancheck.proofs.remove.is_met_without.Goals as goal
+
+pub returns : goal.returns
+returns c =
+    let P : Record → Type 0 = λ removed. removed.name ≡ c.args.name.now → IsPresent removed → IsMetWithout c.args.db.now removed c.args.clause.now in
+    let both = holders-all P c.args.name.now c.args.db.now c.holders.result c.holders.ensures
+    (λ removed not_held named. absurd (true≢false (sym (named-holds c.args.name.now removed named) ∙ not_held))) in (
+      λ all. both.0 (c.are_others_or_managed_without.ensures.0 all),
+      λ all. c.are_others_or_managed_without.ensures.1 (both.1 all),
+    )
