@@ -1,8 +1,7 @@
 -- One step more on the way through a plan: what is remembered, and what a crash leaves.
-use Rattle.std.proofs.Common.{◌≡◌, ◌≢◌, ◌⊎◌, inl, inr, ⊎_elim, ℕ, Option, List, [], ◌∷◌, ◌++◌, length, refl, sym, ◌∙◌, ap, subst, append_assoc, append-nil, ◌≤◌, ◌^◌, Some}
+use Rattle.std.proofs.Common.{◌≡◌, ◌≢◌, inl, inr, ⊎_elim, ℕ, Option, List, [], ◌∷◌, ◌++◌, length, refl, sym, ◌∙◌, ap, subst, append_assoc, append-nil, ◌≤◌, ◌^◌, Some}
 use Rattle.status_store.specs.Applicable.{handed_in, refused_name}
 use Rattle.status_store.specs.Slots.{slot_records}
-use Rattle.std.specs.Prelude.{Ok}
 use Rattle.disk.specs.Facts.{DiskFacts, LeavesOnly, Synced}
 use Rattle.disk.specs.RunLaws.{leaves_now, started, then_runs, weaker}
 use Rattle.status_text.specs.Slot.{FileSlot}
@@ -14,8 +13,8 @@ use Rattle.journal.specs.Payload.{Recorded}
 use Rattle.journal.specs.declared.error.AppendError.{AppendError}
 use Rattle.journal.specs.declared.error.AppendError.TheVariants as error
 use Rattle.journal.specs.declared.ledger.Ledger.{Ledger}
-use Rattle.apply.specs.Planned.{BeginsWith, HasNext}
-use Rattle.apply.specs.Progress.{GoesOn, IsPartWay, IsUpTo, ShowsOrNext, ShowsUpTo}
+use Rattle.apply.specs.Planned.{BeginsWith}
+use Rattle.apply.specs.Progress.{IsPartWay, ShowsOrNext, ShowsUpTo}
 
 leads_push : (arch : List ℕ) (slots : List FileSlot) (steps : List Recorded) (r : Recorded) (last : List FileSlot) → Leads arch slots steps last
     → IsApplicable arch r last → Leads arch slots (steps ++ r ∷ []) (slots_left arch r last)

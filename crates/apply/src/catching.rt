@@ -1,6 +1,7 @@
 //! A journal that is brought to the end of a plan, step by step.
 ghost use Rattle.std.specs.Prelude.{◌≡◌, ◌≢◌, ◌↔◌, ℕ, List, ◌+◌, ◌-◌, ◌^◌, true, IfErr, IsErrOf, IsTrue, OnErr, OnOk, length, map, min};
 ghost use Rattle.std.specs.Option.{option_copied};
+ghost use Rattle.std.specs.Result.{IsOk};
 ghost use Rattle.disk.specs.Facts.{LeavesOnly};
 ghost use Rattle.journal.specs.Ledger.{history_of, IsSettled};
 ghost use Rattle.journal.specs.declared.error.AppendError.TheVariants as append_error;
@@ -39,6 +40,9 @@ fn append_missing<'a, 's, D: Disk>(
     ensures still { IfErr result (λ e. e ≢ append_error.Disk → D.honest disk.old → IsSettled ledger.old (D.facts disk.old) → IsSettled ledger.new (D.facts disk.new)) }
     ensures failed { IsErrOf result append_error.Disk → (ledger.new.broken ≡ true) × (D.faults disk.new ≡ min (D.faults disk.old + 1) (2 ^ 64 - 1)) }
     ensures count { OnOk result (D.faults disk.new ≡ D.faults disk.old) }
+    ensures already { planned steps.now (map option_copied texts.now) ≡ (history_of ledger.old).steps
+        → IsOk result × (ledger.new ≡ ledger.old) × (disk.new ≡ disk.old) }
+    ensures broken { IsTrue ledger.old.broken → (history_of ledger.new ≡ history_of ledger.old) × (disk.new ≡ disk.old) }
 {
     let begun = ledger.history().len();
     for i in begun..steps.len() {
@@ -88,6 +92,12 @@ pub fn catch_up<'a, 's, D: Disk>(
     ensures done { OnOk result (IsCaughtUp (planned steps.now (map option_copied texts.now)) (history_of ledger.old) (history_of ledger.new)) }
     ensures settled { OnOk result (D.honest disk.old → IsSettled ledger.old (D.facts disk.old) → IsSettled ledger.new (D.facts disk.new)) }
     ensures count { OnOk result (D.faults disk.new ≡ D.faults disk.old) }
+
+    // Where no step is missing the call succeeds and does nothing, and behind a failed disk it does nothing.
+    ensures already { IsOfPlan start.now (planned steps.now (map option_copied texts.now)) (history_of ledger.old)
+        → planned steps.now (map option_copied texts.now) ≡ (history_of ledger.old).steps
+        → IsOk result × (ledger.new ≡ ledger.old) × (disk.new ≡ disk.old) }
+    ensures broken { IsTrue ledger.old.broken → (history_of ledger.new ≡ history_of ledger.old) × (disk.new ≡ disk.old) }
 
     // An error keeps each step that was acknowledged, also in a crash, which may leave the next one beside.
     ensures fault { IfErr result (IsCatchUpFault start.now (planned steps.now (map option_copied texts.now)) ledger.old ledger.new) }

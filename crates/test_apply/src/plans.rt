@@ -7,8 +7,11 @@ use std::alloc::{AllocError, Global};
 use std::test::Fail;
 
 const START: &[u8] = b"Package: foo\nStatus: deinstall ok config-files\n\n";
+
 const BAR: &[u8] = b"Package: bar\nVersion: 1.0\nArchitecture: all\n";
+
 const PLAN: &[u8] = b"plan 1\nunpack bar 1.0\nconfigure bar\npurge foo\n";
+
 const END: &[u8] =
     b"Package: bar\nStatus: install ok installed\nVersion: 1.0\nArchitecture: all\n\n";
 
@@ -123,10 +126,22 @@ fn another_journal_is_a_mismatch(rt: HostRuntime) -> Result<(), Fail> {
     let shorter = b"plan 1\nunpack bar 1.0\nconfigure bar\n".as_slice();
     let other = b"Package: bar\nVersion: 1.0\nArchitecture: all\nSection: misc\n".as_slice();
     assert!(rt; is_refused(alloc, START, PLAN, BAR, "3")?);
-    assert!(rt; is_refused(alloc, b"", PLAN, BAR, mismatch)?, "another start");
-    assert!(rt; is_refused(alloc, START, exchanged, BAR, mismatch)?, "another order");
-    assert!(rt; is_refused(alloc, START, shorter, BAR, mismatch)?, "a longer journal");
-    assert!(rt; is_refused(alloc, START, PLAN, other, mismatch)?, "another stanza");
+    assert!(rt;
+        is_refused(alloc, b"", PLAN, BAR, mismatch)?,
+        "another start"
+    );
+    assert!(rt;
+        is_refused(alloc, START, exchanged, BAR, mismatch)?,
+        "another order"
+    );
+    assert!(rt;
+        is_refused(alloc, START, shorter, BAR, mismatch)?,
+        "a longer journal"
+    );
+    assert!(rt;
+        is_refused(alloc, START, PLAN, other, mismatch)?,
+        "another stanza"
+    );
     Ok(())
 }
 

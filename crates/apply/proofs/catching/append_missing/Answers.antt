@@ -1,5 +1,8 @@
-use Rattle.std.proofs.Common.{◌≡◌, ◌≢◌, ◌↔◌, ◌∙◌, ◌+◌, ◌<◌, ◌≤◌, ◌∷◌, ◌++◌, [], ℕ, List, Option, Some, None, get_or, length, map, drop, arith, rules, refl, sym, ap, subst}
+use Rattle.std.proofs.Common.{◌≡◌, ◌≢◌, ◌∙◌, ◌+◌, ◌∷◌, ◌++◌, List, None, get_or, length, map, drop, arith, true, refl, sym, ap, subst}
 use Rattle.std.specs.Option.{option_copied}
+use Rattle.std.specs.Prelude.{Err}
+use Rattle.journal.specs.declared.error.AppendError.TheVariants as error
+use Rattle.journal.specs.declared.ledger.Ledger.{Ledger}
 use Rattle.journal.specs.Adding.{recorded_of}
 use Rattle.journal.specs.History.{History}
 use Rattle.journal.specs.Ledger.{history_of}
@@ -19,6 +22,9 @@ loop-i-init g c =
     let had = c.history-begun.ensures in
     record {
       within = omega (arith, ap length had, no_longer plan old.steps c.requires.begun, length-plan steps c.args.texts.now c.requires.texts);
+      begun = omega (arith, ap length had);
+      first = λ none. (refl, refl);
+      broken = λ yes. (refl, refl);
       part_way = begun plan old c.requires.begun;
       left = subst (λ (l : List Recorded). plan ≡ old.steps ++ planned (drop (length l) steps) (drop (length l) texts)) (sym had)
           (missing_is steps texts old.steps c.requires.begun);
@@ -94,6 +100,9 @@ loop-i-preserved g c =
     let done = c.in-Ok.ensures in
     record {
       within = omega (arith, c.loop-i-test.true);
+      begun = omega (arith, known.begun);
+      first = λ none. absurd (omega (arith, known.begun, none));
+      broken = λ yes. absurd (cc (done.reopen (subst (λ (l : Ledger). l.broken ≡ true) (sym (known.broken yes).0) yes)));
       part_way = subst (λ (h : History). IsPartWay plan old h) (sym done.follows) (one_more plan old (history_of now) r later known.part_way next done.taken);
       left = left_is plan (history_of now).steps (history_of c.append.new.ledger).steps r later next (ap (λ (h : History). h.steps) done.follows);
       honest = (λ h. known.honest.0 (c.append.ensures.honest.0 h), λ h. c.append.ensures.honest.1 (known.honest.1 h));
@@ -104,3 +113,22 @@ loop-i-preserved g c =
       settled = λ honest settled. done.settled (known.honest.1 honest) (known.settled honest settled);
       count = done.count ∙ known.count;
     }
+
+pub returns-in-Err-clause-already : goal.returns-in-Err-clause-already
+returns-in-Err-clause-already g c = λ all.
+    absurd (omega (arith, c.loop-i.invariant.begun, c.loop-i-test.true, ap length all, length-plan c.args.steps.now c.args.texts.now c.requires.texts))
+
+pub returns-in-Err-clause-broken : goal.returns-in-Err-clause-broken
+returns-in-Err-clause-broken g c = λ yes.
+    let same = c.loop-i.invariant.broken yes in
+    let is : Err c.in-Err.e ≡ Err error.Reopen = c.in-Err.ensures.reopen (subst (λ (l : Ledger). l.broken ≡ true) (sym same.0) yes) in
+    let other : c.in-Err.e ≢ error.Disk = λ disk. cc (is, disk) in
+    (c.in-Err.ensures.remembered ∙ ap history_of same.0, (c.in-Err.ensures.refused other).0 ∙ same.1)
+
+pub returns-clause-already : goal.returns-clause-already
+returns-clause-already g c = λ all.
+    let known = c.loop-i.invariant in
+    let here : c.loop-i.i ≡ length (history_of c.args.ledger.now).steps =
+    omega (arith, known.begun, known.within, c.loop-i-test.false, ap length all, length-plan c.args.steps.now c.args.texts.now c.requires.texts) in
+    let same = known.first here in
+    (refl, same.0, same.1)

@@ -1,5 +1,5 @@
 -- How far the run has come: part of the way, with the steps from this place on before it.
-use Rattle.std.proofs.Common.{◌≡◌, ◌↔◌, ◌++◌, ◌≤◌, drop, length, map}
+use Rattle.std.proofs.Common.{◌≡◌, ◌↔◌, ◌++◌, ◌≤◌, drop, length, map, IsTrue}
 use Rattle.std.specs.Option.{option_copied}
 use Rattle.disk.specs.Facts.{LeavesOnly}
 use Rattle.journal.specs.Ledger.{history_of, IsSettled}
@@ -10,6 +10,9 @@ use Rattle.apply.proofs.catching.append_missing.Given as goal
 abbrev pub invariant-loop-i : goal.invariant-loop-i
 invariant-loop-i g l = record {
   within : l.i ≤ length l.steps;
+  begun : length (history_of l.fn.ledger).steps ≤ l.i;
+  first : l.i ≡ length (history_of l.fn.ledger).steps → (l.ledger ≡ l.fn.ledger) × (l.disk ≡ l.fn.disk);
+  broken : IsTrue l.fn.ledger.broken → (l.ledger ≡ l.fn.ledger) × (l.disk ≡ l.fn.disk);
   part_way : IsPartWay (planned l.steps (map option_copied l.texts)) (history_of l.fn.ledger) (history_of l.ledger);
   left : planned l.steps (map option_copied l.texts)
       ≡ (history_of l.ledger).steps ++ planned (drop l.i l.steps) (drop l.i (map option_copied l.texts));

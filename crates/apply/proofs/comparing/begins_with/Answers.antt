@@ -1,8 +1,7 @@
-use Rattle.std.proofs.Common.{◌≡◌, ◌↔◌, ◌∙◌, ◌+◌, ◌<◌, ◌≤◌, ◌∷◌, [], ℕ, List, Option, Some, None, get_or, length, map, drop, arith, rules, true, false, refl, sym, IsTrue}
+use Rattle.std.proofs.Common.{◌≡◌, ◌∙◌, ◌+◌, ◌<◌, None, get_or, length, map, drop, arith, refl, sym}
 use Rattle.std.proofs.Math.ListN.{drop_of_length-le}
 use Rattle.std.specs.Option.{option_copied}
 use Rattle.journal.specs.Adding.{recorded_of}
-use Rattle.journal.specs.Payload.{Recorded}
 use Rattle.apply.specs.Planned.{BeginsWith, planned}
 use Rattle.apply.proofs.PlanLemmas.{begins_all, begins_not, begins_same, length-plan, no_longer, step_in_front, taken_in_front}
 use Rattle.apply.proofs.comparing.begins_with.Goals as goal
