@@ -28,14 +28,14 @@ fn is_met_by_another(db: &Records<'_, '_>, name: &[u8], clause: &Clause<'_>) -> 
     false
 }
 
-// Whether one of the clauses needs the package: it matches, and no other that stands does.
+/// Whether the clause needs the package: it matches, and no other that stands does.
+pub(crate) fn is_needed_by(db: &Records<'_, '_>, pkg: &Pkg<'_>, clause: &Clause<'_>) -> bool {
+    matches_some(pkg, clause.as_slice()) && !is_met_by_another(db, pkg.name(), clause)
+}
+
+// Whether one of the clauses needs the package.
 fn some_needs(db: &Records<'_, '_>, pkg: &Pkg<'_>, clauses: &[Clause<'_>]) -> bool {
-    for clause in clauses {
-        if matches_some(pkg, clause.as_slice()) && !is_met_by_another(db, pkg.name(), clause) {
-            return true;
-        }
-    }
-    false
+    clauses.iter().any(|clause| is_needed_by(db, pkg, clause))
 }
 
 // Whether the record is installed and needs the package.
@@ -87,18 +87,6 @@ pub(crate) fn broken_by(
         }
     }
     Ok(names)
-}
-
-/// Whether a present package of another name breaks this one.
-pub(crate) fn is_broken(db: &Records<'_, '_>, pkg: &Pkg<'_>) -> bool {
-    for found in db.as_slice() {
-        if let Some(other) = found.present_pkg() {
-            if found.name() != pkg.name() && breaks_other(other, pkg) {
-                return true;
-            }
-        }
-    }
-    false
 }
 
 /// The names of the present packages of other names that break the one of this name.

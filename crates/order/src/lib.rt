@@ -3,14 +3,21 @@
 // `plancheck::legal` before it is taken, so that what is answered holds whatever is tried. The main call is `order`.
 #![tactic(auto)]
 
+mod changes;
 mod clear;
 mod end;
+mod hurdle;
+mod install;
+mod knots;
+mod needed;
 mod one_each;
 mod ordered;
 mod ordering;
 mod ring;
 mod strategy;
 mod tidy;
+mod tried;
+mod way;
 
 pub use one_each::is_one_each;
 pub use ordered::Ordered;

@@ -2,6 +2,7 @@
 // first guess at a group that can be configured together; whether it is one, the judge says.
 
 use crate::clear::present;
+use crate::knots::lowest;
 use forward_steps::{Members, is_waiting};
 use indexmap::IndexSet;
 use plancheck_end::{is_met, matches_some};
@@ -26,18 +27,46 @@ fn unconfigured_match<'a>(db: &Records<'_, 'a>, clause: &Clause<'_>) -> Option<&
     None
 }
 
-// Puts in what the package needs of what isn't configured.
-fn insert_needs<'a>(
+// What the package needs of what isn't configured.
+fn needs_of_package<'a>(
+    alloc: Global,
     db: &Records<'_, 'a>,
     pkg: &Pkg<'_>,
-    names: &mut IndexSet<&'a [u8]>,
-) -> Result<(), AllocError> {
+) -> Result<Vec<&'a [u8]>, AllocError> {
+    let mut names = Vec::new(alloc);
     for clause in pkg.depends() {
         if !matches_some(pkg, clause.as_slice()) && !is_met(db, clause) {
             if let Some(name) = unconfigured_match(db, clause) {
-                names.insert(name)?;
+                names.push(name)?;
             }
         }
+    }
+    Ok(names)
+}
+
+/// What the present package of the name needs of what isn't configured. For each of its Depends atoms linear in the records
+/// that have or provide its name. Memory alone can fail.
+pub(crate) fn needs_of<'a>(
+    alloc: Global,
+    db: &Records<'_, 'a>,
+    name: &[u8],
+) -> Result<Vec<&'a [u8]>, AllocError> {
+    match present(db, name) {
+        Some(pkg) => needs_of_package(alloc, db, pkg),
+        None => Ok(Vec::new(alloc)),
+    }
+}
+
+// Puts in what the name needs.
+fn insert_needs<'a>(
+    alloc: Global,
+    db: &Records<'_, 'a>,
+    name: &[u8],
+    names: &mut IndexSet<&'a [u8]>,
+) -> Result<(), AllocError> {
+    let needs = needs_of(alloc, db, name)?;
+    for need in needs.as_slice() {
+        names.insert(*need)?;
     }
     Ok(())
 }
@@ -55,9 +84,7 @@ fn needed_with<'a>(
         let Some(next) = names.get_index(place).copied() else {
             return Ok(Some(names));
         };
-        if let Some(pkg) = present(db, next) {
-            insert_needs(db, pkg, &mut names)?;
-        }
+        insert_needs(alloc, db, next, &mut names)?;
     }
     Ok(None)
 }
@@ -73,18 +100,36 @@ fn copies(alloc: Global, names: &[&[u8]]) -> Result<Vec<Name>, AllocError> {
     Ok(copies)
 }
 
-/// The fewest names that one of the waiting ones needs in turn, itself among them. For each it costs the clauses of those that
-/// it needs, and no more of them are looked at than the fewest found before. Memory alone can fail.
+// The names that wait, in the order of the records.
+fn waiting_in<'a>(
+    alloc: Global,
+    db: &Records<'_, 'a>,
+    members: &Members<'_>,
+) -> Result<IndexSet<&'a [u8]>, AllocError> {
+    let mut names = IndexSet::new(alloc);
+    for found in db.as_slice() {
+        if is_waiting(members, found) {
+            names.insert(found.name())?;
+        }
+    }
+    Ok(names)
+}
+
+/// The fewest names that one of the waiting ones needs in turn, itself among them. Only those are looked at that need no waiting
+/// name which doesn't need them, and of names that need each other one. Linear in the records and in the clauses of what isn't
+/// configured, where each need waits too. Memory alone can fail.
 pub(crate) fn fewest_in_need(
     alloc: Global,
     db: &Records<'_, '_>,
     members: &Members<'_>,
 ) -> Result<Vec<Name>, AllocError> {
+    let waiting = waiting_in(alloc, db, members)?;
+    let lowest = lowest(alloc, db, &waiting)?;
     let mut found = Vec::new(alloc);
     let mut fewest = usize::MAX;
-    for waiting in db.as_slice() {
-        if is_waiting(members, waiting) {
-            if let Some(needed) = needed_with(alloc, db, waiting.name(), fewest)? {
+    for place in lowest.as_slice() {
+        if let Some(name) = waiting.get_index(*place) {
+            if let Some(needed) = needed_with(alloc, db, name, fewest)? {
                 fewest = needed.len();
                 found = copies(alloc, needed.as_slice())?;
             }

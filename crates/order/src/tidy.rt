@@ -4,11 +4,14 @@
 ghost use Rattle.std.specs.Prelude.{IfOk};
 ghost use Rattle.forward_steps.specs.Door.{IsGround, IsReached};
 
+use crate::hurdle::{Hurdles, Way};
+use crate::needed::{Needs, remove_unneeded};
 use crate::ring::fewest_in_need;
+use crate::tried::Tried;
 use forward_steps::{Door, Ground, group_of, in_order, leaving, take, waiting};
 use rules::{Name, Step};
 use status::Records;
-use std::alloc::AllocError;
+use std::alloc::{AllocError, Global};
 use std::slice::from_ref;
 
 /// Configures the name alone, if it is allowed.
@@ -25,10 +28,43 @@ pub(crate) fn configure_alone<'p, 'a>(
     Ok(taken)
 }
 
+// Whether something is known to hinder the waiting name from being configured alone.
+fn is_hindered<'a>(
+    door: &Door<'_, 'a>,
+    hurdles: &mut Hurdles<'a>,
+    name: &Name,
+) -> Result<bool, AllocError> {
+    let lacks = hurdles.has_present(door, name.as_bytes(), Way::Lack)?;
+    if lacks {
+        return Ok(true);
+    }
+    let broken = hurdles.has_present(door, name.as_bytes(), Way::Broken)?;
+    Ok(broken)
+}
+
+// Configures the waiting name alone, if it can be.
+fn configure_waiting_alone<'p, 'a>(
+    ground: &Ground<'_, '_, 'p, 'a>,
+    door: &mut Door<'p, 'a>,
+    hurdles: &mut Hurdles<'a>,
+    name: &Name,
+) -> Result<bool, AllocError>
+    requires reached { IsReached ground.now door.old }
+    ensures reached { IfOk result (λ _. IsReached ground.now door.new) }
+{
+    let hindered = is_hindered(door, hurdles, name)?;
+    if hindered {
+        return Ok(false);
+    }
+    let taken = configure_alone(ground, door, name)?;
+    Ok(taken)
+}
+
 // Configures each of the names that can be alone, and answers whether one was.
 fn configure_each<'p, 'a>(
     ground: &Ground<'_, '_, 'p, 'a>,
     door: &mut Door<'p, 'a>,
+    hurdles: &mut Hurdles<'a>,
     names: &[Name],
 ) -> Result<bool, AllocError>
     requires reached { IsReached ground.now door.old }
@@ -36,10 +72,27 @@ fn configure_each<'p, 'a>(
 {
     let mut moved = false;
     for name in names {
-        let taken = configure_alone(ground, door, name)?;
+        let taken = configure_waiting_alone(ground, door, hurdles, name)?;
         moved = moved || taken;
     }
     Ok(moved)
+}
+
+// Those of the waiting names that no present package breaks: no other can be in a group.
+fn unbroken_among<'a>(
+    alloc: Global,
+    door: &Door<'_, 'a>,
+    hurdles: &mut Hurdles<'a>,
+    names: &[Name],
+) -> Result<Vec<Name>, AllocError> {
+    let mut unbroken = Vec::new(alloc);
+    for name in names {
+        let broken = hurdles.has_present(door, name.as_bytes(), Way::Broken)?;
+        if !broken {
+            unbroken.push(name.try_copy(alloc)?)?;
+        }
+    }
+    Ok(unbroken)
 }
 
 // Configures the fewest waiting names that need each other, if the judge lets them.
@@ -63,12 +116,14 @@ fn configure_ring<'p, 'a>(
 fn configure_group<'p, 'a>(
     ground: &Ground<'_, '_, 'p, 'a>,
     door: &mut Door<'p, 'a>,
+    hurdles: &mut Hurdles<'a>,
     names: &[Name],
 ) -> Result<bool, AllocError>
     requires reached { IsReached ground.now door.old }
     ensures reached { IfOk result (λ _. IsReached ground.now door.new) }
 {
-    let group = group_of(ground.alloc, &door.db, names)?;
+    let unbroken = unbroken_among(ground.alloc, door, hurdles, names)?;
+    let group = group_of(ground.alloc, &door.db, unbroken.as_slice())?;
     match group {
         None => Ok(false),
         Some(names) => {
@@ -82,12 +137,13 @@ fn configure_group<'p, 'a>(
 fn configure_waiting<'p, 'a>(
     ground: &Ground<'_, '_, 'p, 'a>,
     door: &mut Door<'p, 'a>,
+    hurdles: &mut Hurdles<'a>,
 ) -> Result<bool, AllocError>
     requires reached { IsReached ground.now door.old }
     ensures reached { IfOk result (λ _. IsReached ground.now door.new) }
 {
     let names = waiting(ground.alloc, &door.db, ground.members)?;
-    let moved = configure_each(ground, door, names.as_slice())?;
+    let moved = configure_each(ground, door, hurdles, names.as_slice())?;
     if moved {
         return Ok(true);
     }
@@ -95,7 +151,7 @@ fn configure_waiting<'p, 'a>(
     if ringed {
         return Ok(true);
     }
-    let grouped = configure_group(ground, door, names.as_slice())?;
+    let grouped = configure_group(ground, door, hurdles, names.as_slice())?;
     Ok(grouped)
 }
 
@@ -109,6 +165,7 @@ fn is_unconfigured(db: &Records<'_, '_>, name: &Name) -> bool {
 fn remove_unconfigured<'p, 'a>(
     ground: &Ground<'_, '_, 'p, 'a>,
     door: &mut Door<'p, 'a>,
+    needs: &mut Needs<'a>,
     names: &[Name],
 ) -> Result<bool, AllocError>
     requires reached { IsReached ground.now door.old }
@@ -117,8 +174,7 @@ fn remove_unconfigured<'p, 'a>(
     let mut moved = false;
     for name in names {
         if is_unconfigured(&door.db, name) {
-            let step = Step::Remove(name.try_copy(ground.alloc)?);
-            let taken = take(ground, door, None, step)?;
+            let taken = remove_unneeded(ground, door, needs, name)?;
             moved = moved || taken;
         }
     }
@@ -129,16 +185,17 @@ fn remove_unconfigured<'p, 'a>(
 fn tidy_once<'p, 'a>(
     ground: &Ground<'_, '_, 'p, 'a>,
     door: &mut Door<'p, 'a>,
+    tried: &mut Tried<'a>,
 ) -> Result<bool, AllocError>
     requires reached { IsReached ground.now door.old }
     ensures reached { IfOk result (λ _. IsReached ground.now door.new) }
 {
-    let configured = configure_waiting(ground, door)?;
+    let configured = configure_waiting(ground, door, &mut tried.waiting)?;
     if configured {
         return Ok(true);
     }
     let names = leaving(ground.alloc, &door.db, ground.members)?;
-    let removed = remove_unconfigured(ground, door, names.as_slice())?;
+    let removed = remove_unconfigured(ground, door, &mut tried.leaving, names.as_slice())?;
     Ok(removed)
 }
 
@@ -146,13 +203,14 @@ fn tidy_once<'p, 'a>(
 pub(crate) fn tidy<'p, 'a>(
     ground: &Ground<'_, '_, 'p, 'a>,
     door: &mut Door<'p, 'a>,
+    tried: &mut Tried<'a>,
 ) -> Result<(), AllocError>
     requires reached { IsReached ground.now door.old }
     ensures reached { IfOk result (λ _. IsReached ground.now door.new) }
 {
     let most = door.db.as_slice().len();
     for _ in 0..most {
-        let moved = tidy_once(ground, door)?;
+        let moved = tidy_once(ground, door, tried)?;
         if !moved {
             return Ok(());
         }
