@@ -3,3 +3,4 @@ pub mod Refusal
 pub mod Value
 pub mod PkgText
 pub mod PkgFields
+pub mod PkgValues

@@ -12,12 +12,13 @@ mod matching;
 mod parse;
 mod pkg;
 mod provided;
+mod values;
 
 pub use atom::{Atom, Clause};
 pub use debversion::{Op, Version};
 pub use error::{PkgError, PkgFault, RelationError, RequiredField};
 pub use fields::PkgFields;
-pub use parse::{parse_atoms, parse_clauses, parse_provides, parse_tested_provides};
+pub use parse::{parse_atoms, parse_clauses, parse_provides};
 pub use pkg::Pkg;
 pub use provided::Provided;
 pub use relation_text::{
