@@ -62,7 +62,7 @@ impl<'a> ReadStanzas<'a> {
                 if is_full(before, self.entries.len()) {
                     return Err(IndexFault::TooLarge.into());
                 }
-                self.entries.push(IndexEntry::new(indexed))?;
+                self.entries.push(indexed.into_entry())?;
             }
         }
         Ok(())
