@@ -4,3 +4,4 @@ pub mod Value
 pub mod PkgText
 pub mod PkgFields
 pub mod PkgValues
+pub mod PkgTexts

@@ -1,7 +1,9 @@
 //! The values that a package is read from, of which none is refused.
 ghost use Rattle.std.specs.Prelude.{◌≡◌, IfOk, MatchResult, None, Some};
-ghost use Rattle.relation.specs.PkgText.{pkg_fault, value_in};
+ghost use Rattle.relation.specs.PkgText as Spec;
+ghost use Rattle.relation.specs.PkgText.{pkg_fault};
 ghost use Rattle.relation.specs.PkgValues.{spelled, values_of};
+ghost use Rattle.relation.specs.PkgTexts.{AreTested, values_in};
 ghost use Rattle.relation_text.specs.Spelling.{provided_items_of};
 
 use crate::error::PkgFault;
@@ -56,7 +58,7 @@ impl<'a> Model for PkgValues<'a> {
 
 // The value of a field, which is empty where there is none.
 fn value_in<'a>(field: &Option<Field<'a>>) -> &'a [u8]
-    ensures { result.now ≡ value_in field.now }
+    ensures { result.now ≡ Spec.value_in field.now }
 {
     match field {
         None => &[],
@@ -87,7 +89,56 @@ impl<'a> PkgFields<'a> {
     }
 }
 
+/// The texts that a package is read from, one behind another as `PkgValues` has them.
+#[derive(Clone, Copy, Drop)]
+pub struct PkgTexts<'a> {
+    pub name: &'a [u8],
+    pub version: &'a [u8],
+    pub pre_depends: &'a [u8],
+    pub depends: &'a [u8],
+    pub conflicts: &'a [u8],
+    pub breaks: &'a [u8],
+    pub provides: &'a [u8],
+}
+
+impl<'a> PkgTexts<'a> {
+    /// The values that these texts are, which were tested before.
+    pub fn values(&self) -> PkgValues<'a>
+        requires { AreTested (values_in self.now) }
+        ensures { result ≡ values_in self.now }
+    {
+        match Version::parse(self.version) {
+            Ok(version) => PkgValues {
+                name: self.name,
+                version,
+                pre_depends: self.pre_depends,
+                depends: self.depends,
+                conflicts: self.conflicts,
+                breaks: self.breaks,
+                provides: self.provides,
+            },
+            Err(_) => unreachable!(),
+        }
+    }
+}
+
 impl<'a> PkgValues<'a> {
+    /// The texts of the values.
+    pub fn texts(&self) -> PkgTexts<'a>
+        ensures texts { values_in result ≡ self.now }
+        ensures tested { AreTested self.now }
+    {
+        PkgTexts {
+            name: self.name,
+            version: self.version.text(),
+            pre_depends: self.pre_depends,
+            depends: self.depends,
+            conflicts: self.conflicts,
+            breaks: self.breaks,
+            provides: self.provides,
+        }
+    }
+
     /// The name.
     pub fn name(&self) -> &'a [u8]
         ensures { result.now ≡ self.now.name }
