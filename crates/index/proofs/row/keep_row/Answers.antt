@@ -1,9 +1,9 @@
 -- The texts of the values stand behind the old bytes, and the row says where.
-use Rattle.std.proofs.Common.{◌≡◌, ◌++◌, ◌+◌, length, sym, ap, subst, ◌∙◌, arith, length-append}
+use Rattle.std.proofs.Common.{◌≡◌, ◌+◌, length, sym, ap, subst, ◌∙◌, arith, length-append}
 use Rattle.relation.specs.PkgTexts.{AreTested, values_in}
 use Rattle.index.specs.Row.{joined_text, values_at}
 use Rattle.index.specs.declared.row.Row.{Row}
-use Rattle.index.proofs.RowLemmas.{put_values, put_within}
+use Rattle.index.proofs.RowLemmas.{put_values}
 use Rattle.index.proofs.row.keep_row.Goals as goal
 
 pub returns-clause-values : goal.returns-clause-values

@@ -1,5 +1,5 @@
 -- At first all is still to be read; an error of the reader and one of a stanza are what the index is refused for.
-use Rattle.std.proofs.Common.{◌+◌, ℕ, List, [], length, refl, ap, sym, ◌∙◌}
+use Rattle.std.proofs.Common.{◌+◌, [], length, refl, ap, sym, ◌∙◌}
 use Rattle.std.proofs.lemmas.List.Elements.{All-nil, All-same}
 use Rattle.std.proofs.lemmas.Result.{err_from_is_err_and}
 use Rattle.stanza.specs.Reading.{Reading, to_read}

@@ -1,5 +1,5 @@
 -- One package more.
-use Rattle.std.proofs.Common.{◌++◌, [], ◌∷◌, List, ℕ, sym, subst}
+use Rattle.std.proofs.Common.{◌++◌, List, ℕ, sym, subst}
 use Rattle.index.specs.Row.{AreRows, IsRow, joined_text}
 use Rattle.index.specs.declared.row.Row.{Row}
 use Rattle.index.proofs.RowLemmas.{put_rows, put_stanzas}
