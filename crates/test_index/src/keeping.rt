@@ -30,8 +30,8 @@ impl Source for Few<'_> {
 
 /// A device that fails.
 #[derive(Drop)]
-struct Broken {
-    failures: u64,
+pub(crate) struct Broken {
+    pub(crate) failures: u64,
 }
 
 impl Source for Broken {
