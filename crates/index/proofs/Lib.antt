@@ -6,3 +6,6 @@ pub mod ProviderLemmas
 pub mod NameTable
 pub mod NamedCut
 pub mod NamedPlaces
+pub mod RowLemmas
+pub mod StreamLemmas
+pub mod ReadingLemmas

@@ -7,3 +7,5 @@ pub mod Alone
 pub mod Walk
 pub mod Named
 pub mod NamedLaws
+pub mod Row
+pub mod Streamed

@@ -6,45 +6,34 @@ ghost use Rattle.relation.specs.PkgFields.{fields_of};
 ghost use Rattle.relation.specs.PkgText.{pkg_fault, pkg_of, read_pkg};
 ghost use Rattle.package_stanza.specs.Stanza.{is_essential as marked_essential, read_stanza};
 
-use relation::{Pkg, PkgError, PkgFault, PkgFields, Provided, Version, parse_tested_provides};
+use crate::index_entry::IndexEntry;
+use relation::{Pkg, PkgFault, PkgFields, Version};
 use rules::IndexPlace;
 use stanza::Stanza;
 use std::alloc::{AllocError, Global};
 use std::marker::Model;
 
 /// A stanza of an index that counts: its package, whether it is marked essential, its place in the indices, and the stanza
-/// itself. Its relation fields have been tested: `pkg` reads them each time that it is called, and `provides` its Provides.
+/// itself. Its relation fields have been tested.
 #[derive(Drop)]
 pub struct IndexStanza<'a> {
-    name: &'a [u8],
-    version: Version<'a>,
-    // The value of Provides, so that none has to be looked for.
-    provides: Option<&'a [u8]>,
+    entry: IndexEntry<'a>,
     arch: &'a [u8],
-    is_essential: bool,
-    place: IndexPlace,
     stanza: Stanza<'a>,
 }
 
 impl<'a> Model for IndexStanza<'a> {
     ghost use Rattle.std.specs.Prelude.{◌≡◌, None};
-    ghost use Rattle.std.specs.Option.{option_copied, option_map};
     ghost use Rattle.relation.specs.PkgFields.{fields_of};
-    ghost use Rattle.relation.specs.PkgText.{pkg_fault, pkg_of, value_in};
+    ghost use Rattle.relation.specs.PkgText.{pkg_fault, pkg_of};
     ghost use Rattle.rules.specs.FileRecord.{IndexStanza as IndexStanzaValue};
     ghost use Rattle.package_stanza.specs.Stanza.{read_stanza};
 
     ghost Value = { IndexStanzaValue };
 
-    ghost view = { λ s. record {
-      listed = record { pkg = pkg_of s.arch.now (fields_of s.stanza); is_essential = s.is_essential; place = s.place };
-      fields = (read_stanza s.stanza).fields;
-    } };
+    ghost view = { λ s. record { listed = s.entry; fields = (read_stanza s.stanza).fields } };
 
-    ghost invariant = { λ s. (pkg_fault (fields_of s.stanza) ≡ None)
-        × (s.name.now ≡ value_in (fields_of s.stanza).name)
-        × (s.version ≡ value_in (fields_of s.stanza).version)
-        × (option_copied s.provides ≡ option_map (λ field. field.value) (fields_of s.stanza).provides) };
+    ghost invariant = { λ s. (pkg_fault (fields_of s.stanza) ≡ None) × (s.entry.pkg ≡ pkg_of s.arch.now (fields_of s.stanza)) };
 }
 
 impl<'a> IndexStanza<'a> {
@@ -63,46 +52,34 @@ impl<'a> IndexStanza<'a> {
             (λ indexed. (pkg_fault fields.now ≡ None) × (indexed ≡ indexed_at place stanza.entry (pkg_of arch.now fields.now)))
             (λ fault. pkg_fault fields.now ≡ Some fault) }
     {
-        let name = fields.name()?;
-        let version = fields.version()?;
-        fields.check_relations()?;
+        let values = fields.values()?;
         Ok(IndexStanza {
-            name,
-            version,
-            provides: fields.provides(),
+            entry: IndexEntry::new(values, arch, is_essential, place),
             arch,
-            is_essential,
-            place,
             stanza,
         })
+    }
+
+    /// The package, as an index has it.
+    pub(crate) fn into_entry(self) -> IndexEntry<'a>
+        ensures { result ≡ self.entry.listed }
+    {
+        let IndexStanza { entry, .. } = self;
+        entry
     }
 
     /// The name of the package.
     pub fn name(&self) -> &'a [u8]
         ensures { result.now ≡ self.now.listed.pkg.name }
     {
-        self.name
+        self.entry.name()
     }
 
     /// The version of the package.
     pub fn version(&self) -> &Version<'a>
         ensures { result.now ≡ self.now.listed.pkg.version }
     {
-        &self.version
-    }
-
-    /// Whether the stanza marks the package essential.
-    pub fn is_essential(&self) -> bool
-        ensures { result ≡ self.now.listed.is_essential }
-    {
-        self.is_essential
-    }
-
-    /// The place of the stanza in the indices.
-    pub fn place(&self) -> IndexPlace
-        ensures { result ≡ self.now.listed.place }
-    {
-        self.place
+        self.entry.version()
     }
 
     /// The stanza, and the configured architecture for which it was read: its package is read from these alone.
@@ -113,24 +90,24 @@ impl<'a> IndexStanza<'a> {
         (&self.stanza, self.arch)
     }
 
-    /// What the package provides. Memory alone can fail, and none is taken where no field says it. Linear in that field.
-    pub fn provides(&self, alloc: Global) -> Result<Vec<Provided<'a>>, AllocError>
-        ensures { IfOk result (λ items. items.items ≡ self.now.listed.pkg.relations.provides) }
+    /// Whether the stanza marks the package essential.
+    pub fn is_essential(&self) -> bool
+        ensures { result ≡ self.now.listed.is_essential }
     {
-        match self.provides {
-            None => Ok(Vec::new(alloc)),
-            Some(value) => parse_tested_provides(alloc, value, self.arch),
-        }
+        self.entry.is_essential()
     }
 
-    /// The package, with its relations. Memory alone can fail. Linear in the stanza.
+    /// The place of the stanza in the indices.
+    pub fn place(&self) -> IndexPlace
+        ensures { result ≡ self.now.listed.place }
+    {
+        self.entry.place()
+    }
+
+    /// The package, with its relations. Memory alone can fail. Linear in the relation fields.
     pub fn pkg(&self, alloc: Global) -> Result<Pkg<'a>, AllocError>
         ensures { IfOk result (λ pkg. pkg ≡ self.now.listed.pkg) }
     {
-        match Pkg::from_stanza(alloc, &self.stanza, self.arch) {
-            Ok(pkg) => Ok(pkg),
-            Err(PkgError::OutOfMemory) => Err(AllocError),
-            Err(_) => unreachable!(),
-        }
+        self.entry.pkg(alloc)
     }
 }

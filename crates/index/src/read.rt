@@ -9,6 +9,7 @@ ghost use Rattle.index.specs.declared.error.IndexFault.TheVariants as fault;
 
 use crate::error::{IndexError, IndexFault};
 use crate::index_entry::IndexEntry;
+use crate::kept::KeptIndex;
 use crate::names::distinct_names;
 use crate::stanzas::stanzas_in;
 use indexmap::IndexSet;
@@ -61,6 +62,22 @@ impl<'a> Index<'a> {
             release,
             entries: stanzas.entries,
             skipped: stanzas.skipped,
+        })
+    }
+
+    /// The index that was kept, with these release keys. Its packages borrow what was kept. Memory alone can fail. Linear in the
+    /// packages.
+    pub fn of(alloc: Global, kept: &'a KeptIndex, release: Release) -> Result<Index<'a>, AllocError>
+        ensures { IfOk result (λ index. index ≡ record {
+          index = record { release = release; listed = kept.now.listed };
+          skipped = kept.now.skipped;
+        }) }
+    {
+        let entries = kept.entries(alloc)?;
+        Ok(Index {
+            release,
+            entries,
+            skipped: kept.skipped(),
         })
     }
 

@@ -32,7 +32,7 @@ impl<'a> Model for ReadStanzas<'a> {
 }
 
 // Whether this many packages, of earlier indices and of this one, are as many as are read.
-fn is_full(before: usize, count: usize) -> bool
+pub fn is_full(before: usize, count: usize) -> bool
     ensures { result ≡ nat_le MOST (before + count) }
 {
     before.saturating_add(count) >= PACKAGES
@@ -62,7 +62,7 @@ impl<'a> ReadStanzas<'a> {
                 if is_full(before, self.entries.len()) {
                     return Err(IndexFault::TooLarge.into());
                 }
-                self.entries.push(IndexEntry::new(indexed))?;
+                self.entries.push(indexed.into_entry())?;
             }
         }
         Ok(())

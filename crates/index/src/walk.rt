@@ -1,11 +1,15 @@
 //! What is read of a stanza, found in one walk over its lines.
-ghost use Rattle.std.specs.Prelude.{◌≡◌, [], codes};
+ghost use Rattle.std.specs.Prelude.{◌≡◌, [], Err, MatchResult, Ok, codes};
 ghost use Rattle.std.specs.Option.{option_copied, option_or};
+ghost use Rattle.relation.specs.PkgText.{pkg_fault};
+ghost use Rattle.relation.specs.PkgValues.{values_of};
+ghost use Rattle.index.specs.Streamed.{read_values, unless_refused};
 ghost use Rattle.index.specs.Walk.{found_in, found_of, value_if_named, with_field};
 
-use package_stanza::marks_essential;
-use relation::PkgFields;
-use stanza::{Field, Stanza};
+use crate::error::IndexFault;
+use package_stanza::{counts_for, marks_essential};
+use relation::{PkgFields, PkgValues};
+use stanza::{Field, ReadStanza, Stanza};
 use std::marker::Model;
 
 // The fields of the package, the value of Architecture, and whether the package is marked essential.
@@ -33,6 +37,18 @@ fn architecture_with<'a>(found: Option<&'a [u8]>, field: &Field<'a>) -> Option<&
         Some(_) => found,
         None if field.name().eq_ignore_ascii_case(b"Architecture") => Some(field.value()),
         None => None,
+    }
+}
+
+// The values of the fields, or their first refusal.
+fn counted_values<'a>(fields: &PkgFields<'a>) -> Result<Option<PkgValues<'a>>, IndexFault>
+    ensures { MatchResult result
+        (λ values. unless_refused (pkg_fault fields.now) (values_of fields.now) ≡ Ok values)
+        (λ fault. unless_refused (pkg_fault fields.now) (values_of fields.now) ≡ Err fault) }
+{
+    match fields.values() {
+        Ok(values) => Ok(Some(values)),
+        Err(fault) => Err(IndexFault::Pkg(fault)),
     }
 }
 
@@ -64,5 +80,40 @@ impl<'a> Found<'a> {
             found.add(&field);
         }
         found
+    }
+    // The same of a stanza that was read from a source.
+    pub(crate) fn in_read(stanza: &ReadStanza<'a>) -> Found<'a>
+        ensures { result ≡ found_of stanza.now }
+    {
+        let mut found = Found::new(stanza.line());
+        for field in stanza.fields() {
+            found.add(&field.field());
+        }
+        found
+    }
+
+    // The values of the package, where the stanza, which begins on this line, counts for the architecture.
+    pub(crate) fn values(
+        &self,
+        arch: &[u8],
+        line: usize,
+    ) -> Result<Option<PkgValues<'a>>, IndexFault>
+        ensures { MatchResult result
+            (λ values. read_values arch.now line self.now ≡ Ok values)
+            (λ fault. read_values arch.now line self.now ≡ Err fault) }
+    {
+        if let Err(fault) = self.pkg.name() {
+            return Err(IndexFault::Pkg(fault));
+        }
+        match self.architecture {
+            None => Err(IndexFault::MissingArchitecture(line)),
+            Some(value) => {
+                if counts_for(arch, value) {
+                    counted_values(&self.pkg)
+                } else {
+                    Ok(None)
+                }
+            }
+        }
     }
 }

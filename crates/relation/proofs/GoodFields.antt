@@ -1,9 +1,9 @@
 -- Where the relation fields have no refusal, none of them has, and none of their versions is refused.
-use Rattle.std.proofs.Common.{◌≡◌, ℕ, List, Option, Some, None, subst}
-use Rattle.std.specs.Option.{option_map}
+use Rattle.std.proofs.Common.{◌≡◌, [], Option, Some, None, refl}
 use Rattle.stanza.specs.Field.{FieldText}
-use Rattle.relation.specs.PkgText.{on_line, pkg_fault, pkg_name_fault, pkg_version_fault, relation_fault_in, relations_fault}
-use Rattle.relation_text.specs.Refusal.{fault_of, separator_of}
+use Rattle.relation.specs.PkgText.{on_line, relation_fault_in, relations_fault, value_in}
+use Rattle.relation.specs.PkgValues.{HaveGoodRelations, values_of}
+use Rattle.relation_text.specs.Refusal.{bad_version_of, fault_of, separator_of}
 use Rattle.relation_text.specs.Spelling.{parts_of}
 use Rattle.relation.specs.Value.{HaveGoodVersions}
 use Rattle.relation.specs.declared.fields.PkgFields.{PkgFields}
@@ -36,17 +36,25 @@ each_without_fault fields e =
       provides = breaks.1;
     }
 
-value_in_field : (provides : Option FieldText) (value : List ℕ) → option_map (λ field. field.value) provides ≡ Some value
-    → relation_fault_in Provides provides ≡ None → fault_of Provides value ≡ None
-value_in_field None value is e = cc
-value_in_field (Some field) value is e =
-    let same : field.value ≡ value = cc in
-    subst (λ (text : List ℕ). fault_of Provides text ≡ None) same (none_mapped (on_line field.line) (fault_of Provides field.value) e)
+good_blank : (form : Form) → HaveGoodVersions (parts_of (separator_of form) [])
+unfolding bad_version_of
+good_blank Clauses = (refl, tt)
+good_blank Atoms = (refl, tt)
+good_blank Provides = (refl, tt)
 
--- where the fields of a package have no refusal, the value of Provides has none
-pub good_provides : (fields : PkgFields) (value : List ℕ) → pkg_fault fields ≡ None → option_map (λ field. field.value) fields.provides ≡ Some value
-    → fault_of Provides value ≡ None
-good_provides fields value e is =
-    let later = none_or (pkg_name_fault fields) _ e in
-    let relations = none_or (pkg_version_fault fields) (relations_fault fields) later.1 in
-    value_in_field fields.provides value is (each_without_fault fields relations.1).provides
+good_in : (form : Form) (field : Option FieldText) → relation_fault_in form field ≡ None → HaveGoodVersions (parts_of (separator_of form) (value_in field))
+good_in form None e = good_blank form
+good_in form (Some field) e = good_field form field e
+
+-- where the fields of a package have no refusal, no version of the values of its relation fields is refused
+pub good_relations : (fields : PkgFields) → relations_fault fields ≡ None
+    → HaveGoodRelations (values_of fields)
+good_relations fields e =
+    let each = each_without_fault fields e in
+    record {
+      pre_depends = good_in Clauses fields.pre_depends each.pre_depends;
+      depends = good_in Clauses fields.depends each.depends;
+      conflicts = good_in Atoms fields.conflicts each.conflicts;
+      breaks = good_in Atoms fields.breaks each.breaks;
+      provides = good_in Provides fields.provides each.provides;
+    }

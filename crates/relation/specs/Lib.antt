@@ -3,3 +3,5 @@ pub mod Refusal
 pub mod Value
 pub mod PkgText
 pub mod PkgFields
+pub mod PkgValues
+pub mod PkgTexts

@@ -93,51 +93,6 @@ fn check_field(form: Form, field: &Option<Field<'_>>) -> Result<(), PkgFault>
     }
 }
 
-// The clauses of a field that isn't refused.
-fn clauses_in<'a>(
-    alloc: Global,
-    field: &Option<Field<'a>>,
-    arch: &[u8],
-) -> Result<Vec<Clause<'a>>, AllocError>
-    requires { Spec.relation_fault_in Clauses field.now ≡ None }
-    ensures { IfOk result (λ clauses. clauses.items ≡ clauses_of arch.now (value_in field.now)) }
-{
-    match field {
-        None => Ok(Vec::new(alloc)),
-        Some(field) => clauses_of(alloc, field.value(), arch),
-    }
-}
-
-// The atoms of a field that isn't refused.
-fn atoms_in<'a>(
-    alloc: Global,
-    field: &Option<Field<'a>>,
-    arch: &[u8],
-) -> Result<Vec<Atom<'a>>, AllocError>
-    requires { Spec.relation_fault_in Atoms field.now ≡ None }
-    ensures { IfOk result (λ atoms. atoms.items ≡ atoms_between Comma arch.now (value_in field.now)) }
-{
-    match field {
-        None => Ok(Vec::new(alloc)),
-        Some(field) => atoms_between(alloc, Separator::Comma, field.value(), arch),
-    }
-}
-
-// The items of a field that isn't refused.
-fn provided_items_in<'a>(
-    alloc: Global,
-    field: &Option<Field<'a>>,
-    arch: &[u8],
-) -> Result<Vec<Provided<'a>>, AllocError>
-    requires { Spec.relation_fault_in Provides field.now ≡ None }
-    ensures { IfOk result (λ items. items.items ≡ provided_items_of arch.now (value_in field.now)) }
-{
-    match field {
-        None => Ok(Vec::new(alloc)),
-        Some(field) => provided_items_of(alloc, field.value(), arch),
-    }
-}
-
 impl<'a> PkgFields<'a> {
     /// The name of the package, which Package has to give (Policy 5.6.1).
     pub fn name(&self) -> Result<&'a [u8], PkgFault>
@@ -158,16 +113,6 @@ impl<'a> PkgFields<'a> {
         version_in(self.line, &self.version)
     }
 
-    /// The value of Provides, if the field is there (Policy 7.5).
-    pub fn provides(&self) -> Option<&'a [u8]>
-        ensures { option_copied result ≡ option_map (λ field. field.value) self.now.provides }
-    {
-        match &self.provides {
-            None => None,
-            Some(field) => Some(field.value()),
-        }
-    }
-
     /// Tests the relation fields in the order Pre-Depends, Depends, Conflicts, Breaks, Provides, and takes no
     /// memory. Linear in their values.
     #[tactic(auto, unfolding(crate::specs::PkgText::relations_fault))]
@@ -179,21 +124,6 @@ impl<'a> PkgFields<'a> {
         check_field(Form::Atoms, &self.conflicts)?;
         check_field(Form::Atoms, &self.breaks)?;
         check_field(Form::Provides, &self.provides)
-    }
-
-    // The relations of the package; a field that isn't there has none.
-    fn relations(&self, alloc: Global, arch: &[u8]) -> Result<Relations<'a>, PkgError>
-        ensures ok { IfOk result (λ relations. read_relations arch.now self.now ≡ Ok relations) }
-        ensures err { IfErr result (λ e. IsPkgFault e (read_relations arch.now self.now)) }
-    {
-        self.check_relations()?;
-        Ok(Relations::new(
-            clauses_in(alloc, &self.pre_depends, arch)?,
-            clauses_in(alloc, &self.depends, arch)?,
-            atoms_in(alloc, &self.conflicts, arch)?,
-            atoms_in(alloc, &self.breaks, arch)?,
-            provided_items_in(alloc, &self.provides, arch)?,
-        ))
     }
 }
 
@@ -217,9 +147,7 @@ impl<'a> Pkg<'a> {
         ensures ok { IfOk result (λ pkg. read_fields arch.now fields.now ≡ Ok pkg) }
         ensures err { IfErr result (λ e. IsPkgFault e (read_fields arch.now fields.now)) }
     {
-        let name = fields.name()?;
-        let version = fields.version()?;
-        let relations = fields.relations(alloc, arch)?;
-        Ok(Pkg::new(name, version, relations))
+        let values = fields.values()?;
+        Ok(values.pkg(alloc, arch)?)
     }
 }

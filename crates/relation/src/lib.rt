@@ -12,15 +12,17 @@ mod matching;
 mod parse;
 mod pkg;
 mod provided;
+mod values;
 
 pub use atom::{Atom, Clause};
 pub use debversion::{Op, Version};
 pub use error::{PkgError, PkgFault, RelationError, RequiredField};
 pub use fields::PkgFields;
-pub use parse::{parse_atoms, parse_clauses, parse_provides, parse_tested_provides};
+pub use parse::{parse_atoms, parse_clauses, parse_provides};
 pub use pkg::Pkg;
 pub use provided::Provided;
 pub use relation_text::{
     Form, RelationFault, a_shape_is_refused_at_the_first_byte_that_goes_on_with_no_text, check,
     every_other_place_has_a_completion, no_text_goes_on_from_the_dead_place,
 };
+pub use values::{PkgTexts, PkgValues};

@@ -1,11 +1,10 @@
 //! Reading the values of relation fields: a value is checked, and then its atoms are taken off its front.
-ghost use Rattle.std.specs.Prelude.{◌≡◌, IfOk, IfErr, None, Ok};
+ghost use Rattle.std.specs.Prelude.{◌≡◌, IfOk, IfErr, Ok};
 ghost use Rattle.relation.specs.Error.{IsFault};
-ghost use Rattle.relation_text.specs.Refusal.{fault_of, read_atoms, read_clauses, read_provides};
+ghost use Rattle.relation_text.specs.Refusal.{read_atoms, read_clauses, read_provides};
 ghost use Rattle.relation_text.specs.Spelling.{atoms_between, clauses_of, parts_of, provided_items_of};
 ghost use Rattle.relation.specs.Value.{HaveGoodVersions};
 ghost use Rattle.relation_text.specs.declared.cut.Separator.TheVariants.{Comma, CommaOrBar};
-ghost use Rattle.relation_text.specs.declared.shape.Form.TheVariants.{Provides};
 
 use crate::atom::{Atom, Clause};
 use crate::error::RelationError;
@@ -115,17 +114,4 @@ pub fn parse_provides<'a>(
 {
     check(Form::Provides, value)?;
     Ok(provided_items_of(alloc, value, arch)?)
-}
-
-/// The items of a Provides value that was tested before, and isn't refused. They borrow the value. Memory alone can fail.
-/// Linear in the value, and the memory in its items.
-pub fn parse_tested_provides<'a>(
-    alloc: Global,
-    value: &'a [u8],
-    arch: &[u8],
-) -> Result<Vec<Provided<'a>>, AllocError>
-    requires { fault_of Provides value.now ≡ None }
-    ensures { IfOk result (λ items. items.items ≡ provided_items_of arch.now value.now) }
-{
-    provided_items_of(alloc, value, arch)
 }

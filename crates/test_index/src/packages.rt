@@ -1,6 +1,7 @@
 //! Packages files, by rows worked by hand, for the architecture amd64.
+use crate::devices::Broken;
 use crate::texts::{is_printed, write_part};
-use index::{Index, IndexEntry, IndexError};
+use index::{Index, IndexEntry, IndexError, KeptIndex, StreamError};
 use relation::Pkg;
 use rows::unescaped;
 use rules::{IndexPlace, Release, Text};
@@ -72,6 +73,24 @@ fn is_read_as(alloc: Global, text: &[u8], before: usize, wanted: &str) -> Result
     }
 }
 
+// The same of the text where it comes piece by piece, and what is read of it is kept.
+fn is_kept_as(alloc: Global, text: &[u8], before: usize, wanted: &str) -> Result<bool, AllocError> {
+    let mut source = text;
+    match KeptIndex::read_from(alloc, &mut source, ARCH, 1, before) {
+        Ok(kept) => is_index(alloc, &Index::of(alloc, &kept, release_of(alloc, b"h")?)?, wanted),
+        Err(error) => is_printed(alloc, &error, wanted),
+    }
+}
+
+fn is_read_and_kept_as(
+    alloc: Global,
+    text: &[u8],
+    before: usize,
+    wanted: &str,
+) -> Result<bool, AllocError> {
+    Ok(is_read_as(alloc, text, before, wanted)? && is_kept_as(alloc, text, before, wanted)?)
+}
+
 // The number of packages before, the text, in which `$` stands for a newline, and what is shown of it.
 const READ: &str = "\
 4000000→→skipped 0
@@ -111,7 +130,7 @@ fn is_read_behind(alloc: Global, before: usize, rest: &str) -> Result<bool, Allo
     let Some((text, wanted)) = rest.split_once('→') else {
         return Ok(false);
     };
-    is_read_as(alloc, unescaped(alloc, text)?.as_slice(), before, wanted)
+    is_read_and_kept_as(alloc, unescaped(alloc, text)?.as_slice(), before, wanted)
 }
 
 fn is_read(alloc: Global, row: &str) -> Result<bool, AllocError> {
@@ -207,4 +226,24 @@ fn is_index_or_no_memory(alloc: Global) -> Result<bool, AllocError> {
 fn a_refused_growth_is_want_of_memory(rt: HostRuntime) -> Result<(), AllocError> {
     assert!(rt; is_index_or_no_memory(rt.alloc())?);
     Ok(())
+}
+
+fn is_kept_or_no_memory(alloc: Global) -> Result<bool, AllocError> {
+    let mut source = TWO_STANZAS;
+    match KeptIndex::read_from(alloc, &mut source, ARCH, 1, 0) {
+        Ok(kept) => Ok(Index::of(alloc, &kept, release_of(alloc, b"")?)?.packages().len() == 2),
+        Err(error) => Ok(error == StreamError::OutOfMemory),
+    }
+}
+
+#[test]
+fn a_refused_growth_is_want_of_memory_in_pieces_too(rt: HostRuntime) -> Result<(), AllocError> {
+    assert!(rt; is_kept_or_no_memory(rt.alloc())?);
+    Ok(())
+}
+
+#[test]
+fn a_device_that_fails_is_no_fault_of_the_index(rt: HostRuntime) {
+    let error = KeptIndex::read_from(rt.alloc(), &mut Broken { failures: 0 }, ARCH, 1, 0).err();
+    assert!(rt; error == Some(StreamError::Read));
 }

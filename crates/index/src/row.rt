@@ -1,0 +1,147 @@
+//! A row: where in an arena of bytes the texts of a package stand.
+ghost use Rattle.std.specs.Prelude.{◌≡◌, ◌++◌, ◌+◌, IfOk, OnOk, drop, length, take};
+ghost use Rattle.relation.specs.PkgTexts.{values_in};
+ghost use Rattle.index.specs.Row.{AreRows, IsRow, bytes_at, joined_text, package_at, packages_at, values_at, values_of};
+
+use crate::index_entry::IndexEntry;
+use relation::{PkgTexts, PkgValues};
+use rules::IndexPlace;
+use std::alloc::{AllocError, Global};
+
+/// Where the texts of a package stand, one behind another: at a place, so many bytes, and how long each is but the last. And
+/// whether the package is marked essential, and the number of its stanza.
+#[derive(Clone, Copy, Drop)]
+pub struct Row {
+    pub(crate) at: u32,
+    pub(crate) len: u32,
+    pub(crate) name: u32,
+    pub(crate) version: u32,
+    pub(crate) pre_depends: u32,
+    pub(crate) depends: u32,
+    pub(crate) conflicts: u32,
+    pub(crate) breaks: u32,
+    pub(crate) is_essential: bool,
+    pub(crate) stanza: usize,
+}
+
+// A length in 32 bits; a longer one is answered as want of memory.
+fn narrow(len: usize) -> Result<u32, AllocError>
+    ensures { IfOk result (λ narrow. narrow ≡ len) }
+{
+    match u32::try_from(len) {
+        Ok(narrow) => Ok(narrow),
+        Err(_) => Err(AllocError),
+    }
+}
+
+// So many bytes at the front, or as many as there are, and the others.
+fn cut(bytes: &[u8], len: u32) -> (&[u8], &[u8])
+    ensures front { result.0.now ≡ take len bytes.now }
+    ensures rest { result.1.now ≡ drop len bytes.now }
+{
+    bytes.split_at((len as usize).min(bytes.len()))
+}
+
+// The bytes of the row.
+fn bytes_of<'a>(arena: &'a [u8], row: &Row) -> &'a [u8]
+    ensures { result.now ≡ bytes_at arena.now row.now }
+{
+    let (_, behind) = cut(arena, row.at);
+    cut(behind, row.len).0
+}
+
+// The texts that these bytes of the row are.
+fn texts_of<'a>(row: &Row, bytes: &'a [u8]) -> PkgTexts<'a>
+    ensures { values_in result ≡ values_of row.now bytes.now }
+{
+    let (name, rest) = cut(bytes, row.name);
+    let (version, rest) = cut(rest, row.version);
+    let (pre_depends, rest) = cut(rest, row.pre_depends);
+    let (depends, rest) = cut(rest, row.depends);
+    let (conflicts, rest) = cut(rest, row.conflicts);
+    let (breaks, provides) = cut(rest, row.breaks);
+    PkgTexts {
+        name,
+        version,
+        pre_depends,
+        depends,
+        conflicts,
+        breaks,
+        provides,
+    }
+}
+
+/// The package of the row, for this configured architecture, in the index of this number.
+pub fn entry_of<'a>(arch: &'a [u8], number: usize, arena: &'a [u8], row: &Row) -> IndexEntry<'a>
+    requires { IsRow arena.now row.now }
+    ensures { result ≡ package_at arch.now number arena.now row.now }
+{
+    let texts = texts_of(row, bytes_of(arena, row));
+    let place = IndexPlace {
+        index: number,
+        stanza: row.stanza,
+    };
+    IndexEntry::new(texts.values(), arch, row.is_essential, place)
+}
+
+/// The packages of the rows, in their order.
+pub fn entries_of<'a>(
+    alloc: Global,
+    arch: &'a [u8],
+    number: usize,
+    arena: &'a [u8],
+    rows: &[Row],
+) -> Result<Vec<IndexEntry<'a>>, AllocError>
+    requires { AreRows arena.now rows.now }
+    ensures { IfOk result (λ entries. entries.items ≡ packages_at arch.now number arena.now rows.now) }
+{
+    let mut entries = Vec::new(alloc);
+    for row in rows {
+        entries.push(entry_of(arch, number, arena, row))?;
+    }
+    Ok(entries)
+}
+
+// Puts the texts behind the bytes of the arena, one behind another.
+fn keep_texts(arena: &mut Vec<u8>, texts: &PkgTexts<'_>) -> Result<(), AllocError>
+    ensures { OnOk result (arena.new.items ≡ arena.old.items ++ joined_text (values_in texts.now)) }
+{
+    arena.extend_from_slice(texts.name)?;
+    arena.extend_from_slice(texts.version)?;
+    arena.extend_from_slice(texts.pre_depends)?;
+    arena.extend_from_slice(texts.depends)?;
+    arena.extend_from_slice(texts.conflicts)?;
+    arena.extend_from_slice(texts.breaks)?;
+    arena.extend_from_slice(texts.provides)?;
+    Ok(())
+}
+
+/// Puts the texts of the values behind the bytes of the arena, and answers their row.
+pub fn keep_row(
+    arena: &mut Vec<u8>,
+    values: &PkgValues<'_>,
+    is_essential: bool,
+    stanza: usize,
+) -> Result<Row, AllocError>
+    ensures grown { OnOk result (arena.new.items ≡ arena.old.items ++ joined_text values.now) }
+    ensures row { IfOk result (λ row. IsRow arena.new.items row) }
+    ensures values { IfOk result (λ row. values_at arena.new.items row ≡ values.now) }
+    ensures essential { IfOk result (λ row. row.is_essential ≡ is_essential) }
+    ensures stanza { IfOk result (λ row. row.stanza ≡ stanza) }
+{
+    let texts = values.texts();
+    let at = arena.len();
+    keep_texts(arena, &texts)?;
+    Ok(Row {
+        at: narrow(at)?,
+        len: narrow(arena.len() - at)?,
+        name: narrow(texts.name.len())?,
+        version: narrow(texts.version.len())?,
+        pre_depends: narrow(texts.pre_depends.len())?,
+        depends: narrow(texts.depends.len())?,
+        conflicts: narrow(texts.conflicts.len())?,
+        breaks: narrow(texts.breaks.len())?,
+        is_essential,
+        stanza,
+    })
+}
