@@ -1,5 +1,5 @@
 -- What is another name stays.
-use Rattle.std.proofs.Common.{rules, ℕ, List}
+use Rattle.std.proofs.Common.{rules}
 use Rattle.std.proofs.lemmas.Fn.{filter_same}
 use Rattle.fixed_order.specs.Removal.{is_other}
 use Rattle.fixed_order.proofs.removal.leave_out.Goals as goal
