@@ -77,7 +77,11 @@ fn is_read_as(alloc: Global, text: &[u8], before: usize, wanted: &str) -> Result
 fn is_kept_as(alloc: Global, text: &[u8], before: usize, wanted: &str) -> Result<bool, AllocError> {
     let mut source = text;
     match KeptIndex::read_from(alloc, &mut source, ARCH, 1, before) {
-        Ok(kept) => is_index(alloc, &Index::of(alloc, &kept, release_of(alloc, b"h")?)?, wanted),
+        Ok(kept) => is_index(
+            alloc,
+            &Index::of(alloc, &kept, release_of(alloc, b"h")?)?,
+            wanted,
+        ),
         Err(error) => is_printed(alloc, &error, wanted),
     }
 }
@@ -231,7 +235,12 @@ fn a_refused_growth_is_want_of_memory(rt: HostRuntime) -> Result<(), AllocError>
 fn is_kept_or_no_memory(alloc: Global) -> Result<bool, AllocError> {
     let mut source = TWO_STANZAS;
     match KeptIndex::read_from(alloc, &mut source, ARCH, 1, 0) {
-        Ok(kept) => Ok(Index::of(alloc, &kept, release_of(alloc, b"")?)?.packages().len() == 2),
+        Ok(kept) => Ok(
+            Index::of(alloc, &kept, release_of(alloc, b"")?)?
+                .packages()
+                .len()
+                == 2,
+        ),
         Err(error) => Ok(error == StreamError::OutOfMemory),
     }
 }

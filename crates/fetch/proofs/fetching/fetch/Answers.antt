@@ -53,7 +53,7 @@ loop-next-preserved g c =
     record {
       order = λ d less. rw c.place-number.ensures (
           subst (λ (entry : Bor IndexPackage). entry.now.place.stanza ≤ (get_or c.args.wanted.now (w.next-index + 1) d).now.place.stanza) (get_or_default c.args.wanted.now w.next-index d c.next-item.result c.loop-next-test.true ∙ sym c.next-item.is)
-              (c.requires.order w.next-index (w.next-index + 1) d (omega arith) less));
+          (c.requires.order w.next-index (w.next-index + 1) d (omega arith) less));
       sound = c.in_ok-reach.ensures.sound;
       known = λ text known. (let f = w.invariant.known text known in
           let k = c.in_ok-reach.ensures.reached (items_in text) f.0 f.1 f.2 in (k.0, k.1, k.2));
