@@ -99,8 +99,13 @@ fn is_fetched(
     Ok(shown_of(alloc, entries.as_slice(), text, usize::MAX)?.as_slice() == wanted)
 }
 
-fn is_row(alloc: Global, row: [&str; 4]) -> Result<bool, AllocError> {
-    let [first, second, numbers, wanted] = row;
+fn is_row(
+    alloc: Global,
+    first: &str,
+    second: &str,
+    numbers: &str,
+    wanted: &str,
+) -> Result<bool, AllocError> {
     let first = unescaped(alloc, first)?;
     let second = unescaped(alloc, second)?;
     let wanted = unescaped(alloc, wanted)?;
@@ -111,18 +116,17 @@ fn is_row(alloc: Global, row: [&str; 4]) -> Result<bool, AllocError> {
     }
 }
 
-fn cells(row: &str) -> Option<[&str; 4]> {
-    let (first, rest) = row.split_once('→')?;
-    let (second, rest) = rest.split_once('→')?;
-    let (numbers, wanted) = rest.split_once('→')?;
-    Some([first, second, numbers, wanted])
-}
-
 fn holds(alloc: Global, row: &str) -> Result<bool, AllocError> {
-    match cells(row) {
-        Some(row) => is_row(alloc, row),
-        None => Ok(false),
-    }
+    let Some((first, rest)) = row.split_once('→') else {
+        return Ok(false);
+    };
+    let Some((second, rest)) = rest.split_once('→') else {
+        return Ok(false);
+    };
+    let Some((numbers, wanted)) = rest.split_once('→') else {
+        return Ok(false);
+    };
+    is_row(alloc, first, second, numbers, wanted)
 }
 
 #[test]
