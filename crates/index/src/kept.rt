@@ -1,5 +1,5 @@
 //! An index whose texts are kept, and not the text that it was read from.
-ghost use Rattle.std.specs.Prelude.{◌≡◌, ◌+◌, ◌-◌, ◌^◌, ℕ, List, Some, IfErr, IfOk, Ok, min};
+ghost use Rattle.std.specs.Prelude.{◌≡◌, ◌+◌, ◌-◌, ◌^◌, ℕ, List, Some, IfErr, IfOk, Ok, length, min};
 ghost use Rattle.index.specs.Streamed.{IsStreamFault, read_stream};
 ghost use Rattle.index.specs.declared.stream_error.StreamError.TheVariants as error;
 
@@ -78,6 +78,13 @@ impl KeptIndex {
             self.kept.arena.as_slice(),
             self.kept.rows.as_slice(),
         )
+    }
+
+    /// How many packages there are.
+    pub fn count(&self) -> usize
+        ensures { result ≡ length self.now.listed }
+    {
+        self.kept.rows.len()
     }
 
     /// How many stanzas are of another architecture.
