@@ -1,7 +1,7 @@
-// The refusal of a status file, which has its own copy of the name that it names.
+//! The refusal of a status file, which has its own copy of the name that it names.
 
 ghost use Rattle.std.specs.Prelude.{◌≡◌, IfOk};
-ghost use Rattle.cli_engine.specs.Texts.{status_refusal};
+ghost use Rattle.inputs.specs.Texts.{status_refusal};
 
 use relation::PkgFault;
 use rules::Text;

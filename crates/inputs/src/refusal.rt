@@ -1,7 +1,7 @@
-// Why a text was refused, and what is printed of it.
+//! Why a text was refused, and what is printed of it.
 
 ghost use Rattle.std.specs.Prelude.{◌≡◌};
-ghost use Rattle.cli_engine.specs.Reading.{IsPlaced, out_of_memory};
+ghost use Rattle.inputs.specs.Reading.{IsPlaced, out_of_memory};
 
 use crate::status_refusal::StatusRefusal;
 use index::{IndexFault, SourcesFault};
@@ -78,6 +78,9 @@ pub enum Fault {
     /// A request that admits more pairs than are kept.
     #[error("E10 TooLarge")]
     TooLarge,
+    /// A stanza that is to be unpacked isn't there any more as it was when the index was read.
+    #[error("E28 Changed")]
+    Changed,
     /// A file couldn't be read.
     #[error("E5 Read")]
     Read,
@@ -97,7 +100,7 @@ pub struct Refusal {
 }
 
 /// The refusal of the text at this place; where memory was wanting, no text is refused.
-pub(crate) fn refused_at(place: Input, fault: Fault) -> Refusal
+pub fn refused_at(place: Input, fault: Fault) -> Refusal
     ensures { IsPlaced place fault result }
 {
     match fault {

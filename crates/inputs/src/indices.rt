@@ -1,0 +1,122 @@
+//! The indices, of which there is one for each stanza of the sources.
+ghost use Rattle.std.specs.Prelude.{◌≡◌, ◌⊎◌, Err, IfErr, IfOk, Ok, Some, length};
+ghost use Rattle.candidates.specs.Inputs.{indices_of};
+ghost use Rattle.inputs.specs.Before.{HasIndices, HasStatus, IsRefusalBefore};
+ghost use Rattle.inputs.specs.Counting.{CountsRead};
+ghost use Rattle.inputs.specs.Indices.{IsRefusedIndex, index_of, released, with_keys};
+ghost use Rattle.inputs.specs.Indices as Spec;
+ghost use Rattle.inputs.specs.Reading.{out_of_memory};
+ghost use Rattle.inputs.specs.Texts.{Shelved, sources_of, texts_of};
+
+use crate::refusal::{Fault, Input, Refusal, refused_at};
+use crate::settings::Settings;
+use crate::shelf::Shelf;
+use crate::texts::open_index;
+use index::{Index, IndexSource, KeptIndex, StreamError};
+use rules::Release;
+use std::alloc::{AllocError, Global};
+
+/// The indices of the sources, in their order: what is kept of each, and its release keys.
+#[derive(Drop)]
+pub struct Listed {
+    /// What is kept.
+    pub kept: Vec<KeptIndex>,
+    /// The release keys.
+    pub releases: Vec<Release>,
+}
+
+// What is kept of the index of this number and source, behind so many packages of those before it.
+fn read_index<S: Shelf>(
+    alloc: Global,
+    shelf: &mut S,
+    arch: &[u8],
+    number: usize,
+    source: &IndexSource<'_>,
+    before: usize,
+) -> Result<KeptIndex, Refusal>
+    ensures ok { (at : Shelved) → S.found shelf.old ≡ Some at
+        → IfOk result (λ kept. index_of arch.now at.index number before source.now ≡ Ok (with_keys source.now.release kept)) }
+    ensures refused { (at : Shelved) → S.found shelf.old ≡ Some at
+        → IfErr result (λ refused. IsRefusedIndex number (index_of arch.now at.index number before source.now) refused) }
+    ensures same { S.found shelf.new ≡ S.found shelf.old }
+    ensures count { CountsRead result (S.faults shelf.old) (S.faults shelf.new) }
+{
+    let mut text = open_index(alloc, shelf, number, source.file())?;
+    match KeptIndex::read_from(alloc, &mut text, arch, number, before) {
+        Ok(kept) => Ok(kept),
+        Err(StreamError::Refused(refused)) => {
+            Err(refused_at(Input::Index(number), Fault::Index(refused)))
+        }
+        Err(StreamError::Read) => {
+            shelf.close(text);
+            Err(refused_at(Input::Index(number), Fault::Read))
+        }
+        Err(StreamError::OutOfMemory) => Err(Refusal::from(AllocError)),
+    }
+}
+
+// Reads the index of each of these sources.
+fn read_each<S: Shelf>(
+    alloc: Global,
+    shelf: &mut S,
+    arch: &[u8],
+    sources: Vec<IndexSource<'_>>,
+) -> Result<Listed, Refusal>
+    ensures ok { (at : Shelved) → S.found shelf.old ≡ Some at → IfOk result (λ listed.
+        Spec.read_indices arch.now at.index sources.entry.items ≡ Ok (released listed.releases.items listed.kept.items)) }
+    ensures refused { (at : Shelved) → S.found shelf.old ≡ Some at → IfErr result (λ refused.
+        (refused ≡ out_of_memory) ⊎ (Spec.read_indices arch.now at.index sources.entry.items ≡ Err refused)) }
+    ensures count { IfOk result (λ listed. length listed.kept.items ≡ length listed.releases.items) }
+    ensures same { S.found shelf.new ≡ S.found shelf.old }
+    ensures counted { CountsRead result (S.faults shelf.old) (S.faults shelf.new) }
+{
+    let mut kept = Vec::new(alloc);
+    let mut releases = Vec::new(alloc);
+    let mut before = 0;
+    let mut number = 0;
+    for source in sources {
+        number += 1;
+        let index = read_index(alloc, shelf, arch, number, &source, before)?;
+        before += index.count();
+        kept.push(index)?;
+        releases.push(source.into_release())?;
+    }
+    Ok(Listed { kept, releases })
+}
+
+/// Reads the indices of these sources, or answers the first refusal: of more packages than are read too, which is that of the
+/// index that has the first one too many. Each is opened at its turn. Linear in the texts.
+pub fn read_indices<S: Shelf>(
+    alloc: Global,
+    shelf: &mut S,
+    settings: &Settings<'_>,
+    sources: Vec<IndexSource<'_>>,
+) -> Result<Listed, Refusal>
+    ensures ok { (at : Shelved) → S.found shelf.old ≡ Some at → sources_of (texts_of settings.now at) ≡ Ok sources.entry.items
+        → IfOk result (λ listed. HasIndices (texts_of settings.now at) (released listed.releases.items listed.kept.items)) }
+    ensures refused { (at : Shelved) → S.found shelf.old ≡ Some at → sources_of (texts_of settings.now at) ≡ Ok sources.entry.items
+        → HasStatus (texts_of settings.now at) → IfErr result (λ refused. IsRefusalBefore (texts_of settings.now at) refused) }
+    ensures count { IfOk result (λ listed. length listed.kept.items ≡ length listed.releases.items) }
+    ensures same { S.found shelf.new ≡ S.found shelf.old }
+    ensures counted { CountsRead result (S.faults shelf.old) (S.faults shelf.new) }
+{
+    read_each(alloc, shelf, settings.arch, sources)
+}
+
+/// The indices that were kept, each with its release keys. Memory alone can fail. Linear in the packages.
+pub fn lend_indices<'a>(
+    alloc: Global,
+    kept: &'a [KeptIndex],
+    releases: Vec<Release>,
+) -> Result<Vec<Index<'a>>, AllocError>
+    requires { length kept.now ≡ length releases.items }
+    ensures { IfOk result (λ indices. indices_of indices.items ≡ released releases.entry.items kept.now) }
+{
+    let mut indices = Vec::new(alloc);
+    let mut number = 0;
+    for release in releases {
+        indices.push(Index::of(alloc, &kept[number], release)?)?;
+        number += 1;
+    }
+    Ok(indices)
+}

@@ -1,0 +1,32 @@
+//! The texts that a request is answered from, read into values: the status file, the sources, the indices, the preferences
+//! and the request, in this order, each at its turn from a shelf. It judges nothing and solves nothing. The main calls are
+//! `read_database`, `read_indices`, `read_preferences` and `read_universe`; begin with `specs/Texts.antt` and
+//! `specs/Meaning.antt`.
+#![tactic(auto)]
+
+mod indices;
+mod inputs;
+mod laws;
+mod preferences;
+mod refusal;
+mod request;
+mod settings;
+mod shelf;
+mod sources;
+mod status_file;
+mod status_refusal;
+mod texts;
+
+pub use indices::{Listed, lend_indices, read_indices};
+pub use inputs::{Inputs, MemoryShelf};
+pub use laws::{a_meaning_is_not_refused, texts_have_one_meaning};
+pub use preferences::read_preferences;
+pub use refusal::{Fault, Input, Refusal, refused_at};
+pub use request::read_universe;
+pub use settings::Settings;
+pub use shelf::{Part, ReadError, Shelf};
+pub use sources::{read_sources, read_sources_text};
+pub use stanza::{ReadFailed, Source};
+pub use status_file::{read_database, read_status};
+pub use status_refusal::{NamedPackage, StatusRefusal};
+pub use texts::{open_index, read_part};

@@ -1,0 +1,150 @@
+//! The request, and the universe that it is answered from.
+ghost use Rattle.std.specs.Prelude.{◌≡◌, ◌≢◌, ◌<◌, ◌^◌, IfErr, IfOk, List, Ok, Some, length, map};
+ghost use Rattle.candidates.specs.Inputs.{indices_of};
+ghost use Rattle.rules.specs.Database.{HasDistinctNames};
+ghost use Rattle.rules.specs.FileRecord.{records_of};
+ghost use Rattle.rules.specs.Verdict.{IsBuiltOn};
+ghost use Rattle.rules.specs.declared.goal.GoalLine.{GoalLine as LineOf};
+ghost use Rattle.status_store.specs.Slots.{slot_records};
+ghost use Rattle.universe.specs.Universe.{HaveDistinctNames};
+ghost use Rattle.universe_build.specs.Error.{IsBuilt};
+ghost use Rattle.universe_request.specs.Request as Read;
+ghost use Rattle.inputs.specs.Before.{AreRead};
+ghost use Rattle.inputs.specs.Counting.{CountsRead};
+ghost use Rattle.inputs.specs.Meaning.{Denotes, IsBuildFault, IsRequestFault, IsRequested};
+ghost use Rattle.inputs.specs.Reading.{IsFaultOf, OrMemory, with_fault};
+ghost use Rattle.inputs.specs.Refused.{IsRefusal};
+ghost use Rattle.inputs.specs.Texts.{Shelved, texts_of};
+ghost use Rattle.inputs.specs.declared.refusal.Fault.TheVariants as fault;
+
+use crate::refusal::{Fault, Input, Refusal, refused_at};
+use crate::settings::Settings;
+use crate::shelf::{Part, Shelf};
+use crate::texts::read_part;
+use index::Index;
+use pins::Prefs;
+use rules::{GoalLine, universe_is_built};
+use status_record::FileRecord;
+use status_store::Database;
+use std::alloc::Global;
+use universe::Universe;
+use universe_build::{UniverseError, build};
+use universe_request::{Request, RequestError};
+
+// The goals of a request.
+fn goals_in(alloc: Global, text: &[u8], arch: &[u8]) -> Result<Vec<GoalLine>, Fault>
+    ensures ok { IfOk result (λ goals. with_fault fault.Request (Read.read_request arch.now text.now) ≡ Ok goals.items) }
+    ensures err { IfErr result (λ f. IsFaultOf (with_fault fault.Request (Read.read_request arch.now text.now)) f) }
+    ensures known { IfErr result (λ f. f ≢ fault.Read) }
+{
+    match Request::read(alloc, text, arch) {
+        Ok(request) => Ok(request.into_vec()),
+        Err(RequestError::Refused(refused)) => Err(Fault::Request(refused)),
+        Err(RequestError::OutOfMemory) => Err(Fault::OutOfMemory),
+    }
+}
+
+// Builds the universe of the goals.
+fn built<'p, 'a>(
+    alloc: Global,
+    start: &[&FileRecord<'a>],
+    indices: &'p [Index<'a>],
+    prefs: &Prefs,
+    lines: Vec<GoalLine>,
+) -> Result<Universe<'p, 'a>, Fault>
+    requires { HasDistinctNames (records_of (map (λ r. r.now) start.now)) }
+    ensures ok { IfOk result (λ u.
+        IsBuilt (records_of (map (λ r. r.now) start.now)) (indices_of indices.now) prefs.now lines.items u) }
+    ensures err { IfErr result (λ f. OrMemory
+        (IsBuildFault (records_of (map (λ r. r.now) start.now)) (indices_of indices.now) prefs.now lines.items) f) }
+    ensures known { IfErr result (λ f. f ≢ fault.Read) }
+{
+    match build(alloc, start, indices, prefs, lines) {
+        Ok(universe) => Ok(universe),
+        Err(UniverseError::UnknownName(line)) => Err(Fault::UnknownName(line)),
+        Err(UniverseError::TooLarge) => Err(Fault::TooLarge),
+        Err(UniverseError::OutOfMemory) => Err(Fault::OutOfMemory),
+    }
+}
+
+// The universe that the request with this text is answered from, over these records, whose names are distinct.
+fn universe_in<'p, 'a>(
+    alloc: Global,
+    start: &[&FileRecord<'a>],
+    indices: &'p [Index<'a>],
+    prefs: &Prefs,
+    text: &[u8],
+    arch: &[u8],
+) -> Result<Universe<'p, 'a>, Fault>
+    requires { HasDistinctNames (records_of (map (λ r. r.now) start.now)) }
+    ensures ok { IfOk result (λ u. (lines : List LineOf)
+        × IsRequested arch.now (Some text.now) (records_of (map (λ r. r.now) start.now)) (indices_of indices.now) prefs.now lines u) }
+    ensures err { IfErr result (λ f. OrMemory
+        (IsRequestFault arch.now (Some text.now) (records_of (map (λ r. r.now) start.now)) (indices_of indices.now) prefs.now) f) }
+    ensures known { IfErr result (λ f. f ≢ fault.Read) }
+{
+    let lines = goals_in(alloc, text, arch)?;
+    let universe = built(alloc, start, indices, prefs, lines)?;
+    Ok(universe)
+}
+
+// The universe that the request with this text is answered from, over what the texts before it are read as.
+fn universe_over<'p, 'a>(
+    alloc: Global,
+    settings: &Settings<'_>,
+    database: &Database<'a>,
+    indices: &'p [Index<'a>],
+    prefs: &Prefs,
+    text: &[u8],
+) -> Result<Universe<'p, 'a>, Refusal>
+    ensures ok { (at : Shelved) → at.request ≡ Some text.now
+        → AreRead (texts_of settings.now at) (slot_records database.now.slots) (indices_of indices.now) prefs.now
+        → IfOk result (λ u. Denotes (texts_of settings.now at) u (slot_records database.now.slots)) }
+    ensures built { IfOk result (λ u. IsBuiltOn (slot_records database.now.slots) u) }
+    ensures few { IfOk result (λ u. length u.pairs < 2 ^ 32) }
+    ensures distinct { IfOk result (λ u. HaveDistinctNames u.starts) }
+    ensures refused { (at : Shelved) → at.request ≡ Some text.now
+        → AreRead (texts_of settings.now at) (slot_records database.now.slots) (indices_of indices.now) prefs.now
+        → IfErr result (λ refused. IsRefusal (texts_of settings.now at) refused) }
+    ensures known { IfErr result (λ refused. refused.fault ≢ fault.Read) }
+{
+    universe_is_built();
+    let _names = database.names();
+    let records = database.records(alloc)?;
+    match universe_in(
+        alloc,
+        records.as_slice(),
+        indices,
+        prefs,
+        text,
+        settings.arch,
+    ) {
+        Ok(universe) => Ok(universe),
+        Err(fault) => Err(refused_at(Input::Request, fault)),
+    }
+}
+
+/// The universe that the request is answered from, over what the texts before it are read as.
+pub fn read_universe<'p, 'a, S: Shelf>(
+    alloc: Global,
+    shelf: &mut S,
+    settings: &Settings<'_>,
+    database: &Database<'a>,
+    indices: &'p [Index<'a>],
+    prefs: &Prefs,
+) -> Result<Universe<'p, 'a>, Refusal>
+    ensures ok { (at : Shelved) → S.found shelf.old ≡ Some at
+        → AreRead (texts_of settings.now at) (slot_records database.now.slots) (indices_of indices.now) prefs.now
+        → IfOk result (λ u. Denotes (texts_of settings.now at) u (slot_records database.now.slots)) }
+    ensures built { IfOk result (λ u. IsBuiltOn (slot_records database.now.slots) u) }
+    ensures few { IfOk result (λ u. length u.pairs < 2 ^ 32) }
+    ensures distinct { IfOk result (λ u. HaveDistinctNames u.starts) }
+    ensures refused { (at : Shelved) → S.found shelf.old ≡ Some at
+        → AreRead (texts_of settings.now at) (slot_records database.now.slots) (indices_of indices.now) prefs.now
+        → IfErr result (λ refused. IsRefusal (texts_of settings.now at) refused) }
+    ensures same { S.found shelf.new ≡ S.found shelf.old }
+    ensures count { CountsRead result (S.faults shelf.old) (S.faults shelf.new) }
+{
+    let text = read_part(alloc, shelf, Part::Request, Input::Request)?;
+    universe_over(alloc, settings, database, indices, prefs, text.as_slice())
+}

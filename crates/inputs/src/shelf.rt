@@ -1,0 +1,78 @@
+//! Where the texts of a request are found: each is read at its turn.
+ghost use Rattle.std.specs.Prelude.{◌≡◌, ◌+◌, ◌-◌, ◌^◌, ℕ, IfErr, IfOk, List, None, Option, Some, min};
+ghost use Rattle.std.specs.Option.{option_map};
+ghost use Rattle.inputs.specs.Counting.{Counts};
+ghost use Rattle.inputs.specs.Texts.{Shelved, part_of};
+
+use stanza::Source;
+use std::alloc::Global;
+
+/// A text that is read whole.
+#[derive(Clone, Copy, Debug, PartialEq, Eq)]
+pub enum Part {
+    /// The status file.
+    Status,
+    /// The sources.
+    Sources,
+    /// The request.
+    Request,
+    /// The plan or the refutation that is judged.
+    Judged,
+}
+
+/// Why a text wasn't read.
+#[derive(Clone, Copy, Debug, PartialEq, Eq)]
+pub enum ReadError {
+    /// There is no such text, or it can't be read.
+    Unreadable,
+    /// A growth was refused.
+    OutOfMemory,
+}
+
+/// Where the texts of a request are found.
+pub trait Shelf {
+    /// The text of an index that was opened, to be read from its beginning.
+    type Text: Source + Drop;
+
+    // What is found, where it is known.
+    ghost found: { Self → Option Shelved } = { λ _. None };
+
+    // How many texts couldn't be read.
+    ghost faults: { Self → ℕ };
+
+    /// How many texts couldn't be read, up to what 64 bits hold.
+    fn failures(&self) -> u64
+        ensures { result ≡ faults self.now };
+
+    /// All bytes of this text. Of one that is longer than a text may be it need be no more than shows that.
+    fn read(&mut self, alloc: Global, part: Part) -> Result<Vec<u8>, ReadError>
+        ensures text { (at : Shelved) → found self.old ≡ Some at → IfOk result (λ text. part_of at part ≡ Some text.items) }
+        ensures missing { (at : Shelved) → found self.old ≡ Some at
+            → IfErr result (λ e. e ≡ ReadError.Unreadable → part_of at part ≡ None) }
+        ensures same { found self.new ≡ found self.old }
+        ensures count { Counts result (faults self.old) (faults self.new) };
+
+    /// All bytes of the preferences, or nothing where none are asked for.
+    fn read_preferences(&mut self, alloc: Global) -> Result<Option<Vec<u8>>, ReadError>
+        ensures text { (at : Shelved) → found self.old ≡ Some at
+            → IfOk result (λ text. at.preferences ≡ option_map (λ text. Some text.items) text) }
+        ensures missing { (at : Shelved) → found self.old ≡ Some at
+            → IfErr result (λ e. e ≡ ReadError.Unreadable → at.preferences ≡ Some None) }
+        ensures same { found self.new ≡ found self.old }
+        ensures count { Counts result (faults self.old) (faults self.new) };
+
+    /// Opens the text of the index of this number, counted from 1, whose source names this file.
+    fn open(&mut self, alloc: Global, number: usize, file: &[u8]) -> Result<Self::Text, ReadError>
+        ensures text { (at : Shelved) → found self.old ≡ Some at → IfOk result (λ text.
+            (bytes : List ℕ) × (at.index number file.now ≡ Some bytes) × (Self.Text.left text ≡ Some bytes)) }
+        ensures missing { (at : Shelved) → found self.old ≡ Some at
+            → IfErr result (λ e. e ≡ ReadError.Unreadable → at.index number file.now ≡ None) }
+        ensures fresh { IfOk result (λ text. Self.Text.faults text ≡ 0) }
+        ensures same { found self.new ≡ found self.old }
+        ensures count { Counts result (faults self.old) (faults self.new) };
+
+    /// Gives back a text of an index: what couldn't be read of it is counted.
+    fn close(&mut self, text: Self::Text)
+        ensures same { found self.new ≡ found self.old }
+        ensures count { faults self.new ≡ min (faults self.old + Self.Text.faults text.entry) (2 ^ 64 - 1) };
+}
