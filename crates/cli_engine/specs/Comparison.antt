@@ -6,9 +6,9 @@ use Rattle.std.specs.declared.cmp.Ordering.{Ordering}
 use Rattle.rules.specs.VersionFault.{first_fault}
 use Rattle.cli_engine.specs.declared.comparison.Comparison.{Comparison}
 use Rattle.cli_engine.specs.declared.comparison.Comparison.TheVariants as relation
-use Rattle.cli_engine.specs.declared.refusal.Fault.TheVariants as fault
-use Rattle.cli_engine.specs.declared.refusal.Input.TheVariants as place
-use Rattle.cli_engine.specs.declared.refusal.Refusal.{Refusal}
+use Rattle.inputs.specs.declared.refusal.Fault.TheVariants as fault
+use Rattle.inputs.specs.declared.refusal.Input.TheVariants as place
+use Rattle.inputs.specs.declared.refusal.Refusal.{Refusal}
 
 -- two versions in this order stand so to each other
 abbrev pub holds : Comparison → Ordering → Bool

@@ -1,10 +1,5 @@
 pub mod Answer
-pub mod Before
 pub mod Comparison
-pub mod Indices
-pub mod Inputs
 pub mod Meaning
-pub mod Reading
 pub mod Refuted
 pub mod Solution
-pub mod Texts

@@ -1,6 +1,9 @@
--- What follows from what the texts denote: they have one meaning, no refusal beside it, and a plan one answer; and what the
--- answer yes promises.
+-- What follows from what the texts denote: a plan has one answer, and what the answer yes promises.
 use Rattle.std.specs.Prelude.{◌≡◌, ◌⊎◌, ℕ, List, Result, Ok, Err}
+use Rattle.inputs.specs.Meaning.{Denotes}
+use Rattle.inputs.specs.Reading.{out_of_memory}
+use Rattle.inputs.specs.Texts.{Found, Texts}
+use Rattle.inputs.specs.declared.refusal.Refusal.{Refusal}
 use Rattle.rules.specs.Database.{Record}
 use Rattle.rules.specs.PlanLaws.{KeepsPromise}
 use Rattle.rules.specs.Run.{IsGoodPlan}
@@ -8,35 +11,21 @@ use Rattle.rules.specs.Universe.{Universe}
 use Rattle.rules.specs.declared.step.Step.{Step}
 use Rattle.rules.specs.declared.step.Verdict.{Verdict}
 use Rattle.rules.specs.declared.step.Verdict.TheVariants as verdict
-use Rattle.cli_engine.specs.Answer.{Denotes, IsAnswer, IsFirstRefusal}
-use Rattle.cli_engine.specs.Reading.{out_of_memory}
-use Rattle.cli_engine.specs.Texts.{Texts, plan_of}
-use Rattle.cli_engine.specs.declared.refusal.Input.TheVariants as place
-use Rattle.cli_engine.specs.declared.refusal.Refusal.{Refusal}
-
--- texts have one meaning
-abbrev pub HasOneMeaning : Type 0
-HasOneMeaning = (texts : Texts) (u other : Universe) (start begin : List Record) → Denotes texts u start → Denotes texts other begin
-    → (u ≡ other) × (start ≡ begin)
-
--- texts that have a meaning aren't refused: what is refused beside it is the plan, or memory was wanting
-abbrev pub MeaningIsNotRefused : Type 0
-MeaningIsNotRefused = (texts : Texts) (u : Universe) (start : List Record) (plan : List ℕ) (refused : Refusal) → Denotes texts u start
-    → IsFirstRefusal texts plan refused → (refused.place ≡ place.Plan) ⊎ (refused.place ≡ place.Memory)
+use Rattle.cli_engine.specs.Answer.{IsAnswer, IsFirstRefusal, plan_of}
 
 -- a plan has one answer
 abbrev pub HasOneAnswer : Type 0
-HasOneAnswer = (texts : Texts) (plan : List ℕ) (first second : Verdict) → IsAnswer texts plan first → IsAnswer texts plan second
+HasOneAnswer = (texts : Texts) (plan : Found) (first second : Verdict) → IsAnswer texts plan first → IsAnswer texts plan second
     → first ≡ second
 
 -- the texts are read as this universe and this start, and the plan as these steps
-pub record IsReadAs (texts : Texts) (plan : List ℕ) (u : Universe) (start : List Record) (steps : List Step) : Type 0 where
+pub record IsReadAs (texts : Texts) (plan : Found) (u : Universe) (start : List Record) (steps : List Step) : Type 0 where
   pub denoted : Denotes texts u start
   pub read : plan_of plan ≡ Ok steps
 
 -- the texts and the plan are read, and the plan keeps its promise: each step is allowed when its turn comes, no two
 -- packages that conflict are unpacked together after any beginning, and the end is as asked
-pub record IsPromised (texts : Texts) (plan : List ℕ) : Type 0 where
+pub record IsPromised (texts : Texts) (plan : Found) : Type 0 where
   pub universe : Universe
   pub start : List Record
   pub steps : List Step
@@ -45,15 +34,15 @@ pub record IsPromised (texts : Texts) (plan : List ℕ) : Type 0 where
 
 -- a plan that is answered with yes keeps its promise
 abbrev pub YesKeepsPromise : Type 0
-YesKeepsPromise = (texts : Texts) (plan : List ℕ) → IsAnswer texts plan verdict.Yes → IsPromised texts plan
+YesKeepsPromise = (texts : Texts) (plan : Found) → IsAnswer texts plan verdict.Yes → IsPromised texts plan
 
 -- what is said of a plan: its answer, or the first refusal
-abbrev pub IsSaid : Texts → List ℕ → Result Verdict Refusal → Type 0
+abbrev pub IsSaid : Texts → Found → Result Verdict Refusal → Type 0
 IsSaid texts plan (Ok found) = IsAnswer texts plan found
 IsSaid texts plan (Err refused) = IsFirstRefusal texts plan refused
 
 -- of a plan that is read and good, over what the texts denote, yes is said, or that memory was wanting
 abbrev pub GoodPlanIsAnswered : Type 0
-GoodPlanIsAnswered = (texts : Texts) (plan : List ℕ) (u : Universe) (start : List Record) (steps : List Step)
+GoodPlanIsAnswered = (texts : Texts) (plan : Found) (u : Universe) (start : List Record) (steps : List Step)
     (said : Result Verdict Refusal) → IsReadAs texts plan u start steps → IsGoodPlan u start steps → IsSaid texts plan said
     → (said ≡ Ok verdict.Yes) ⊎ (said ≡ Err out_of_memory)

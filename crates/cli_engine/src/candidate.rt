@@ -1,58 +1,80 @@
-// The candidate of a name by texts (apt_preferences(5)).
-
-ghost use Rattle.std.specs.Prelude.{[], IfErr, IfOk};
+//! The candidate of a name by texts (apt_preferences(5)).
+ghost use Rattle.std.specs.Prelude.{◌≡◌, [], IfErr, IfOk, None, Some};
 ghost use Rattle.candidates.specs.Candidates.{IsCandidateOf};
 ghost use Rattle.candidates.specs.Inputs.{indices_of, inputs_of};
+ghost use Rattle.inputs.specs.Before.{IsRefusalBefore};
+ghost use Rattle.inputs.specs.Counting.{CountsRead};
+ghost use Rattle.inputs.specs.Inputs.{shelved};
+ghost use Rattle.inputs.specs.Texts.{Shelved, texts_of};
 ghost use Rattle.status_store.specs.Slots.{slot_records};
-ghost use Rattle.cli_engine.specs.Answer.{HasItsIndices, IsCandidateAnswer};
-ghost use Rattle.cli_engine.specs.Before.{IsRefusalBefore};
-ghost use Rattle.cli_engine.specs.Inputs.{texts_of};
-ghost use Rattle.cli_engine.specs.Texts.{sources_of};
+ghost use Rattle.cli_engine.specs.Answer.{IsCandidateAnswer};
 
-use crate::inputs::Inputs;
-use crate::read::{ReadTexts, read_texts};
-use crate::refusal::Refusal;
-use candidates::{Offer, candidate};
+use crate::offered::Candidate;
+use candidates::candidate;
 use index::Index;
+use inputs::{
+    Inputs, Listed, MemoryShelf, Refusal, Settings, Shelf, lend_indices, read_database,
+    read_listed, read_preferences, read_status,
+};
 use pins::Prefs;
 use status_store::Database;
 use std::alloc::{AllocError, Global};
 
 // The candidate of the name over the records of the database.
-fn candidate_over<'a>(
+fn candidate_over(
     alloc: Global,
-    database: &Database<'a>,
-    indices: &[Index<'a>],
+    database: &Database<'_>,
+    indices: &[Index<'_>],
     prefs: &Prefs,
     name: &[u8],
-) -> Result<Option<Offer<'a>>, AllocError>
+) -> Result<Option<Candidate>, AllocError>
     ensures { IfOk result (λ found. IsCandidateOf
         (inputs_of (slot_records database.now.slots) (indices_of indices.now) prefs.now []) name.now found) }
 {
     let _names = database.names();
     let records = database.records(alloc)?;
-    let found = candidate(alloc, records.as_slice(), indices, prefs, name)?;
+    match candidate(alloc, records.as_slice(), indices, prefs, name)? {
+        None => Ok(None),
+        Some(offer) => Ok(Some(Candidate::copied_from(alloc, &offer)?)),
+    }
+}
+
+/// The candidate of the name by the texts of a shelf, with its priority, if the name has one: the version that is to be chosen
+/// before anything is asked for (apt_preferences(5)). The request isn't read. Else the first refusal in the order status,
+/// sources, indices, preferences, as `check_plan_from` has it. Reading is linear in the texts but for the order of the
+/// stanzas, n log n; the candidates of all names are found, at the cost of `candidates::candidate`.
+pub fn candidate_from<S: Shelf>(
+    alloc: Global,
+    shelf: &mut S,
+    settings: &Settings<'_>,
+    name: &[u8],
+) -> Result<Option<Candidate>, Refusal>
+    ensures answer { (at : Shelved) → S.found shelf.old ≡ Some at
+        → IfOk result (λ found. IsCandidateAnswer (texts_of settings.now at) name.now found) }
+    ensures refused { (at : Shelved) → S.found shelf.old ≡ Some at
+        → IfErr result (λ refused. IsRefusalBefore (texts_of settings.now at) refused) }
+    ensures same { S.found shelf.new ≡ S.found shelf.old }
+    ensures count { CountsRead result (S.faults shelf.old) (S.faults shelf.new) }
+{
+    let status = read_status(alloc, shelf)?;
+    let database = read_database(alloc, status.as_slice(), settings)?;
+    let Listed { kept, releases } = read_listed(alloc, shelf, settings)?;
+    let indices = lend_indices(alloc, kept.as_slice(), releases)?;
+    let prefs = read_preferences(alloc, shelf, settings)?;
+    let found = candidate_over(alloc, &database, indices.as_slice(), &prefs, name)?;
     Ok(found)
 }
 
-/// The candidate of the name by the texts, with its priority, if the name has one: the version that is to be chosen before
-/// anything is asked for (apt_preferences(5)). The request isn't read. Else the first refusal in the order status, sources,
-/// indices, preferences, or want of memory. Reading is linear in the texts but for the order of the stanzas, n log n; the
-/// candidates of all names are found, at the cost of `candidates::candidate`.
-pub fn candidate_bytes<'a>(
+/// The candidate of the name by the texts in memory, as `candidate_from` finds it.
+pub fn candidate_bytes(
     alloc: Global,
-    inputs: &Inputs<'_, 'a>,
+    inputs: &Inputs<'_, '_>,
+    settings: &Settings<'_>,
     name: &[u8],
-) -> Result<Option<Offer<'a>>, Refusal>
-    requires { HasItsIndices (sources_of (texts_of inputs.now).sources) (texts_of inputs.now).indices }
-    ensures answer { IfOk result (λ found. IsCandidateAnswer (texts_of inputs.now) name.now found) }
-    ensures refused { IfErr result (λ refused. IsRefusalBefore (texts_of inputs.now) refused) }
+) -> Result<Option<Candidate>, Refusal>
+    ensures answer { IfOk result (λ found. IsCandidateAnswer (texts_of settings.now (shelved inputs.now None)) name.now found) }
+    ensures refused { IfErr result (λ refused. IsRefusalBefore (texts_of settings.now (shelved inputs.now None)) refused) }
 {
-    let ReadTexts {
-        database,
-        indices,
-        prefs,
-    } = read_texts(alloc, inputs)?;
-    let found = candidate_over(alloc, &database, indices.as_slice(), &prefs, name)?;
-    Ok(found)
+    let mut shelf = MemoryShelf::new(*inputs, None);
+    candidate_from(alloc, &mut shelf, settings, name)
 }

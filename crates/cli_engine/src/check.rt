@@ -1,65 +1,26 @@
-// A plan judged by texts, read in the order status, sources, indices, preferences, request and plan.
-
-ghost use Rattle.std.specs.Prelude.{◌≡◌, ◌<◌, ◌^◌, IfErr, IfOk, List, length, ℕ};
-ghost use Rattle.candidates.specs.Inputs.{indices_of};
+//! A plan judged by texts, read in the order status, sources, indices, preferences, request and plan.
+ghost use Rattle.std.specs.Prelude.{◌≡◌, IfErr, IfOk, Some};
+ghost use Rattle.inputs.specs.Counting.{CountsRead};
+ghost use Rattle.inputs.specs.Inputs.{shelved};
+ghost use Rattle.inputs.specs.Texts.{Shelved, texts_of};
 ghost use Rattle.rules.specs.Verdict.{IsBuiltOn, IsVerdict};
 ghost use Rattle.status_store.specs.Slots.{slot_records};
-ghost use Rattle.universe.specs.Universe.{HaveDistinctNames};
-ghost use Rattle.cli_engine.specs.Answer.{Denotes, HasItsIndices, IsAnswer, IsFirstRefusal};
-ghost use Rattle.cli_engine.specs.Before.{AreRead};
-ghost use Rattle.cli_engine.specs.Inputs.{texts_of};
-ghost use Rattle.cli_engine.specs.Refuted.{IsFirstRefutationRefusal};
-ghost use Rattle.cli_engine.specs.Texts.{sources_of};
+ghost use Rattle.cli_engine.specs.Answer.{IsAnswer, IsFirstRefusal};
 
-use crate::inputs::Inputs;
 use crate::plan::read_steps;
-use crate::read::{ReadTexts, read_texts};
-use crate::refusal::{Input, Refusal, refused_at};
-use crate::request::read_request;
-use index::Index;
-use pins::Prefs;
+use inputs::{
+    Inputs, Listed, MemoryShelf, Refusal, Settings, Shelf, lend_indices, read_database,
+    read_listed, read_preferences, read_status, read_universe,
+};
 use plancheck::check_plan;
-use rules::{Step, Verdict, universe_is_built};
+use rules::{Step, Verdict};
 use status_store::Database;
 use status_view::{parse_packages, view};
 use std::alloc::{AllocError, Global};
 use universe::Universe;
 
-/// The universe that the request is answered from, over the database, the indices and the preferences.
-pub(crate) fn universe_of<'p, 'a>(
-    alloc: Global,
-    database: &Database<'a>,
-    indices: &'p [Index<'a>],
-    prefs: &Prefs,
-    inputs: &Inputs<'_, 'a>,
-) -> Result<Universe<'p, 'a>, Refusal>
-    requires { AreRead (texts_of inputs.now) (slot_records database.now.slots) (indices_of indices.now) prefs.now }
-    ensures ok { IfOk result (λ u. Denotes (texts_of inputs.now) u (slot_records database.now.slots)) }
-    ensures built { IfOk result (λ u. IsBuiltOn (slot_records database.now.slots) u) }
-    ensures few { IfOk result (λ u. length u.pairs < 2 ^ 32) }
-    ensures distinct { IfOk result (λ u. HaveDistinctNames u.starts) }
-    ensures err { (plan : List ℕ) → IfErr result (λ refused. IsFirstRefusal (texts_of inputs.now) plan refused) }
-    ensures err_beside { (refutation : List ℕ) → IfErr result (λ refused.
-        IsFirstRefutationRefusal (texts_of inputs.now) refutation refused) }
-{
-    universe_is_built();
-    let _names = database.names();
-    let records = database.records(alloc)?;
-    match read_request(
-        alloc,
-        records.as_slice(),
-        indices,
-        prefs,
-        inputs.request,
-        inputs.arch,
-    ) {
-        Ok(universe) => Ok(universe),
-        Err(fault) => Err(refused_at(Input::Request, fault)),
-    }
-}
-
-// Judges the steps from this database on.
-fn judge<'a>(
+/// Judges the steps from this database on.
+pub fn judge<'a>(
     alloc: Global,
     database: &Database<'a>,
     universe: &Universe<'_, 'a>,
@@ -75,44 +36,44 @@ fn judge<'a>(
     Ok(answer)
 }
 
-// Judges the plan by what the texts before the request are read as.
-fn judge_by<'a>(
+/// Judges the plan by the texts of a shelf: the verdict of what they denote, or the first refusal in the order status,
+/// sources, indices, preferences, request, plan. Each text is read at its turn, and none behind a refusal. `E5 Read` is
+/// refused where a text can't be read, at its place; where memory was wanting, that is answered instead. Of the indices no
+/// more is held than what is kept of them. Reading is linear in the texts but for the order of the stanzas, n log n, and the
+/// priorities cost what `candidates::Offered::find` says; judging costs what `plancheck::check_plan` says.
+pub fn check_plan_from<S: Shelf>(
     alloc: Global,
-    read: &ReadTexts<'a>,
-    inputs: &Inputs<'_, 'a>,
-    plan: &[u8],
+    shelf: &mut S,
+    settings: &Settings<'_>,
 ) -> Result<Verdict, Refusal>
-    requires { AreRead (texts_of inputs.now) (slot_records read.now.database.slots) (indices_of read.now.indices.items) read.now.prefs }
-    ensures answer { IfOk result (λ verdict. IsAnswer (texts_of inputs.now) plan.now verdict) }
-    ensures refused { IfErr result (λ refused. IsFirstRefusal (texts_of inputs.now) plan.now refused) }
+    ensures answer { (at : Shelved) → S.found shelf.old ≡ Some at
+        → IfOk result (λ verdict. IsAnswer (texts_of settings.now at) at.judged verdict) }
+    ensures refused { (at : Shelved) → S.found shelf.old ≡ Some at
+        → IfErr result (λ refused. IsFirstRefusal (texts_of settings.now at) at.judged refused) }
+    ensures same { S.found shelf.new ≡ S.found shelf.old }
+    ensures count { CountsRead result (S.faults shelf.old) (S.faults shelf.new) }
 {
-    let ReadTexts {
-        database,
-        indices,
-        prefs,
-    } = read;
-    let universe = universe_of(alloc, database, indices.as_slice(), prefs, inputs)?;
-    let steps = match read_steps(alloc, plan) {
-        Ok(steps) => steps,
-        Err(fault) => return Err(refused_at(Input::Plan, fault)),
-    };
-    let verdict = judge(alloc, database, &universe, steps.as_slice())?;
+    let status = read_status(alloc, shelf)?;
+    let database = read_database(alloc, status.as_slice(), settings)?;
+    let Listed { kept, releases } = read_listed(alloc, shelf, settings)?;
+    let indices = lend_indices(alloc, kept.as_slice(), releases)?;
+    let prefs = read_preferences(alloc, shelf, settings)?;
+    let universe = read_universe(alloc, shelf, settings, &database, indices.as_slice(), &prefs)?;
+    let steps = read_steps(alloc, shelf)?;
+    let verdict = judge(alloc, &database, &universe, steps.as_slice())?;
     Ok(verdict)
 }
 
-/// Judges the plan by the texts: the verdict of what they denote, or the first refusal in the order status, sources,
-/// indices, preferences, request, plan; where memory was wanting, that is answered instead. Reading is linear in the texts
-/// but for the order of the stanzas, n log n, and the priorities cost what `candidates::Offered::find` says; judging costs what
-/// `plancheck::check_plan` says.
+/// Judges the plan by the texts in memory, as `check_plan_from` judges it.
 pub fn check_plan_bytes(
     alloc: Global,
     inputs: &Inputs<'_, '_>,
+    settings: &Settings<'_>,
     plan: &[u8],
 ) -> Result<Verdict, Refusal>
-    requires { HasItsIndices (sources_of (texts_of inputs.now).sources) (texts_of inputs.now).indices }
-    ensures answer { IfOk result (λ verdict. IsAnswer (texts_of inputs.now) plan.now verdict) }
-    ensures refused { IfErr result (λ refused. IsFirstRefusal (texts_of inputs.now) plan.now refused) }
+    ensures answer { IfOk result (λ verdict. IsAnswer (texts_of settings.now (shelved inputs.now (Some plan.now))) (Some plan.now) verdict) }
+    ensures refused { IfErr result (λ refused. IsFirstRefusal (texts_of settings.now (shelved inputs.now (Some plan.now))) (Some plan.now) refused) }
 {
-    let read = read_texts(alloc, inputs)?;
-    judge_by(alloc, &read, inputs, plan)
+    let mut shelf = MemoryShelf::new(*inputs, Some(plan));
+    check_plan_from(alloc, &mut shelf, settings)
 }

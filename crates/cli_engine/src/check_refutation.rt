@@ -1,30 +1,31 @@
-// A refutation judged by texts, read in the order status, sources, indices, preferences, request and refutation.
-
-ghost use Rattle.std.specs.Prelude.{◌≡◌, IfErr, IfOk, Ok};
-ghost use Rattle.candidates.specs.Inputs.{indices_of};
+//! A refutation judged by texts, read in the order status, sources, indices, preferences, request and refutation.
+ghost use Rattle.std.specs.Prelude.{◌≡◌, ◌≢◌, IfErr, IfOk, List, Ok, Some};
+ghost use Rattle.inputs.specs.Counting.{CountsRead};
+ghost use Rattle.inputs.specs.Inputs.{shelved};
+ghost use Rattle.inputs.specs.Meaning.{Denotes};
+ghost use Rattle.inputs.specs.Reading.{IsFaultOf};
+ghost use Rattle.inputs.specs.Texts.{Shelved, Texts, texts_of};
+ghost use Rattle.inputs.specs.declared.refusal.Fault.TheVariants as fault;
 ghost use Rattle.refutecheck.specs.declared.verdict.Verdict.TheVariants as verdict;
-ghost use Rattle.status_store.specs.Slots.{slot_records};
-ghost use Rattle.cli_engine.specs.Answer.{HasItsIndices};
-ghost use Rattle.cli_engine.specs.Before.{AreRead};
-ghost use Rattle.cli_engine.specs.Inputs.{texts_of};
-ghost use Rattle.cli_engine.specs.Reading.{IsFaultOf};
-ghost use Rattle.cli_engine.specs.Refuted.{AreRefuted, IsFirstRefutationRefusal, IsRefutationAnswer};
-ghost use Rattle.cli_engine.specs.Texts.{refutation_of, sources_of};
+ghost use Rattle.rules.specs.Database.{Record};
+ghost use Rattle.rules.specs.Universe.{Universe as UniverseOf};
+ghost use Rattle.cli_engine.specs.Refuted.{AreRefuted, IsFirstRefutationRefusal, IsRefutationAnswer, refutation_of};
 
-use crate::check::universe_of;
-use crate::inputs::Inputs;
 use crate::laws::yes_refutes;
-use crate::read::{ReadTexts, read_texts};
-use crate::refusal::{Fault, Input, Refusal, refused_at};
+use inputs::{
+    Fault, Input, Inputs, Listed, MemoryShelf, Part, Refusal, Settings, Shelf, lend_indices,
+    read_database, read_listed, read_part, read_preferences, read_status, read_universe, refused_at,
+};
 use refutation::Refutation;
 use refutation_text::{RefutationError, read_refutation};
 use refutecheck::{Verdict, check_refutation};
 use std::alloc::Global;
 
-// The lines of a refutation.
-fn read_lines(alloc: Global, text: &[u8]) -> Result<Refutation, Fault>
-    ensures ok { IfOk result (λ lines. refutation_of text.now ≡ Ok lines) }
-    ensures err { IfErr result (λ f. IsFaultOf (refutation_of text.now) f) }
+// The lines of the refutation with this text.
+fn lines_in(alloc: Global, text: &[u8]) -> Result<Refutation, Fault>
+    ensures ok { IfOk result (λ lines. refutation_of (Some text.now) ≡ Ok lines) }
+    ensures err { IfErr result (λ f. IsFaultOf (refutation_of (Some text.now)) f) }
+    ensures known { IfErr result (λ f. f ≢ fault.Read) }
 {
     match read_refutation(alloc, text) {
         Ok(lines) => Ok(lines),
@@ -33,49 +34,66 @@ fn read_lines(alloc: Global, text: &[u8]) -> Result<Refutation, Fault>
     }
 }
 
-// Judges the refutation by what the texts before the request are read as.
-fn judge_by<'a>(
-    alloc: Global,
-    read: &ReadTexts<'a>,
-    inputs: &Inputs<'_, 'a>,
-    text: &[u8],
-) -> Result<Verdict, Refusal>
-    requires { AreRead (texts_of inputs.now) (slot_records read.now.database.slots) (indices_of read.now.indices.items) read.now.prefs }
-    ensures answer { IfOk result (λ found. IsRefutationAnswer (texts_of inputs.now) text.now found) }
-    ensures refused { IfErr result (λ refused. IsFirstRefutationRefusal (texts_of inputs.now) text.now refused) }
+// The lines of the refutation.
+fn read_lines<S: Shelf>(alloc: Global, shelf: &mut S) -> Result<Refutation, Refusal>
+    ensures ok { (at : Shelved) → S.found shelf.old ≡ Some at → IfOk result (λ lines. refutation_of at.judged ≡ Ok lines) }
+    ensures refused { (at : Shelved) (texts : Texts) (u : UniverseOf) (start : List Record) → S.found shelf.old ≡ Some at
+        → Denotes texts u start → IfErr result (λ refused. IsFirstRefutationRefusal texts at.judged refused) }
+    ensures same { S.found shelf.new ≡ S.found shelf.old }
+    ensures count { CountsRead result (S.faults shelf.old) (S.faults shelf.new) }
 {
-    let ReadTexts {
-        database,
-        indices,
-        prefs,
-    } = read;
-    let universe = universe_of(alloc, database, indices.as_slice(), prefs, inputs)?;
-    let refutation = match read_lines(alloc, text) {
-        Ok(refutation) => refutation,
-        Err(fault) => return Err(refused_at(Input::Refutation, fault)),
-    };
+    let text = read_part(alloc, shelf, Part::Judged, Input::Refutation)?;
+    match lines_in(alloc, text.as_slice()) {
+        Ok(lines) => Ok(lines),
+        Err(fault) => Err(refused_at(Input::Refutation, fault)),
+    }
+}
+
+/// Judges the refutation by the texts of a shelf: yes exactly where it is accepted over the universe that they denote, and
+/// then no set of admitted pairs is acceptable; else the number of its first bad line; or the first refusal in the order
+/// status, sources, indices, preferences, request, refutation, as `check_plan_from` has it. Reading costs what
+/// `check_plan_from` says; judging costs what `refutecheck::check_refutation` says.
+pub fn check_refutation_from<S: Shelf>(
+    alloc: Global,
+    shelf: &mut S,
+    settings: &Settings<'_>,
+) -> Result<Verdict, Refusal>
+    // the verdict is true of the refutation that the text is read as
+    ensures answer { (at : Shelved) → S.found shelf.old ≡ Some at
+        → IfOk result (λ found. IsRefutationAnswer (texts_of settings.now at) at.judged found) }
+    // where it is yes, no set of admitted pairs is acceptable
+    ensures refuted { (at : Shelved) → S.found shelf.old ≡ Some at
+        → IfOk result (λ found. found ≡ verdict.Yes → AreRefuted (texts_of settings.now at)) }
+    // and else the refusal is the first in the order of reading
+    ensures refused { (at : Shelved) → S.found shelf.old ≡ Some at
+        → IfErr result (λ refused. IsFirstRefutationRefusal (texts_of settings.now at) at.judged refused) }
+    ensures same { S.found shelf.new ≡ S.found shelf.old }
+    ensures count { CountsRead result (S.faults shelf.old) (S.faults shelf.new) }
+{
+    yes_refutes();
+    let status = read_status(alloc, shelf)?;
+    let database = read_database(alloc, status.as_slice(), settings)?;
+    let Listed { kept, releases } = read_listed(alloc, shelf, settings)?;
+    let indices = lend_indices(alloc, kept.as_slice(), releases)?;
+    let prefs = read_preferences(alloc, shelf, settings)?;
+    let universe = read_universe(alloc, shelf, settings, &database, indices.as_slice(), &prefs)?;
+    let refutation = read_lines(alloc, shelf)?;
     let found = check_refutation(alloc, &universe, &refutation)?;
     Ok(found)
 }
 
-/// Judges the refutation by the texts: yes exactly where it is accepted over the universe that they denote, and then no set
-/// of admitted pairs is acceptable; else the number of its first bad line; or the first refusal in the order status, sources,
-/// indices, preferences, request, refutation; where memory was wanting, that is answered instead. Reading costs what
-/// `check_plan_bytes` says; judging costs what `refutecheck::check_refutation` says.
+/// Judges the refutation by the texts in memory, as `check_refutation_from` judges it.
 pub fn check_refutation_bytes(
     alloc: Global,
     inputs: &Inputs<'_, '_>,
+    settings: &Settings<'_>,
     refutation: &[u8],
 ) -> Result<Verdict, Refusal>
-    requires { HasItsIndices (sources_of (texts_of inputs.now).sources) (texts_of inputs.now).indices }
-    // the verdict is true of the refutation that the text is read as
-    ensures answer { IfOk result (λ found. IsRefutationAnswer (texts_of inputs.now) refutation.now found) }
-    // where it is yes, no set of admitted pairs is acceptable
-    ensures refuted { IfOk result (λ found. found ≡ verdict.Yes → AreRefuted (texts_of inputs.now)) }
-    // and else the refusal is the first in the order of reading
-    ensures refused { IfErr result (λ refused. IsFirstRefutationRefusal (texts_of inputs.now) refutation.now refused) }
+    ensures answer { IfOk result (λ found. IsRefutationAnswer (texts_of settings.now (shelved inputs.now (Some refutation.now))) (Some refutation.now) found) }
+    ensures refuted { IfOk result (λ found. found ≡ verdict.Yes → AreRefuted (texts_of settings.now (shelved inputs.now (Some refutation.now)))) }
+    ensures refused { IfErr result (λ refused.
+        IsFirstRefutationRefusal (texts_of settings.now (shelved inputs.now (Some refutation.now))) (Some refutation.now) refused) }
 {
-    yes_refutes();
-    let read = read_texts(alloc, inputs)?;
-    judge_by(alloc, &read, inputs, refutation)
+    let mut shelf = MemoryShelf::new(*inputs, Some(refutation));
+    check_refutation_from(alloc, &mut shelf, settings)
 }

@@ -1,10 +1,10 @@
-// Two versions compared by their texts (Policy 5.6.12, deb-version(7)).
+//! Two versions compared by their texts (Policy 5.6.12, deb-version(7)).
 
 ghost use Rattle.std.specs.Prelude.{◌≡◌, MatchResult, None, Some};
 ghost use Rattle.rules.specs.Version.{version_cmp};
 ghost use Rattle.cli_engine.specs.Comparison.{comparison_refusal, holds, version_refusal};
 
-use crate::refusal::{Fault, Input, Refusal};
+use inputs::{Fault, Input, Refusal};
 use debversion::Version;
 use std::cmp::Ordering;
 

@@ -1,18 +1,8 @@
-// What follows from what texts denote: each function's contract is the law.
+//! What follows from what texts denote: each function's contract is the law.
 
-ghost use Rattle.cli_engine.specs.Meaning.{GoodPlanIsAnswered, HasOneAnswer, HasOneMeaning, MeaningIsNotRefused, YesKeepsPromise};
-ghost use Rattle.cli_engine.specs.Refuted.{AcceptedRefutationIsAnswered, MeaningIsNotRefusedBeside, RefutationHasOneAnswer, YesRefutes};
+ghost use Rattle.cli_engine.specs.Meaning.{GoodPlanIsAnswered, HasOneAnswer, YesKeepsPromise};
+ghost use Rattle.cli_engine.specs.Refuted.{AcceptedRefutationIsAnswered, RefutationHasOneAnswer, YesRefutes};
 ghost use Rattle.cli_engine.specs.Solution.{MeaningIsAnswered, MeaningIsSolvable};
-
-/// Texts have one meaning: the universe and the start that they denote.
-pub fn texts_have_one_meaning()
-    ensures { HasOneMeaning }
-{}
-
-/// Texts that have a meaning aren't refused: a refusal beside it is the plan's, or memory was wanting.
-pub fn a_meaning_is_not_refused()
-    ensures { MeaningIsNotRefused }
-{}
 
 /// What texts denote can be solved: the universe is built on the start and counted by it, its pairs ascend, those that must be
 /// selected are there, and names are package names.
@@ -45,11 +35,6 @@ pub fn a_refutation_has_one_answer()
 /// If the refutation checker says yes, no selection of the admitted versions satisfies the request.
 pub fn yes_refutes()
     ensures { YesRefutes }
-{}
-
-/// Texts that have a meaning aren't refused beside a refutation: a refusal is the refutation's, or memory was wanting.
-pub fn a_meaning_is_not_refused_beside()
-    ensures { MeaningIsNotRefusedBeside }
 {}
 
 /// The refutation checker says yes to every refutation that is accepted, unless memory is wanting.

@@ -1,21 +1,19 @@
-// A request solved by texts, read in the order status, sources, indices, preferences and request.
-
-ghost use Rattle.std.specs.Prelude.{IfErr, IfOk};
-ghost use Rattle.candidates.specs.Inputs.{indices_of};
-ghost use Rattle.status_store.specs.Slots.{slot_records};
+//! A request solved by texts, read in the order status, sources, indices, preferences and request.
+ghost use Rattle.std.specs.Prelude.{◌≡◌, IfErr, IfOk, None, Some};
+ghost use Rattle.inputs.specs.Counting.{CountsRead};
+ghost use Rattle.inputs.specs.Inputs.{shelved};
+ghost use Rattle.inputs.specs.Refused.{IsRefusal};
+ghost use Rattle.inputs.specs.Texts.{Shelved, texts_of};
 ghost use Rattle.solver.specs.Solvable.{IsSolvable};
 ghost use Rattle.solver.specs.Solved.{IsSolved};
-ghost use Rattle.cli_engine.specs.Answer.{HasItsIndices};
-ghost use Rattle.cli_engine.specs.Before.{AreRead};
-ghost use Rattle.cli_engine.specs.Inputs.{texts_of};
-ghost use Rattle.cli_engine.specs.Solution.{IsFirstRequestRefusal, IsSolution};
-ghost use Rattle.cli_engine.specs.Texts.{sources_of};
+ghost use Rattle.status_store.specs.Slots.{slot_records};
+ghost use Rattle.cli_engine.specs.Solution.{IsSolution};
 
-use crate::check::universe_of;
-use crate::inputs::Inputs;
 use crate::laws::a_meaning_is_solvable;
-use crate::read::{ReadTexts, read_texts};
-use crate::refusal::Refusal;
+use inputs::{
+    Inputs, Listed, MemoryShelf, Refusal, Settings, Shelf, lend_indices, read_database,
+    read_listed, read_preferences, read_status, read_universe,
+};
 use solver::{Solved, solve};
 use status_store::Database;
 use status_view::{parse_packages, view};
@@ -23,7 +21,7 @@ use std::alloc::{AllocError, Global};
 use universe::Universe;
 
 // Solves the request of the universe from this database on.
-fn solve_from<'a>(
+fn solve_over<'a>(
     alloc: Global,
     database: &Database<'a>,
     universe: &Universe<'_, 'a>,
@@ -39,37 +37,44 @@ fn solve_from<'a>(
     Ok(solved)
 }
 
-// Solves the request by what the texts before it are read as.
-fn solve_by<'a>(
+/// Solves the request by the texts of a shelf, with at most so many conflicts of the search: a plan that is good over what
+/// they denote; a refutation that is accepted over it, so that no set of admitted pairs is acceptable; or why it is
+/// undecided; or the first refusal in the order status, sources, indices, preferences, request, as `check_plan_from` has it.
+/// Reading costs what `check_plan_from` says; solving costs what `solver::solve` says.
+pub fn solve_from<S: Shelf>(
     alloc: Global,
-    read: &ReadTexts<'a>,
-    inputs: &Inputs<'_, 'a>,
+    shelf: &mut S,
+    settings: &Settings<'_>,
     limit: u32,
 ) -> Result<Solved, Refusal>
-    requires { AreRead (texts_of inputs.now) (slot_records read.now.database.slots) (indices_of read.now.indices.items) read.now.prefs }
-    ensures answer { IfOk result (λ solved. IsSolution (texts_of inputs.now) limit solved) }
-    ensures refused { IfErr result (λ refused. IsFirstRequestRefusal (texts_of inputs.now) refused) }
+    ensures answer { (at : Shelved) → S.found shelf.old ≡ Some at
+        → IfOk result (λ solved. IsSolution (texts_of settings.now at) limit solved) }
+    ensures refused { (at : Shelved) → S.found shelf.old ≡ Some at
+        → IfErr result (λ refused. IsRefusal (texts_of settings.now at) refused) }
+    ensures same { S.found shelf.new ≡ S.found shelf.old }
+    ensures count { CountsRead result (S.faults shelf.old) (S.faults shelf.new) }
 {
     a_meaning_is_solvable();
-    let ReadTexts {
-        database,
-        indices,
-        prefs,
-    } = read;
-    let universe = universe_of(alloc, database, indices.as_slice(), prefs, inputs)?;
-    let solved = solve_from(alloc, database, &universe, limit)?;
+    let status = read_status(alloc, shelf)?;
+    let database = read_database(alloc, status.as_slice(), settings)?;
+    let Listed { kept, releases } = read_listed(alloc, shelf, settings)?;
+    let indices = lend_indices(alloc, kept.as_slice(), releases)?;
+    let prefs = read_preferences(alloc, shelf, settings)?;
+    let universe = read_universe(alloc, shelf, settings, &database, indices.as_slice(), &prefs)?;
+    let solved = solve_over(alloc, &database, &universe, limit)?;
     Ok(solved)
 }
 
-/// Solves the request by the texts, with at most so many conflicts of the search: a plan that is good over what they denote;
-/// a refutation that is accepted over it, so that no set of admitted pairs is acceptable; or why it is undecided; or the
-/// first refusal in the order status, sources, indices, preferences, request; where memory was wanting, that is answered instead. Reading
-/// costs what `check_plan_bytes` says; solving costs what `solver::solve` says.
-pub fn solve_bytes(alloc: Global, inputs: &Inputs<'_, '_>, limit: u32) -> Result<Solved, Refusal>
-    requires { HasItsIndices (sources_of (texts_of inputs.now).sources) (texts_of inputs.now).indices }
-    ensures answer { IfOk result (λ solved. IsSolution (texts_of inputs.now) limit solved) }
-    ensures refused { IfErr result (λ refused. IsFirstRequestRefusal (texts_of inputs.now) refused) }
+/// Solves the request by the texts in memory, as `solve_from` solves it.
+pub fn solve_bytes(
+    alloc: Global,
+    inputs: &Inputs<'_, '_>,
+    settings: &Settings<'_>,
+    limit: u32,
+) -> Result<Solved, Refusal>
+    ensures answer { IfOk result (λ solved. IsSolution (texts_of settings.now (shelved inputs.now None)) limit solved) }
+    ensures refused { IfErr result (λ refused. IsRefusal (texts_of settings.now (shelved inputs.now None)) refused) }
 {
-    let read = read_texts(alloc, inputs)?;
-    solve_by(alloc, &read, inputs, limit)
+    let mut shelf = MemoryShelf::new(*inputs, None);
+    solve_from(alloc, &mut shelf, settings, limit)
 }

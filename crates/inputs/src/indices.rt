@@ -11,6 +11,7 @@ ghost use Rattle.inputs.specs.Texts.{Shelved, sources_of, texts_of};
 use crate::refusal::{Fault, Input, Refusal, refused_at};
 use crate::settings::Settings;
 use crate::shelf::Shelf;
+use crate::sources::{read_sources, read_sources_text};
 use crate::texts::open_index;
 use index::{Index, IndexSource, KeptIndex, StreamError};
 use rules::Release;
@@ -101,6 +102,25 @@ pub fn read_indices<S: Shelf>(
     ensures counted { CountsRead result (S.faults shelf.old) (S.faults shelf.new) }
 {
     read_each(alloc, shelf, settings.arch, sources)
+}
+
+/// Reads the sources, and the indices that they name, each at its turn. Linear in the texts.
+pub fn read_listed<S: Shelf>(
+    alloc: Global,
+    shelf: &mut S,
+    settings: &Settings<'_>,
+) -> Result<Listed, Refusal>
+    ensures ok { (at : Shelved) → S.found shelf.old ≡ Some at
+        → IfOk result (λ listed. HasIndices (texts_of settings.now at) (released listed.releases.items listed.kept.items)) }
+    ensures refused { (at : Shelved) → S.found shelf.old ≡ Some at → HasStatus (texts_of settings.now at)
+        → IfErr result (λ refused. IsRefusalBefore (texts_of settings.now at) refused) }
+    ensures count { IfOk result (λ listed. length listed.kept.items ≡ length listed.releases.items) }
+    ensures same { S.found shelf.new ≡ S.found shelf.old }
+    ensures counted { CountsRead result (S.faults shelf.old) (S.faults shelf.new) }
+{
+    let text = read_sources_text(alloc, shelf)?;
+    let sources = read_sources(alloc, text.as_slice())?;
+    read_indices(alloc, shelf, settings, sources)
 }
 
 /// The indices that were kept, each with its release keys. Memory alone can fail. Linear in the packages.

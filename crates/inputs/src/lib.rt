@@ -17,7 +17,7 @@ mod status_file;
 mod status_refusal;
 mod texts;
 
-pub use indices::{Listed, lend_indices, read_indices};
+pub use indices::{Listed, lend_indices, read_indices, read_listed};
 pub use inputs::{Inputs, MemoryShelf};
 pub use laws::{a_meaning_is_not_refused, texts_have_one_meaning};
 pub use preferences::read_preferences;

@@ -3,10 +3,10 @@ ghost use Rattle.std.specs.Prelude.{◌≡◌, ◌≢◌, IfErr, IfOk, List, Non
 ghost use Rattle.std.specs.Option.{option_copied, option_map};
 ghost use Rattle.rules.specs.Available.{Index as IndexValue};
 ghost use Rattle.rules.specs.Database.{Record};
-ghost use Rattle.inputs.specs.Before.{AreListed, IsRefusalBefore};
+ghost use Rattle.inputs.specs.Before.{AreListed, AreRead, IsRefusalBefore};
 ghost use Rattle.inputs.specs.Counting.{CountsRead};
 ghost use Rattle.inputs.specs.Reading.{IsFaultOf};
-ghost use Rattle.inputs.specs.Texts.{Shelved, preferences_of, records_in, texts_of, with_target};
+ghost use Rattle.inputs.specs.Texts.{Shelved, records_in, texts_of, with_target};
 ghost use Rattle.inputs.specs.declared.refusal.Fault.TheVariants as fault;
 
 use crate::refusal::{Fault, Input, Refusal, refused_at};
@@ -64,7 +64,9 @@ pub fn read_preferences<S: Shelf>(
     shelf: &mut S,
     settings: &Settings<'_>,
 ) -> Result<Prefs, Refusal>
-    ensures ok { (at : Shelved) → S.found shelf.old ≡ Some at → IfOk result (λ prefs. preferences_of (texts_of settings.now at) ≡ Ok prefs) }
+    ensures ok { (at : Shelved) (start : List Record) (indices : List IndexValue) → S.found shelf.old ≡ Some at
+        → AreListed (texts_of settings.now at) start indices
+        → IfOk result (λ prefs. AreRead (texts_of settings.now at) start indices prefs) }
     ensures refused { (at : Shelved) (start : List Record) (indices : List IndexValue) → S.found shelf.old ≡ Some at
         → AreListed (texts_of settings.now at) start indices
         → IfErr result (λ refused. IsRefusalBefore (texts_of settings.now at) refused) }

@@ -1,7 +1,7 @@
-// The candidate of a name, which is kept when the texts are gone.
+//! The candidate of a name, which is kept when the texts are gone.
 ghost use Rattle.std.specs.Prelude.{◌≡◌, IfOk};
 
-use cli_engine::Offer;
+use candidates::Offer;
 use rules::Text;
 use std::alloc::{AllocError, Global};
 use std::marker::Model;
