@@ -1,3 +1,4 @@
 pub mod AnswerLemmas
+pub mod ReadingLemmas
 pub mod RefutedLemmas
 pub mod SolvableLemmas

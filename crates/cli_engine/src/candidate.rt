@@ -13,8 +13,8 @@ use crate::offered::Candidate;
 use candidates::candidate;
 use index::Index;
 use inputs::{
-    Inputs, MemoryShelf, Refusal, Settings, Shelf, lend_indices, read_database,
-    read_listed, read_preferences, read_status,
+    Inputs, MemoryShelf, Refusal, Settings, Shelf, lend_indices, read_database, read_listed,
+    read_preferences, read_status,
 };
 use pins::Prefs;
 use status_store::Database;

@@ -1,6 +1,8 @@
 //! A plan judged by texts, read in the order status, sources, indices, preferences, request and plan.
-ghost use Rattle.std.specs.Prelude.{◌≡◌, IfErr, IfOk, Some};
+ghost use Rattle.std.specs.Prelude.{◌≡◌, IfErr, IfOk, Some, length};
+ghost use Rattle.inputs.specs.Before.{HasIndices, HasStart};
 ghost use Rattle.inputs.specs.Counting.{CountsRead};
+ghost use Rattle.inputs.specs.Indices.{released};
 ghost use Rattle.inputs.specs.Inputs.{shelved};
 ghost use Rattle.inputs.specs.Texts.{Shelved, texts_of};
 ghost use Rattle.rules.specs.Verdict.{IsBuiltOn, IsVerdict};
@@ -8,12 +10,13 @@ ghost use Rattle.status_store.specs.Slots.{slot_records};
 ghost use Rattle.cli_engine.specs.Answer.{IsAnswer, IsFirstRefusal};
 
 use crate::plan::read_steps;
+use index::KeptIndex;
 use inputs::{
-    Inputs, MemoryShelf, Refusal, Settings, Shelf, lend_indices, read_database,
-    read_listed, read_preferences, read_status, read_universe,
+    Inputs, MemoryShelf, Refusal, Settings, Shelf, lend_indices, read_database, read_listed,
+    read_preferences, read_status, read_universe,
 };
 use plancheck::check_plan;
-use rules::{Step, Verdict};
+use rules::{Release, Step, Verdict};
 use status_store::Database;
 use status_view::{parse_packages, view};
 use std::alloc::{AllocError, Global};
@@ -36,6 +39,33 @@ pub fn judge<'a>(
     Ok(answer)
 }
 
+// Judges the plan by the indices that were kept, behind this database.
+fn check_over<'k, 'a: 'k, S: Shelf>(
+    alloc: Global,
+    shelf: &mut S,
+    settings: &Settings<'_>,
+    database: &Database<'a>,
+    kept: &'k [KeptIndex],
+    releases: Vec<Release>,
+) -> Result<Verdict, Refusal>
+    requires { length kept.now ≡ length releases.items }
+    ensures answer { (at : Shelved) → S.found shelf.old ≡ Some at → HasStart (texts_of settings.now at) (slot_records database.now.slots)
+        → HasIndices (texts_of settings.now at) (released releases.items kept.now)
+        → IfOk result (λ verdict. IsAnswer (texts_of settings.now at) at.judged verdict) }
+    ensures refused { (at : Shelved) → S.found shelf.old ≡ Some at → HasStart (texts_of settings.now at) (slot_records database.now.slots)
+        → HasIndices (texts_of settings.now at) (released releases.items kept.now)
+        → IfErr result (λ refused. IsFirstRefusal (texts_of settings.now at) at.judged refused) }
+    ensures same { S.found shelf.new ≡ S.found shelf.old }
+    ensures count { CountsRead result (S.faults shelf.old) (S.faults shelf.new) }
+{
+    let indices = lend_indices(alloc, kept, releases)?;
+    let prefs = read_preferences(alloc, shelf, settings)?;
+    let universe = read_universe(alloc, shelf, settings, database, indices.as_slice(), &prefs)?;
+    let steps = read_steps(alloc, shelf)?;
+    let verdict = judge(alloc, database, &universe, steps.as_slice())?;
+    Ok(verdict)
+}
+
 /// Judges the plan by the texts of a shelf: the verdict of what they denote, or the first refusal in the order status,
 /// sources, indices, preferences, request, plan. Each text is read at its turn, and none behind a refusal. `E5 Read` is
 /// refused where a text can't be read, at its place; where memory was wanting, that is answered instead. Of the indices no
@@ -56,12 +86,7 @@ pub fn check_plan_from<S: Shelf>(
     let status = read_status(alloc, shelf, settings)?;
     let database = read_database(alloc, &status)?;
     let (kept, releases) = read_listed(alloc, shelf, settings)?;
-    let indices = lend_indices(alloc, kept.as_slice(), releases)?;
-    let prefs = read_preferences(alloc, shelf, settings)?;
-    let universe = read_universe(alloc, shelf, settings, &database, indices.as_slice(), &prefs)?;
-    let steps = read_steps(alloc, shelf)?;
-    let verdict = judge(alloc, &database, &universe, steps.as_slice())?;
-    Ok(verdict)
+    check_over(alloc, shelf, settings, &database, kept.as_slice(), releases)
 }
 
 /// Judges the plan by the texts in memory, as `check_plan_from` judges it.

@@ -4,8 +4,8 @@ ghost use Rattle.std.specs.Prelude.{◌≡◌, MatchResult, None, Some};
 ghost use Rattle.rules.specs.Version.{version_cmp};
 ghost use Rattle.cli_engine.specs.Comparison.{comparison_refusal, holds, version_refusal};
 
-use inputs::{Fault, Input, Refusal};
 use debversion::Version;
+use inputs::{Fault, Input, Refusal};
 use std::cmp::Ordering;
 
 /// How a version may stand to another, as `dpkg --compare-versions` has it.

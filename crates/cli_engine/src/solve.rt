@@ -1,39 +1,76 @@
 //! A request solved by texts, read in the order status, sources, indices, preferences and request.
-ghost use Rattle.std.specs.Prelude.{◌≡◌, IfErr, IfOk, None, Some};
+ghost use Rattle.std.specs.Prelude.{◌≡◌, IfErr, IfOk, None, Some, length};
+ghost use Rattle.inputs.specs.Before.{HasIndices, HasStart};
 ghost use Rattle.inputs.specs.Counting.{CountsRead};
+ghost use Rattle.inputs.specs.Indices.{released};
 ghost use Rattle.inputs.specs.Inputs.{shelved};
 ghost use Rattle.inputs.specs.Refused.{IsRefusal};
 ghost use Rattle.inputs.specs.Texts.{Shelved, texts_of};
+ghost use Rattle.fixed_order.specs.Names.{HasNames, HasPairNames};
 ghost use Rattle.solver.specs.Solvable.{IsSolvable};
 ghost use Rattle.solver.specs.Solved.{IsSolved};
 ghost use Rattle.status_store.specs.Slots.{slot_records};
 ghost use Rattle.cli_engine.specs.Solution.{IsSolution};
 
-use crate::laws::a_meaning_is_solvable;
+use fixed_order::{has_names, has_pair_names};
+use index::KeptIndex;
 use inputs::{
-    Inputs, MemoryShelf, Refusal, Settings, Shelf, lend_indices, read_database,
-    read_listed, read_preferences, read_status, read_universe,
+    Inputs, MemoryShelf, Refusal, Settings, Shelf, lend_indices, read_database, read_listed,
+    read_preferences, read_status, read_universe,
 };
+use rules::Release;
 use solver::{Solved, solve};
 use status_store::Database;
 use status_view::{parse_packages, view};
 use std::alloc::{AllocError, Global};
 use universe::Universe;
 
-// Solves the request of the universe from this database on.
+// Solves the request of the universe from this database on. What is read has package names alone, and of a shelf that doesn't
+// say what is found on it no contract says so: names are looked at once more, and one that is none is as want of memory.
 fn solve_over<'a>(
     alloc: Global,
     database: &Database<'a>,
     universe: &Universe<'_, 'a>,
     limit: u32,
 ) -> Result<Solved, AllocError>
-    requires { IsSolvable (slot_records database.now.slots) universe.now }
+    requires { HasNames (slot_records database.now.slots) → HasPairNames universe.now
+        → IsSolvable (slot_records database.now.slots) universe.now }
     ensures { IfOk result (λ solved. IsSolved universe.now (slot_records database.now.slots) limit solved) }
 {
     let records = database.records(alloc)?;
     let packages = parse_packages(alloc, records.as_slice())?;
     let start = view(alloc, records.as_slice(), packages.as_slice())?;
+    if !has_names(&start) || !has_pair_names(universe) {
+        return Err(AllocError);
+    }
     let solved = solve(alloc, &start, universe, limit)?;
+    Ok(solved)
+}
+
+// Solves the request by the indices that were kept, behind this database.
+fn solve_by<'k, 'a: 'k, S: Shelf>(
+    alloc: Global,
+    shelf: &mut S,
+    settings: &Settings<'_>,
+    database: &Database<'a>,
+    kept: &'k [KeptIndex],
+    releases: Vec<Release>,
+    limit: u32,
+) -> Result<Solved, Refusal>
+    requires { length kept.now ≡ length releases.items }
+    ensures answer { (at : Shelved) → S.found shelf.old ≡ Some at → HasStart (texts_of settings.now at) (slot_records database.now.slots)
+        → HasIndices (texts_of settings.now at) (released releases.items kept.now)
+        → IfOk result (λ solved. IsSolution (texts_of settings.now at) limit solved) }
+    ensures refused { (at : Shelved) → S.found shelf.old ≡ Some at → HasStart (texts_of settings.now at) (slot_records database.now.slots)
+        → HasIndices (texts_of settings.now at) (released releases.items kept.now)
+        → IfErr result (λ refused. IsRefusal (texts_of settings.now at) refused) }
+    ensures same { S.found shelf.new ≡ S.found shelf.old }
+    ensures count { CountsRead result (S.faults shelf.old) (S.faults shelf.new) }
+{
+    let indices = lend_indices(alloc, kept, releases)?;
+    let prefs = read_preferences(alloc, shelf, settings)?;
+    let universe = read_universe(alloc, shelf, settings, database, indices.as_slice(), &prefs)?;
+    let solved = solve_over(alloc, database, &universe, limit)?;
     Ok(solved)
 }
 
@@ -54,15 +91,18 @@ pub fn solve_from<S: Shelf>(
     ensures same { S.found shelf.new ≡ S.found shelf.old }
     ensures count { CountsRead result (S.faults shelf.old) (S.faults shelf.new) }
 {
-    a_meaning_is_solvable();
     let status = read_status(alloc, shelf, settings)?;
     let database = read_database(alloc, &status)?;
     let (kept, releases) = read_listed(alloc, shelf, settings)?;
-    let indices = lend_indices(alloc, kept.as_slice(), releases)?;
-    let prefs = read_preferences(alloc, shelf, settings)?;
-    let universe = read_universe(alloc, shelf, settings, &database, indices.as_slice(), &prefs)?;
-    let solved = solve_over(alloc, &database, &universe, limit)?;
-    Ok(solved)
+    solve_by(
+        alloc,
+        shelf,
+        settings,
+        &database,
+        kept.as_slice(),
+        releases,
+        limit,
+    )
 }
 
 /// Solves the request by the texts in memory, as `solve_from` solves it.

@@ -1,12 +1,14 @@
 //! The request, and the universe that it is answered from.
 ghost use Rattle.std.specs.Prelude.{◌≡◌, ◌≢◌, ◌<◌, ◌^◌, IfErr, IfOk, List, Ok, Some, length, map};
-ghost use Rattle.candidates.specs.Inputs.{indices_of};
+ghost use Rattle.candidates.specs.Inputs.{indices_of, inputs_of};
 ghost use Rattle.rules.specs.Database.{HasDistinctNames};
 ghost use Rattle.rules.specs.FileRecord.{records_of};
+ghost use Rattle.rules.specs.Universe.{IsUniverse};
 ghost use Rattle.rules.specs.Verdict.{IsBuiltOn};
 ghost use Rattle.rules.specs.declared.goal.GoalLine.{GoalLine as LineOf};
 ghost use Rattle.status_store.specs.Slots.{slot_records};
 ghost use Rattle.universe.specs.Universe.{HaveDistinctNames};
+ghost use Rattle.universe_build.specs.Build.{goals_of};
 ghost use Rattle.universe_build.specs.Error.{IsBuilt};
 ghost use Rattle.universe_request.specs.Request as Read;
 ghost use Rattle.inputs.specs.Before.{AreRead};
@@ -101,6 +103,9 @@ fn universe_over<'p, 'a>(
         → AreRead (texts_of settings.now at) (slot_records database.now.slots) (indices_of indices.now) prefs.now
         → IfOk result (λ u. Denotes (texts_of settings.now at) u (slot_records database.now.slots)) }
     ensures built { IfOk result (λ u. IsBuiltOn (slot_records database.now.slots) u) }
+    ensures universe { IfOk result (λ u. (lines : List LineOf)
+        × IsUniverse (inputs_of (slot_records database.now.slots) (indices_of indices.now) prefs.now (goals_of lines)) u) }
+    ensures start { IfOk result (λ _. HasDistinctNames (slot_records database.now.slots)) }
     ensures few { IfOk result (λ u. length u.pairs < 2 ^ 32) }
     ensures distinct { IfOk result (λ u. HaveDistinctNames u.starts) }
     ensures refused { (at : Shelved) → at.request ≡ Some text.now
@@ -137,6 +142,9 @@ pub fn read_universe<'p, 'a, S: Shelf>(
         → AreRead (texts_of settings.now at) (slot_records database.now.slots) (indices_of indices.now) prefs.now
         → IfOk result (λ u. Denotes (texts_of settings.now at) u (slot_records database.now.slots)) }
     ensures built { IfOk result (λ u. IsBuiltOn (slot_records database.now.slots) u) }
+    ensures universe { IfOk result (λ u. (lines : List LineOf)
+        × IsUniverse (inputs_of (slot_records database.now.slots) (indices_of indices.now) prefs.now (goals_of lines)) u) }
+    ensures start { IfOk result (λ _. HasDistinctNames (slot_records database.now.slots)) }
     ensures few { IfOk result (λ u. length u.pairs < 2 ^ 32) }
     ensures distinct { IfOk result (λ u. HaveDistinctNames u.starts) }
     ensures refused { (at : Shelved) → S.found shelf.old ≡ Some at

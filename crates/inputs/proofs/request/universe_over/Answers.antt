@@ -1,7 +1,10 @@
 -- The universe of the request is built on the records of the database, is no larger than is kept, and its facts are about
 -- distinct names.
-use Rattle.std.proofs.Common.{map, subst, sym}
-use Rattle.candidates.specs.Inputs.{indices_of}
+use Rattle.std.proofs.Common.{◌≡◌, map, subst, sym}
+use Rattle.rules.specs.FileRecord.{records_of}
+use Rattle.rules.specs.Universe.{IsUniverse}
+use Rattle.universe_build.specs.Build.{goals_of}
+use Rattle.candidates.specs.Inputs.{indices_of, inputs_of}
 use Rattle.status_text.specs.Slot.{entries_of}
 use Rattle.universe.specs.Universe.{HaveDistinctNames}
 use Rattle.universe_build.proofs.StartsApart.{starts_apart}
@@ -18,3 +21,9 @@ pub returns-in-Ok-clause-distinct : goal.returns-in-Ok-clause-distinct
 returns-in-Ok-clause-distinct c =
     let built = returns-in-Ok-clause-built c in
     subst HaveDistinctNames (sym built.starts) (starts_apart _ built.distinct)
+
+pub returns-in-Ok-clause-universe : goal.returns-in-Ok-clause-universe
+returns-in-Ok-clause-universe c =
+    let same : map (λ r. r.now) c.as_slice.result.now ≡ entries_of c.args.database.now.slots = rw c.as_slice.ensures.value c.in_ok-records.ensures in
+    (c.in-Ok.ensures.ok.0, subst (λ es. IsUniverse (inputs_of (records_of es) (indices_of c.args.indices.now) c.args.prefs.now (goals_of c.in-Ok.ensures.ok.0)) c.in-Ok.universe)
+    same c.in-Ok.ensures.ok.1.built.universe)

@@ -1,0 +1,10 @@
+-- The texts in memory are what is found on their shelf.
+use Rattle.std.proofs.Common.{None, Some, refl}
+use Rattle.inputs.specs.Inputs.{shelved}
+use Rattle.cli_engine.proofs.solve.solve_bytes.Goals as goal
+
+pub returns-clause-answer : goal.returns-clause-answer
+returns-clause-answer c = c.solve_from.ensures.answer (shelved c.args.inputs.now None) (rw (c.new-shelf.ensures.inputs, c.new-shelf.ensures.judged) refl)
+
+pub returns-clause-refused : goal.returns-clause-refused
+returns-clause-refused c = c.solve_from.ensures.refused (shelved c.args.inputs.now None) (rw (c.new-shelf.ensures.inputs, c.new-shelf.ensures.judged) refl)
