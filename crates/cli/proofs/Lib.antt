@@ -1,3 +1,0 @@
-pub mod StopLemmas
-pub mod KeptLemmas
-pub mod WholeLemmas

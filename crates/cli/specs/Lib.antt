@@ -1,8 +1,4 @@
 pub mod Answer
 pub mod Exit
 pub mod Files
-pub mod Inputs
 pub mod Outcome
-pub mod Stop
-pub mod Whole
-pub mod Kept

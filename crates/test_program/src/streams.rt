@@ -111,6 +111,12 @@ struct Exhausted;
 impl Host for Exhausted {
     type Text = &'static [u8];
 
+    ghost faults = { λ _. 0 };
+
+    fn failures(&self) -> u64 {
+        0
+    }
+
     fn read(&mut self, _alloc: Global, _path: &[u8]) -> Result<Vec<u8>, ReadError> {
         Err(ReadError::OutOfMemory)
     }
@@ -118,6 +124,8 @@ impl Host for Exhausted {
     fn open(&mut self, _alloc: Global, _path: &[u8]) -> Result<&'static [u8], ReadError> {
         Err(ReadError::OutOfMemory)
     }
+
+    fn close(&mut self, _text: &'static [u8]) {}
 }
 
 #[test]
