@@ -74,7 +74,8 @@ impl<'a> Memory<'a> {
     }
 }
 
-fn copied(alloc: Global, text: &[u8]) -> Result<Vec<u8>, ReadError>
+/// The text, copied.
+pub(crate) fn copied(alloc: Global, text: &[u8]) -> Result<Vec<u8>, ReadError>
     ensures { IfErr result (λ e. e ≡ ReadError.OutOfMemory) }
 {
     match text.to_vec(alloc) {
