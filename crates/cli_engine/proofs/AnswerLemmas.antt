@@ -8,19 +8,17 @@ use Rattle.rules.specs.declared.step.Verdict.{Verdict}
 use Rattle.rules.specs.declared.step.Verdict.TheVariants as verdict
 use Rattle.rules.proofs.OneVerdict.{one_verdict}
 use Rattle.rules.proofs.PlanLemmas.{good_plan_keeps_promise}
-use Rattle.cli_engine.specs.Answer.{IsAnswer, IsFault}
+use Rattle.inputs.specs.Reading.{out_of_memory}
+use Rattle.inputs.specs.Texts.{Found, Texts}
+use Rattle.inputs.specs.declared.refusal.Refusal.{Refusal}
+use Rattle.inputs.proofs.DistinctLemmas.{distinct_start}
+use Rattle.inputs.proofs.MeaningLemmas.{meaning_is_not_refused, not-both, ok-same, one_meaning}
+use Rattle.cli_engine.specs.Answer.{IsAnswer, IsFirstRefusal, plan_of}
 use Rattle.cli_engine.specs.Meaning.{GoodPlanIsAnswered, HasOneAnswer, IsReadAs, YesKeepsPromise}
-use Rattle.cli_engine.specs.Reading.{out_of_memory}
-use Rattle.cli_engine.specs.Texts.{Texts, plan_of}
-use Rattle.cli_engine.specs.declared.refusal.Fault.{Fault}
-use Rattle.cli_engine.specs.declared.refusal.Input.{Input}
-use Rattle.cli_engine.specs.declared.refusal.Input.TheVariants as place
-use Rattle.cli_engine.proofs.DistinctLemmas.{distinct_start}
-use Rattle.cli_engine.proofs.MeaningLemmas.{meaning_is_not_refused, ok-same, one_meaning}
 use mathlib.Core.Logic.{inl, inr}
 
 -- a verdict over what the texts and the plan are read as is a verdict over what they are read as again
-moved : (texts : Texts) (plan : List ℕ) (u other : Universe) (start begin : List Record) (steps further : List Step) (found : Verdict)
+moved : (texts : Texts) (plan : Found) (u other : Universe) (start begin : List Record) (steps further : List Step) (found : Verdict)
     → IsReadAs texts plan u start steps → IsReadAs texts plan other begin further → IsVerdict u start steps found
     → IsVerdict other begin further found
 moved texts plan u other start begin steps further found is also holds =
@@ -31,7 +29,7 @@ moved texts plan u other start begin steps further found is also holds =
     (subst (λ (v : Universe). IsVerdict v start steps found) one.0 holds))
 
 -- what an answer is about
-abbrev read_by : (texts : Texts) (plan : List ℕ) (found : Verdict) (answer : IsAnswer texts plan found)
+abbrev read_by : (texts : Texts) (plan : Found) (found : Verdict) (answer : IsAnswer texts plan found)
     → IsReadAs texts plan answer.universe answer.start answer.steps
 read_by texts plan found answer = record { denoted = answer.denoted; read = answer.read }
 
@@ -47,25 +45,17 @@ yes_keeps_promise texts plan answer = record {
   steps = answer.steps;
   read_as = read_by texts plan verdict.Yes answer;
   kept = good_plan_keeps_promise answer.universe answer.start answer.steps
-      (distinct_start texts answer.start answer.denoted.indices answer.denoted.read.listed) answer.holds;
+      (distinct_start texts answer.start answer.denoted.read.listed.started) answer.holds;
 }
 
 -- a plan that is read isn't refused, so that a refusal beside a meaning is want of memory
-wanting : (texts : Texts) (plan : List ℕ) (steps : List Step) (where_ : Input) (found : Fault) → plan_of plan ≡ Ok steps
-    → IsFault texts plan where_ found → (where_ ≡ place.Plan) ⊎ (where_ ≡ place.Memory)
-    → record { place = where_; fault = found } ≡ out_of_memory
-wanting texts plan steps where_ found read refused (inl is) = absurd
-    (let fails : plan_of plan ≡ Err found = (subst (λ (w : Input). IsFault texts plan w found) is refused).1 in
-    let e : Ok steps ≡ Err found = sym read ∙ fails in cc)
-wanting texts plan steps where_ found read refused (inr is) =
-    let lacks : found ≡ out_of_memory.fault = subst (λ (w : Input). IsFault texts plan w found) is refused in
-    ap (λ (w : Input). record { place = w; fault = found }) is
-    ∙ ap (λ (f : Fault). record { place = place.Memory; fault = f }) lacks
+wanting : (texts : Texts) (plan : Found) (u : Universe) (start : List Record) (steps : List Step) (refused : Refusal)
+    → IsReadAs texts plan u start steps → IsFirstRefusal texts plan refused → refused ≡ out_of_memory
+wanting texts plan u start steps refused is (inl first) = meaning_is_not_refused texts u start refused is.denoted first
+wanting texts plan u start steps refused is (inr fails) = absurd (not-both steps refused.fault (plan_of plan) is.read fails.fault)
 
 pub good_plan_is_answered : GoodPlanIsAnswered
 good_plan_is_answered texts plan u start steps (Ok found) is good answer = inl (ap Ok
     (one_verdict u start steps found verdict.Yes
     (moved texts plan answer.universe u answer.start start answer.steps steps found (read_by texts plan found answer) is answer.holds) good))
-good_plan_is_answered texts plan u start steps (Err refused) is good first = inr (ap Err
-    (wanting texts plan steps refused.place refused.fault is.read first
-    (meaning_is_not_refused texts u start plan refused is.denoted first)))
+good_plan_is_answered texts plan u start steps (Err refused) is good first = inr (ap Err (wanting texts plan u start steps refused is first))

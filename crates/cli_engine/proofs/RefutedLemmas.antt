@@ -11,32 +11,29 @@ use Rattle.refutecheck.specs.Answer.{IsVerdict}
 use Rattle.refutecheck.specs.declared.verdict.Verdict.{Verdict}
 use Rattle.refutecheck.specs.declared.verdict.Verdict.TheVariants as verdict
 use Rattle.universe_build.specs.Build.{goals_of}
-use Rattle.cli_engine.specs.Answer.{Denotes}
-use Rattle.cli_engine.specs.Reading.{out_of_memory}
-use Rattle.cli_engine.specs.Texts.{Texts, refutation_of}
-use Rattle.cli_engine.specs.declared.refusal.Fault.{Fault}
-use Rattle.cli_engine.specs.declared.refusal.Input.{Input}
-use Rattle.cli_engine.specs.declared.refusal.Input.TheVariants as place
-use Rattle.cli_engine.specs.declared.refusal.Refusal.{Refusal}
-use Rattle.cli_engine.proofs.DistinctLemmas.{distinct_start}
-use Rattle.cli_engine.proofs.MeaningLemmas.{meaning_is_not_refused_beside, ok-same, one_meaning}
+use Rattle.inputs.specs.Meaning.{Denotes}
+use Rattle.inputs.specs.Reading.{out_of_memory}
+use Rattle.inputs.specs.Texts.{Found, Texts}
+use Rattle.inputs.specs.declared.refusal.Refusal.{Refusal}
+use Rattle.inputs.proofs.DistinctLemmas.{distinct_start}
+use Rattle.inputs.proofs.MeaningLemmas.{meaning_is_not_refused, not-both, ok-same, one_meaning}
 use Rattle.plain.proofs.MemberLemmas.{universe_is_counted}
 use Rattle.refutation.proofs.LineLemmas.{one_answer as one_bad_line}
 use Rattle.refutation.proofs.NeededLemmas.{universe_has_needed_pairs}
 use Rattle.refutation.proofs.PremiseLemmas.{none_is_acceptable}
-use Rattle.cli_engine.specs.Refuted.{AcceptedRefutationIsAnswered, IsFirstRefutationRefusal, IsRefutationFault, RefutationHasOneAnswer, YesRefutes}
-use Rattle.cli_engine.specs.Solution.{IsFirstRequestRefusal, MeaningIsAnswered}
+use Rattle.cli_engine.specs.Refuted.{AcceptedRefutationIsAnswered, IsFirstRefutationRefusal, RefutationHasOneAnswer, YesRefutes, refutation_of}
+use Rattle.cli_engine.specs.Solution.{MeaningIsAnswered}
 use mathlib.Core.Logic.{inl, inr}
 
 -- the pairs of the universe that texts denote ascend, and those that must be selected are there
 pub needed-pairs : (texts : Texts) (u : Universe) (start : List Record) → Denotes texts u start → HasAscendingPairs u × HasNeededPairs u
 needed-pairs texts u start is = universe_has_needed_pairs (inputs_of start is.indices is.prefs (goals_of is.lines)) u
-    (distinct_start texts start is.indices is.read.listed) is.requested.built.universe
+    (distinct_start texts start is.read.listed.started) is.requested.built.universe
 
 -- the universe that texts denote is counted by their start
 pub counted-by-start : (texts : Texts) (u : Universe) (start : List Record) → Denotes texts u start → IsCounted start u
 counted-by-start texts u start is = universe_is_counted (inputs_of start is.indices is.prefs (goals_of is.lines)) u
-    (distinct_start texts start is.indices is.read.listed) is.requested.built.universe
+    (distinct_start texts start is.read.listed.started) is.requested.built.universe
 
 pub yes-refutes : YesRefutes
 yes-refutes texts refutation answer = record {
@@ -68,32 +65,20 @@ one-answer texts refutation first second answer other = one_line_verdict other.u
     lines = ok-same answer.lines other.lines (refutation_of refutation) answer.read other.read
 
 -- a refutation that is read isn't refused, so that a refusal beside a meaning is want of memory
-wanting : (texts : Texts) (refutation : List ℕ) (lines : List Line) (where_ : Input) (found : Fault) → refutation_of refutation ≡ Ok lines
-    → IsRefutationFault texts refutation where_ found → (where_ ≡ place.Refutation) ⊎ (where_ ≡ place.Memory)
-    → record { place = where_; fault = found } ≡ out_of_memory
-wanting texts refutation lines where_ found read refused (inl is) = absurd
-    (let fails : refutation_of refutation ≡ Err found = (subst (λ (w : Input). IsRefutationFault texts refutation w found) is refused).1 in
-    let e : Ok lines ≡ Err found = sym read ∙ fails in cc)
-wanting texts refutation lines where_ found read refused (inr is) =
-    let lacks : found ≡ out_of_memory.fault = subst (λ (w : Input). IsRefutationFault texts refutation w found) is refused in
-    ap (λ (w : Input). record { place = w; fault = found }) is
-    ∙ ap (λ (f : Fault). record { place = place.Memory; fault = f }) lacks
+wanting : (texts : Texts) (refutation : Found) (u : Universe) (start : List Record) (lines : List Line) (refused : Refusal)
+    → Denotes texts u start → refutation_of refutation ≡ Ok lines → IsFirstRefutationRefusal texts refutation refused
+    → refused ≡ out_of_memory
+wanting texts refutation u start lines refused is read (inl first) = meaning_is_not_refused texts u start refused is first
+wanting texts refutation u start lines refused is read (inr fails) =
+    absurd (not-both lines refused.fault (refutation_of refutation) read fails.fault)
 
 pub accepted-is-answered : AcceptedRefutationIsAnswered
 accepted-is-answered texts refutation u start lines (Ok found) is read accepted answer = inl (ap Ok
     (one-answer texts refutation found verdict.Yes answer
     (record { universe = u; start = start; lines = lines; denoted = is; read = read; holds = accepted })))
-accepted-is-answered texts refutation u start lines (Err refused) is read accepted first = inr (ap Err
-    (wanting texts refutation lines refused.place refused.fault read first
-    (meaning_is_not_refused_beside texts u start refutation refused is first)))
-
--- the text of no lines is read
-no_lines : refutation_of (refutation_text []) ≡ Ok []
-unfolding refutation_text read_refutation
-no_lines = refl
+accepted-is-answered texts refutation u start lines (Err refused) is read accepted first =
+    inr (ap Err (wanting texts refutation u start lines refused is read first))
 
 pub meaning-is-answered : MeaningIsAnswered
 meaning-is-answered texts u start limit (Ok found) is answer = inl (found, refl)
-meaning-is-answered texts u start limit (Err refused) is first = inr (ap Err
-    (wanting texts (refutation_text []) [] refused.place refused.fault no_lines (first (refutation_text []))
-    (meaning_is_not_refused_beside texts u start (refutation_text []) refused is (first (refutation_text [])))))
+meaning-is-answered texts u start limit (Err refused) is first = inr (ap Err (meaning_is_not_refused texts u start refused is first))

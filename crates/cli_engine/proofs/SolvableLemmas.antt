@@ -4,9 +4,8 @@ use Rattle.std.specs.Prelude.{IsTrue}
 use Rattle.std.specs.List.{All}
 use Rattle.std.proofs.lemmas.List.Elements.{All-contains, All-nil}
 use Rattle.candidates.specs.Inputs.{inputs_of}
-use Rattle.index.specs.Index.{ReadIndex, read_index}
+use Rattle.index.specs.Index.{ReadIndex}
 use Rattle.index.specs.Sources.{SourceText}
-use Rattle.index.specs.declared.error.IndexFault.{IndexFault}
 use Rattle.rules.specs.Available.{Index, all_listed, counting_package}
 use Rattle.rules.specs.Database.{Record}
 use Rattle.rules.specs.ElementLaws.{All-intro}
@@ -21,59 +20,63 @@ use Rattle.status_text.specs.declared.error.StatusFault.{StatusFault}
 use Rattle.universe.specs.Universe.{HaveDistinctNames}
 use Rattle.universe_build.proofs.StartsApart.{starts_apart}
 use Rattle.universe_build.specs.Build.{goals_of}
-use Rattle.cli_engine.specs.Answer.{Denotes}
-use Rattle.cli_engine.specs.Before.{AreListed}
-use Rattle.cli_engine.specs.Indices.{index_then, indices_from, read_indices, with_indices}
+use Rattle.inputs.specs.Before.{AreListed, HasIndices, HasStart}
+use Rattle.inputs.specs.Indices.{index_in, index_of, index_then, indices_from, read_indices, with_indices}
+use Rattle.inputs.specs.Meaning.{Denotes}
+use Rattle.inputs.specs.Texts.{Found, Texts}
+use Rattle.inputs.specs.declared.refusal.Fault.{Fault}
+use Rattle.inputs.specs.declared.refusal.Refusal.{Refusal}
+use Rattle.inputs.proofs.DistinctLemmas.{distinct_start, found-ok, status-read}
+use Rattle.inputs.proofs.NameLemmas.{IsListedNamed, IsNamed, index_named, listed_append, package_named, status_named}
 use Rattle.cli_engine.specs.Solution.{MeaningIsSolvable}
-use Rattle.cli_engine.specs.Texts.{Texts, status_refusal}
-use Rattle.cli_engine.specs.declared.refusal.Fault.TheVariants as fault
-use Rattle.cli_engine.specs.declared.refusal.Refusal.{Refusal}
-use Rattle.cli_engine.proofs.DistinctLemmas.{distinct_start, read-ok}
-use Rattle.cli_engine.proofs.NameLemmas.{IsListedNamed, IsNamed, index_named, listed_append, package_named, status_named}
 use Rattle.cli_engine.proofs.RefutedLemmas.{counted-by-start, needed-pairs}
 
 ok_indices : (one other : List Index) → (let r : Result (List Index) Refusal = Ok one in r) ≡ Ok other → one ≡ other
 ok_indices one other same = cc
 
+-- the packages of an index that is read have package names
+found_named : (arch : List ℕ) (texts : ℕ → List ℕ → Found) (number before : ℕ) (source : SourceText) (read : ReadIndex)
+    → index_of arch texts number before source ≡ Ok read → All IsListedNamed read.index.listed
+found_named arch texts number before source read is =
+    let (text, there, was) = found-ok (index_in arch number before source) (texts number source.file) read is in
+    index_named arch number before source text read was
+
 -- the packages of indices that are read have package names
-indices_named : (arch : List ℕ) (number before : ℕ) (sources : List SourceText) (texts : List (List ℕ)) (indices : List Index)
-    → indices_from arch number before sources texts ≡ Ok indices → All IsListedNamed (all_listed indices)
-indices_named arch number before [] texts indices is =
+indices_named : (arch : List ℕ) (texts : ℕ → List ℕ → Found) (number before : ℕ) (sources : List SourceText) (indices : List Index)
+    → indices_from arch texts number before sources ≡ Ok indices → All IsListedNamed (all_listed indices)
+indices_named arch texts number before [] indices is =
     subst (λ (all : List Index). All IsListedNamed (all_listed all)) (ok_indices [] indices is) (All-nil IsListedNamed)
-indices_named arch number before (source ∷ sources) [] indices is =
-    subst (λ (all : List Index). All IsListedNamed (all_listed all)) (ok_indices [] indices is) (All-nil IsListedNamed)
-indices_named arch number before (source ∷ sources) (text ∷ texts) indices is =
-    at (read_index arch number source.release before text) refl
-    (λ count rest so. indices_named arch (number + 1) (before + count) sources texts rest so) is
+indices_named arch texts number before (source ∷ sources) indices is =
+    at (index_of arch texts number before source) refl
+    (λ count rest so. indices_named arch texts (number + 1) (before + count) sources rest so) is
   where
-    joined : (read : ReadIndex) (later : Result (List Index) Refusal) → read_index arch number source.release before text ≡ Ok read
+    joined : (read : ReadIndex) (later : Result (List Index) Refusal) → index_of arch texts number before source ≡ Ok read
         → ((rest : List Index) → later ≡ Ok rest → All IsListedNamed (all_listed rest))
         → with_indices (read.index ∷ []) later ≡ Ok indices → All IsListedNamed (all_listed indices)
     joined read (Err refused) was all is = absurd (let e = is in cc)
     joined read (Ok rest) was all is =
         subst (λ (every : List Index). All IsListedNamed (all_listed every)) (ok_indices (read.index ∷ rest) indices is)
-        (listed_append read.index.listed (all_listed rest) (index_named arch number source.release before text read was) (all rest refl))
+        (listed_append read.index.listed (all_listed rest) (found_named arch texts number before source read was) (all rest refl))
 
-    at : (read : Result ReadIndex IndexFault) → read_index arch number source.release before text ≡ read
-        → ((count : ℕ) (rest : List Index) → indices_from arch (number + 1) (before + count) sources texts ≡ Ok rest
+    at : (read : Result ReadIndex Fault) → index_of arch texts number before source ≡ read
+        → ((count : ℕ) (rest : List Index) → indices_from arch texts (number + 1) (before + count) sources ≡ Ok rest
         → All IsListedNamed (all_listed rest))
-        → index_then number read (λ count. indices_from arch (number + 1) (before + count) sources texts) ≡ Ok indices
+        → index_then number read (λ count. indices_from arch texts (number + 1) (before + count) sources) ≡ Ok indices
         → All IsListedNamed (all_listed indices)
     at (Err refused) was later is = absurd (let e = is in cc)
-    at (Ok read) was later is = joined read (indices_from arch (number + 1) (before + length read.index.listed) sources texts) was
+    at (Ok read) was later is = joined read (indices_from arch texts (number + 1) (before + length read.index.listed) sources) was
         (λ rest so. later (length read.index.listed) rest so) is
 
 -- the records that texts are read as have package names
-records_named : (texts : Texts) (start : List Record) (indices : List Index) → AreListed texts start indices → All IsNamed start
-records_named texts start indices listed = subst (λ (db : List Record). All IsNamed db) (sym listed.start_is)
-    (status_named texts.arch texts.status listed.slots
-    (read-ok (λ (refused : StatusFault). fault.Status (status_refusal refused)) (read_status texts.arch texts.status) listed.slots listed.status))
+records_named : (texts : Texts) (start : List Record) → HasStart texts start → All IsNamed start
+records_named texts start is =
+    let (text, read) = status-read texts is.slots is.status in
+    subst (λ (db : List Record). All IsNamed db) (sym is.start_is) (status_named texts.arch text is.slots read)
 
 -- and so have the stanzas of their indices
-stanzas_are_named : (texts : Texts) (start : List Record) (indices : List Index) → AreListed texts start indices
-    → All IsListedNamed (all_listed indices)
+stanzas_are_named : (texts : Texts) (indices : List Index) → HasIndices texts indices → All IsListedNamed (all_listed indices)
 unfolding read_indices
-stanzas_are_named texts start indices listed = indices_named texts.arch 1 0 listed.sources texts.indices indices listed.indices_are
+stanzas_are_named texts indices is = indices_named texts.arch texts.index 1 0 is.sources indices is.indices_are
 
 pub meaning_is_solvable : MeaningIsSolvable
 meaning_is_solvable texts u start is = record {
@@ -83,14 +86,14 @@ meaning_is_solvable texts u start is = record {
   distinct = subst HaveDistinctNames (sym built.starts) (starts_apart start built.distinct);
   ascending = (needed-pairs texts u start is).0;
   needed = (needed-pairs texts u start is).1;
-  start_names = records_named texts start is.indices is.read.listed;
+  start_names = records_named texts start is.read.listed.started;
   pair_names = All-intro (λ (pair : Pair). IsTrue (is_name pair.pkg.name)) u.pairs (λ pair within.
       package_named (inputs_of start is.indices is.prefs (goals_of is.lines)) pair.pkg.name pair.pkg.version pair.pkg
-      (records_named texts start is.indices is.read.listed) (stanzas_are_named texts start is.indices is.read.listed)
+      (records_named texts start is.read.listed.started) (stanzas_are_named texts is.indices is.read.listed.indexed)
       (All-contains (λ (p : Pair). counting_package (inputs_of start is.indices is.prefs (goals_of is.lines)) p.pkg.name p.pkg.version ≡ Some p.pkg)
       u.pairs pair is.requested.built.universe.counting within));
 }
   where
     built : IsBuiltOn start u
     built = universe_is_built (inputs_of start is.indices is.prefs (goals_of is.lines)) u
-        (distinct_start texts start is.indices is.read.listed) is.requested.built.universe
+        (distinct_start texts start is.read.listed.started) is.requested.built.universe

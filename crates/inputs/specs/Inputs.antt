@@ -1,5 +1,5 @@
 -- The texts that a call is handed, as what is found on a shelf.
-use Rattle.std.specs.Prelude.{◌-◌, ℕ, List, Option, Some, None}
+use Rattle.std.specs.Prelude.{◌-◌, Some}
 use Rattle.std.specs.List.{slice_get}
 use Rattle.std.specs.Option.{option_map}
 use Rattle.inputs.specs.Texts.{Found, Shelved}

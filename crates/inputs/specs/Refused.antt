@@ -1,5 +1,5 @@
 -- Which refusal comes first, in the order of reading.
-use Rattle.std.specs.Prelude.{◌≡◌, ◌⊎◌, ℕ, List}
+use Rattle.std.specs.Prelude.{◌≡◌, ◌⊎◌, List}
 use Rattle.rules.specs.Database.{Record}
 use Rattle.rules.specs.Universe.{Universe}
 use Rattle.inputs.specs.Before.{IsRefusalBefore}

@@ -73,12 +73,15 @@ fn read_each<S: Shelf>(
 {
     let mut kept = Vec::new(alloc);
     let mut releases = Vec::new(alloc);
-    let mut before = 0;
+    let mut before = 0usize;
     let mut number = 0;
     for source in sources {
         number += 1;
-        let index = read_index(alloc, shelf, arch, number, &source, before)?;
-        before += index.count();
+        let index = match read_index(alloc, shelf, arch, number, &source, before) {
+            Ok(index) => index,
+            Err(refused) => return Err(refused),
+        };
+        before = before.saturating_add(index.count());
         kept.push(index)?;
         releases.push(source.into_release())?;
     }
@@ -101,7 +104,10 @@ pub fn read_indices<S: Shelf>(
     ensures same { S.found shelf.new ≡ S.found shelf.old }
     ensures counted { CountsRead result (S.faults shelf.old) (S.faults shelf.new) }
 {
-    read_each(alloc, shelf, settings.arch, sources)
+    match read_each(alloc, shelf, settings.arch, sources) {
+        Ok(listed) => Ok(listed),
+        Err(refused) => Err(refused),
+    }
 }
 
 /// Reads the sources, and the indices that they name, each at its turn. Linear in the texts.
@@ -118,9 +124,18 @@ pub fn read_listed<S: Shelf>(
     ensures same { S.found shelf.new ≡ S.found shelf.old }
     ensures counted { CountsRead result (S.faults shelf.old) (S.faults shelf.new) }
 {
-    let text = read_sources_text(alloc, shelf)?;
-    let sources = read_sources(alloc, text.as_slice())?;
-    read_indices(alloc, shelf, settings, sources)
+    let text = match read_sources_text(alloc, shelf) {
+        Ok(text) => text,
+        Err(refused) => return Err(refused),
+    };
+    let sources = match read_sources(alloc, text.as_slice()) {
+        Ok(sources) => sources,
+        Err(refused) => return Err(refused),
+    };
+    match read_indices(alloc, shelf, settings, sources) {
+        Ok(listed) => Ok(listed),
+        Err(refused) => Err(refused),
+    }
 }
 
 /// The indices that were kept, each with its release keys. Memory alone can fail. Linear in the packages.
@@ -130,7 +145,7 @@ pub fn lend_indices<'a>(
     releases: Vec<Release>,
 ) -> Result<Vec<Index<'a>>, AllocError>
     requires { length kept.now ≡ length releases.items }
-    ensures { IfOk result (λ indices. indices_of indices.items ≡ released releases.entry.items kept.now) }
+    ensures { IfOk result (λ indices. indices_of indices.items ≡ released releases.items kept.now) }
 {
     let mut indices = Vec::new(alloc);
     let mut number = 0;

@@ -1,11 +1,13 @@
 //! Texts in memory, as a shelf.
 ghost use Rattle.std.specs.Prelude.{◌≡◌, IfErr, IfOk, None, Some};
-ghost use Rattle.std.specs.Option.{option_copied};
+ghost use Rattle.std.specs.List.{slice_get};
+ghost use Rattle.std.specs.Option.{option_copied, option_map};
 ghost use Rattle.inputs.specs.Counting.{one_more};
 ghost use Rattle.inputs.specs.Inputs.{shelved};
 ghost use Rattle.inputs.specs.declared.shelf.ReadError.TheVariants as ReadError;
 
 use crate::shelf::{Part, ReadError, Shelf};
+use stanza::Source;
 use std::alloc::{AllocError, Global};
 
 /// The texts that a request is answered from. They are read in the order of the fields.
@@ -67,6 +69,17 @@ fn copied(alloc: Global, bytes: &[u8]) -> Result<Vec<u8>, ReadError>
     }
 }
 
+// The text at this place, counted from 0.
+fn text_at<'a>(texts: &[&'a [u8]], at: usize) -> Option<&'a [u8]>
+    ensures { option_copied result ≡ option_map (λ text. text.now) (slice_get texts.now at) }
+{
+    if at < texts.len() {
+        Some(texts[at])
+    } else {
+        None
+    }
+}
+
 impl<'p, 'a> Shelf for MemoryShelf<'p, 'a> {
     type Text = &'a [u8];
 
@@ -99,11 +112,13 @@ impl<'p, 'a> Shelf for MemoryShelf<'p, 'a> {
     }
 
     fn open(&mut self, _alloc: Global, number: usize, _file: &[u8]) -> Result<&'a [u8], ReadError> {
-        match self.inputs.indices.get(number.saturating_sub(1)) {
-            Some(text) => Ok(*text),
+        match text_at(self.inputs.indices, number.saturating_sub(1)) {
+            Some(text) => Ok(text),
             None => Err(self.missing()),
         }
     }
 
-    fn close(&mut self, _text: &'a [u8]) {}
+    fn close(&mut self, text: &'a [u8]) {
+        self.failures = self.failures.saturating_add(text.failures());
+    }
 }

@@ -40,11 +40,7 @@ fn prefs_without_records(alloc: Global, target: Option<&[u8]>) -> Result<Prefs, 
 }
 
 // What the administrator prefers, by the text of the preferences, if there is one.
-fn prefs_of(
-    alloc: Global,
-    text: &Option<Vec<u8>>,
-    target: Option<&[u8]>,
-) -> Result<Prefs, Fault>
+fn prefs_of(alloc: Global, text: &Option<Vec<u8>>, target: Option<&[u8]>) -> Result<Prefs, Fault>
     ensures ok { IfOk result (λ prefs.
         with_target (option_copied target.entry) (records_in (option_map (λ text. Some text.items) text.now)) ≡ Ok prefs) }
     ensures err { IfErr result (λ f.

@@ -74,5 +74,5 @@ pub trait Shelf {
     /// Gives back a text of an index: what couldn't be read of it is counted.
     fn close(&mut self, text: Self::Text)
         ensures same { found self.new ≡ found self.old }
-        ensures count { faults self.new ≡ min (faults self.old + Self.Text.faults text.entry) (2 ^ 64 - 1) };
+        ensures count { faults self.new ≡ min (faults self.old + Self.Text.faults text) (2 ^ 64 - 1) };
 }

@@ -34,7 +34,10 @@ pub fn read_sources_text<S: Shelf>(alloc: Global, shelf: &mut S) -> Result<Vec<u
     ensures same { S.found shelf.new ≡ S.found shelf.old }
     ensures count { CountsRead result (S.faults shelf.old) (S.faults shelf.new) }
 {
-    read_part(alloc, shelf, Part::Sources, Input::Sources)
+    match read_part(alloc, shelf, Part::Sources, Input::Sources) {
+        Ok(text) => Ok(text),
+        Err(refused) => Err(refused),
+    }
 }
 
 /// The indices that the text of the sources names, in their order, each with its release keys. Linear in the text.

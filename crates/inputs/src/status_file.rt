@@ -47,7 +47,10 @@ pub fn read_status<S: Shelf>(alloc: Global, shelf: &mut S) -> Result<Vec<u8>, Re
     ensures same { S.found shelf.new ≡ S.found shelf.old }
     ensures count { CountsRead result (S.faults shelf.old) (S.faults shelf.new) }
 {
-    read_part(alloc, shelf, Part::Status, Input::Status)
+    match read_part(alloc, shelf, Part::Status, Input::Status) {
+        Ok(text) => Ok(text),
+        Err(refused) => Err(refused),
+    }
 }
 
 /// The database that the text of the status file is, for these settings. Linear in the text.

@@ -16,8 +16,8 @@ use Rattle.rules.specs.Step.{IndexPackage, is_named}
 use Rattle.rules.specs.Universe.{IsOf, IsUniverse, Pair, Universe}
 use Rattle.rules.proofs.VerdictLemmas.{universe_is_built}
 use Rattle.universe_build.specs.Build.{goals_of}
-use Rattle.cli_engine.proofs.DistinctLemmas.{distinct_start}
-use Rattle.cli_engine.proofs.MeaningLemmas.{one_meaning}
+use Rattle.inputs.proofs.DistinctLemmas.{distinct_start}
+use Rattle.inputs.proofs.MeaningLemmas.{one_meaning}
 use Rattle.never_both.proofs.SelectionLemmas.{good_plan_is_not_refuted, is_of-true}
 use Rattle.never_both.specs.Both.{HasNoOtherRelations, HasOneRelationsEach, NeverBothYes}
 
@@ -93,7 +93,7 @@ pub never_both : NeverBothYes
 never_both texts plan refutation agree answer refuted =
     let inputs : Inputs = inputs_of answer.start answer.denoted.indices answer.denoted.prefs (goals_of answer.denoted.lines) in
     let is : IsUniverse inputs answer.universe = answer.denoted.requested.built.universe in
-    let distinct = distinct_start texts answer.start answer.denoted.indices answer.denoted.read.listed in
+    let distinct = distinct_start texts answer.start answer.denoted.read.listed.started in
     let one = one_meaning texts refuted.universe answer.universe refuted.start answer.start refuted.denoted answer.denoted in
     let accepted : IsAccepted answer.universe refuted.lines = subst (λ (v : Universe). IsAccepted v refuted.lines) one.0 refuted.holds in
     good_plan_is_not_refuted answer.universe answer.start answer.steps refuted.lines

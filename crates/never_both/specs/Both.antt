@@ -1,6 +1,8 @@
 -- When a plan and a refutation can't both be right (this project's own).
-use Rattle.std.specs.Prelude.{◌≡◌, ℕ, List, MatchOption, ⊤}
+use Rattle.std.specs.Prelude.{◌≡◌, List, MatchOption, ⊤}
 use Rattle.std.specs.List.{All}
+use Rattle.inputs.specs.Before.{AreListed}
+use Rattle.inputs.specs.Texts.{Found, Texts}
 use Rattle.plain.specs.Counted.{IsCounted}
 use Rattle.refutation.specs.Refutation.{IsAccepted}
 use Rattle.refutation.specs.declared.line.Line.{Line}
@@ -13,9 +15,7 @@ use Rattle.rules.specs.Verdict.{IsBuiltOn}
 use Rattle.rules.specs.declared.step.Step.{Step}
 use Rattle.rules.specs.declared.step.Verdict.TheVariants as verdict
 use Rattle.cli_engine.specs.Answer.{IsAnswer}
-use Rattle.cli_engine.specs.Before.{AreListed}
 use Rattle.cli_engine.specs.Refuted.{IsRefutationAnswer}
-use Rattle.cli_engine.specs.Texts.{Texts}
 
 -- no stanza of an index has the name and the version of a package that stands but other relations
 abbrev pub HasNoOtherRelations : List Record → List Index → Type 0
@@ -38,5 +38,5 @@ GoodPlanIsNotRefuted = (u : Universe) (start : List Record) (steps : List Step) 
 
 -- where the texts agree on relations, not both a plan and a refutation are answered with yes
 abbrev pub NeverBothYes : Type 0
-NeverBothYes = (texts : Texts) (plan refutation : List ℕ) → AgreeOnRelations texts → IsAnswer texts plan verdict.Yes
+NeverBothYes = (texts : Texts) (plan refutation : Found) → AgreeOnRelations texts → IsAnswer texts plan verdict.Yes
     → ¬ IsRefutationAnswer texts refutation refuted.Yes

@@ -1,6 +1,6 @@
 // That the judges of plans and of refutations never both say yes, where no stanza of an index has the name and the version
 // of a package that stands but other relations: definitions and laws, which are public functions with empty bodies. It
-// stands on `rules`, `refutation`, `plain` and `cli_engine`, and decides nothing. Begin with `specs/Both.antt`.
+// stands on `rules`, `refutation`, `plain`, `inputs` and `cli_engine`, and decides nothing. Begin with `specs/Both.antt`.
 #![tactic(auto)]
 
 mod laws;

@@ -1,18 +1,19 @@
 -- What is read has package names: the records of a status file, and the packages of an index.
-use Rattle.std.proofs.Common.{◌≡◌, ℕ, ◌+◌, Bool, true, false, cond, ◌&&◌, List, [], ◌∷◌, ◌++◌, map, length, nat_lt, Option, Some, None, Result, Ok, Err, refl, sym, ap, subst, ◌∙◌}
+use Rattle.std.proofs.Common.{◌≡◌, ℕ, ◌+◌, Bool, true, false, cond, ◌&&◌, List, [], ◌∷◌, ◌++◌, length, nat_lt, Option, Some, None, Result, Ok, Err, refl, sym, ap, subst, ◌∙◌}
 use Rattle.std.specs.Prelude.{IsTrue, if◌then◌else◌}
 use Rattle.std.specs.List.{All, Contains, find}
 use Rattle.std.specs.Option.{option_map, option_or}
 use Rattle.std.proofs.lemmas.Option.{same_Some}
 use Rattle.std.proofs.lemmas.List.Elements.{All-cons, All-nil, All-contains, Contains-append_cases}
-use Rattle.index.specs.Index.{ReadIndex, ReadStanzas, entry_then, first_place, indexed_with, is_too_many, next_place, read_entry, read_index, read_indexed, read_item, read_native, stanzas_in, stanzas_of, unless_name_fault, with_release, with_stanzas}
+use Rattle.index.specs.Index.{ReadIndex, ReadStanzas, entry_then, first_place, indexed_with, is_too_many, next_place, read_entry, read_indexed, read_native, stanzas_of, unless_name_fault, with_release, with_stanzas}
+use Rattle.index.specs.Streamed.{read_stream, read_streamed, stanzas_read}
 use Rattle.index.specs.declared.error.IndexFault.{IndexFault}
 use Rattle.package_stanza.specs.Stanza.{counts_for}
 use Rattle.relation.specs.PkgFields.{fields_of}
 use Rattle.relation.specs.PkgText.{name_fault_in, pkg_fault, pkg_name_fault, pkg_of, read_fields, unless_fault, value_in}
 use Rattle.relation.specs.declared.error.PkgFault.{PkgFault}
 use Rattle.relation.specs.declared.fields.PkgFields.{PkgFields}
-use Rattle.rules.specs.Available.{Index, Inputs, all_listed, counting_package, index_package, is_of, same_version, standing_record}
+use Rattle.rules.specs.Available.{Inputs, all_listed, counting_package, index_package, is_of, same_version, standing_record}
 use Rattle.rules.specs.Database as database
 use Rattle.rules.specs.Database.{Record, stands}
 use Rattle.rules.specs.ElementLaws.{All-intro, Contains-head, Contains-rest}
@@ -22,9 +23,14 @@ use Rattle.rules.specs.Package.{Pkg}
 use Rattle.rules.specs.Step.{IndexPackage, is_named}
 use Rattle.rules.specs.declared.index_place.IndexPlace.{IndexPlace}
 use Rattle.rules.specs.declared.limits.TheConstants.{TEXT_BYTES}
-use Rattle.rules.specs.declared.release.Release.{Release}
 use Rattle.stanza.specs.Field.{FieldText}
 use Rattle.stanza.specs.Stanza.{StanzaText, items_of}
+use Rattle.stanza.specs.Streamed.{read_within}
+use Rattle.stanza.specs.declared.error.ReadError.{ReadError}
+use Rattle.index.specs.Sources.{SourceText}
+use Rattle.inputs.specs.Indices.{index_in}
+use Rattle.inputs.specs.Reading.{with_fault}
+use Rattle.inputs.specs.declared.refusal.Fault.TheVariants as fault
 use Rattle.stanza.specs.declared.error.StanzaError.{StanzaError}
 use Rattle.status_text.specs.Mark as mark
 use Rattle.status_text.specs.Record as slot_read
@@ -182,63 +188,57 @@ entry_named arch place stanza entry is =
         subst Is (sym same) (named stanza.line (fields_of stanza).name was)
 
 -- what an item gives has a package name
-item_named : (arch : List ℕ) (place : IndexPlace) (item : Result StanzaText StanzaError) (entry : IndexStanza)
-    → read_item arch place item ≡ Ok (Some entry) → IsListedNamed entry.listed
+item_named : (arch : List ℕ) (place : IndexPlace) (item : Result StanzaText ReadError) (entry : IndexStanza)
+    → read_streamed arch place item ≡ Ok (Some entry) → IsListedNamed entry.listed
 item_named arch place (Err refused) entry is = absurd (let e = is in cc)
 item_named arch place (Ok stanza) entry is = entry_named arch place stanza entry is
 
 -- the packages of the items have package names
-stanzas_named : (arch : List ℕ) (place : IndexPlace) (items : List (Result StanzaText StanzaError)) (count : ℕ) (read : ReadStanzas)
-    → stanzas_in arch place items count ≡ Ok read → All IsListedNamed read.listed
+stanzas_named : (arch : List ℕ) (place : IndexPlace) (items : List (Result StanzaText ReadError)) (count : ℕ) (read : ReadStanzas)
+    → stanzas_read arch place items count ≡ Ok read → All IsListedNamed read.listed
 stanzas_named arch place [] count read is =
     let same : record { listed = []; skipped = 0 } ≡ read = ok_is _ read is in
     subst (λ (r : ReadStanzas). All IsListedNamed r.listed) same (All-nil IsListedNamed)
 stanzas_named arch place (item ∷ items) count read is =
-    at (λ later rest so. stanzas_named arch (next_place place) items later rest so) (read_item arch place item) refl is
+    at (λ later rest so. stanzas_named arch (next_place place) items later rest so) (read_streamed arch place item) refl is
   where
-    put : (entry : Option IndexStanza) (rest : ReadStanzas) → read_item arch place item ≡ Ok entry → All IsListedNamed rest.listed
+    put : (entry : Option IndexStanza) (rest : ReadStanzas) → read_streamed arch place item ≡ Ok entry → All IsListedNamed rest.listed
         → All IsListedNamed ((stanzas_of entry).listed ++ rest.listed)
     put None rest was all = all
     put (Some entry) rest was all = All-cons IsListedNamed entry.listed rest.listed (item_named arch place item entry was) all
 
-    joined : (entry : Option IndexStanza) (later : Result ReadStanzas IndexFault) → read_item arch place item ≡ Ok entry
+    joined : (entry : Option IndexStanza) (later : Result ReadStanzas IndexFault) → read_streamed arch place item ≡ Ok entry
         → ((rest : ReadStanzas) → later ≡ Ok rest → All IsListedNamed rest.listed)
         → with_stanzas (stanzas_of entry) later ≡ Ok read → All IsListedNamed read.listed
     joined entry (Err refused) was all is = absurd (let e = is in cc)
     joined entry (Ok rest) was all is =
         subst (λ (r : ReadStanzas). All IsListedNamed r.listed) (ok_is _ read is) (put entry rest was (all rest refl))
 
-    few : ((later : ℕ) (rest : ReadStanzas) → stanzas_in arch (next_place place) items later ≡ Ok rest → All IsListedNamed rest.listed)
-        → (entry : Option IndexStanza) (b : Bool) → read_item arch place item ≡ Ok entry
+    few : ((later : ℕ) (rest : ReadStanzas) → stanzas_read arch (next_place place) items later ≡ Ok rest → All IsListedNamed rest.listed)
+        → (entry : Option IndexStanza) (b : Bool) → read_streamed arch place item ≡ Ok entry
         → (if b then Err Rattle.index.specs.declared.error.IndexFault.TheVariants.TooLarge
-        else with_stanzas (stanzas_of entry) (stanzas_in arch (next_place place) items (count + length (stanzas_of entry).listed))) ≡ Ok read
+        else with_stanzas (stanzas_of entry) (stanzas_read arch (next_place place) items (count + length (stanzas_of entry).listed))) ≡ Ok read
         → All IsListedNamed read.listed
     few all entry true was is = absurd (let e = is in cc)
-    few all entry false was is = joined entry (stanzas_in arch (next_place place) items (count + length (stanzas_of entry).listed)) was
+    few all entry false was is = joined entry (stanzas_read arch (next_place place) items (count + length (stanzas_of entry).listed)) was
         (λ rest so. all (count + length (stanzas_of entry).listed) rest so) is
 
-    at : ((later : ℕ) (rest : ReadStanzas) → stanzas_in arch (next_place place) items later ≡ Ok rest → All IsListedNamed rest.listed)
-        → (found : Result (Option IndexStanza) IndexFault) → read_item arch place item ≡ found
-        → entry_then count found (stanzas_in arch (next_place place) items) ≡ Ok read → All IsListedNamed read.listed
+    at : ((later : ℕ) (rest : ReadStanzas) → stanzas_read arch (next_place place) items later ≡ Ok rest → All IsListedNamed rest.listed)
+        → (found : Result (Option IndexStanza) IndexFault) → read_streamed arch place item ≡ found
+        → entry_then count found (stanzas_read arch (next_place place) items) ≡ Ok read → All IsListedNamed read.listed
     at all (Err refused) was is = absurd (let e = is in cc)
     at all (Ok entry) was is = few all entry (is_too_many count entry) was is
 
 -- the packages of an index have package names
-pub index_named : (arch : List ℕ) (number : ℕ) (release : Release) (before : ℕ) (text : List ℕ) (read : ReadIndex)
-    → read_index arch number release before text ≡ Ok read → All IsListedNamed read.index.listed
-index_named arch number release before text read is = at (nat_lt TEXT_BYTES (length text)) is
+pub index_named : (arch : List ℕ) (number : ℕ) (before : ℕ) (source : SourceText) (text : List ℕ) (read : ReadIndex)
+    → index_in arch number before source text ≡ Ok read → All IsListedNamed read.index.listed
+index_named arch number before source text read is = at (read_stream arch number before text) refl is
   where
-    with_keys : (found : Result ReadStanzas IndexFault) → ((rest : ReadStanzas) → found ≡ Ok rest → All IsListedNamed rest.listed)
-        → with_release release found ≡ Ok read → All IsListedNamed read.index.listed
-    with_keys (Err refused) all is = absurd (let e = is in cc)
-    with_keys (Ok rest) all is = subst (λ (r : ReadIndex). All IsListedNamed r.index.listed) (ok_is _ read is) (all rest refl)
-
-    at : (b : Bool) → (if b then Err Rattle.index.specs.declared.error.IndexFault.TheVariants.TooLarge
-        else with_release release (stanzas_in arch (first_place number) (items_of false text) before)) ≡ Ok read
-        → All IsListedNamed read.index.listed
-    at true is = absurd (let e = is in cc)
-    at false is = with_keys (stanzas_in arch (first_place number) (items_of false text) before)
-        (λ rest so. stanzas_named arch (first_place number) (items_of false text) before rest so) is
+    at : (found : Result ReadStanzas IndexFault) → read_stream arch number before text ≡ found
+        → with_fault fault.Index (with_release source.release found) ≡ Ok read → All IsListedNamed read.index.listed
+    at (Err refused) was is = absurd (let e = is in cc)
+    at (Ok rest) was is = subst (λ (r : ReadIndex). All IsListedNamed r.index.listed) (ok_is _ read is)
+        (stanzas_named arch (first_place number) (read_within false 1 TEXT_BYTES text) before rest was)
 
 -- Packages
 

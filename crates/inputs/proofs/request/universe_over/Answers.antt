@@ -1,23 +1,18 @@
 -- The universe of the request is built on the records of the database, is no larger than is kept, and its facts are about
 -- distinct names.
-use Rattle.std.proofs.Common.{arith, map, subst, sym}
+use Rattle.std.proofs.Common.{map, subst, sym}
 use Rattle.candidates.specs.Inputs.{indices_of}
 use Rattle.status_text.specs.Slot.{entries_of}
 use Rattle.universe.specs.Universe.{HaveDistinctNames}
 use Rattle.universe_build.proofs.StartsApart.{starts_apart}
-use Rattle.cli_engine.specs.Inputs.{texts_of}
-use Rattle.cli_engine.proofs.DenoteLemmas.{built_on}
-use Rattle.cli_engine.proofs.check.universe_of.Goals as goal
+use Rattle.inputs.proofs.DenoteLemmas.{built_on}
+use Rattle.inputs.proofs.request.universe_over.Goals as goal
 
 pub returns-in-Ok-clause-built : goal.returns-in-Ok-clause-built
 returns-in-Ok-clause-built c =
-    let texts = texts_of c.args.inputs.now in
-    built_on c.universe_is_built.ensures texts.arch texts.request c.in-Ok.universe
+    built_on c.universe_is_built.ensures _ _ c.in-Ok.universe
     (map (λ r. r.now) c.as_slice.result.now) (entries_of c.args.database.now.slots) (indices_of c.args.indices.now) c.args.prefs.now
     (rw c.as_slice.ensures.value c.in_ok-records.ensures) c.names-names.ensures.distinct c.in-Ok.ensures.ok
-
-pub returns-in-Ok-clause-few : goal.returns-in-Ok-clause-few
-returns-in-Ok-clause-few c = let bounded = c.in-Ok.ensures.ok.1.built.bounded in omega (arith, bounded)
 
 pub returns-in-Ok-clause-distinct : goal.returns-in-Ok-clause-distinct
 returns-in-Ok-clause-distinct c =

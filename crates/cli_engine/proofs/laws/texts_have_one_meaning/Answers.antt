@@ -1,5 +1,0 @@
-use Rattle.cli_engine.proofs.MeaningLemmas.{one_meaning}
-use Rattle.cli_engine.proofs.laws.texts_have_one_meaning.Goals as goal
-
-pub returns : goal.returns
-returns c = one_meaning

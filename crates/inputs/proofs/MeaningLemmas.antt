@@ -1,0 +1,149 @@
+-- Texts have one meaning, and a meaning and a refusal exclude each other.
+use Rattle.std.proofs.Common.{◌≡◌, ℕ, List, length, Some, None, Result, Ok, Err, sym, ap, subst, ◌∙◌, arith}
+use Rattle.candidates.specs.Inputs.{inputs_of}
+use Rattle.pins.specs.Prefs.{Preferences}
+use Rattle.rules.specs.Available.{Index}
+use Rattle.rules.specs.Database.{Record}
+use Rattle.rules.specs.FileRecord.{records_of}
+use Rattle.rules.specs.Universe.{IsUniverse, Universe}
+use Rattle.rules.specs.declared.goal.GoalLine.{GoalLine}
+use Rattle.rules.proofs.UniverseLemmas.{one_universe}
+use Rattle.status_text.specs.Slot.{entries_of}
+use Rattle.universe_build.specs.Build.{goals_of}
+use Rattle.inputs.specs.Before.{AreListed, AreRead, HasIndices, HasStart, IsFaultBefore}
+use Rattle.inputs.specs.Indices.{read_indices}
+use Rattle.inputs.specs.Meaning.{Denotes, IsAsked, IsBuildFault, IsRequestFault, IsRequested, goals_in}
+use Rattle.inputs.specs.Reading.{out_of_memory}
+use Rattle.inputs.specs.Refused.{HasOneMeaning, MeaningIsNotRefused}
+use Rattle.inputs.specs.Texts.{Found, Texts, preferences_of, sources_of, status_of}
+use Rattle.inputs.specs.declared.refusal.Fault.{Fault}
+use Rattle.inputs.specs.declared.refusal.Fault.TheVariants as fault
+use Rattle.inputs.specs.declared.refusal.Input.{Input}
+use Rattle.inputs.specs.declared.refusal.Input.TheVariants as place
+use mathlib.Core.Logic.{inl, inr}
+
+-- a result has one value
+pub ok-same : {A E : Type 0} (x y : A) (r : Result A E) → r ≡ Ok x → r ≡ Ok y → x ≡ y
+ok-same x y r first second = let e = sym first ∙ second in cc
+
+-- a result has no value and no error beside
+pub not-both : {A E : Type 0} (x : A) (e : E) (r : Result A E) → r ≡ Ok x → r ≡ Err e → ⊥
+not-both x e r first second = absurd (let same : Ok x ≡ Err e = sym first ∙ second in cc)
+
+-- the sources and the indices are read as one list of indices
+one_indexing : (texts : Texts) (indices others : List Index) → HasIndices texts indices → HasIndices texts others → indices ≡ others
+one_indexing texts indices others is also =
+    ok-same indices others (read_indices texts.arch texts.index is.sources) is.indices_are
+    (ap (λ named. read_indices texts.arch texts.index named)
+    (ok-same is.sources also.sources (sources_of texts) is.sources_are also.sources_are) ∙ also.indices_are)
+
+-- the status file is read as one start
+pub one_start : (texts : Texts) (start begin : List Record) → HasStart texts start → HasStart texts begin → start ≡ begin
+one_start texts start begin is also =
+    is.start_is
+    ∙ ap (λ slots. records_of (entries_of slots)) (ok-same is.slots also.slots (status_of texts) is.status also.status)
+    ∙ sym also.start_is
+
+-- what texts before the request are read as
+one_start_of : (texts : Texts) (start begin : List Record) (indices others : List Index) → AreListed texts start indices
+    → AreListed texts begin others → start ≡ begin
+one_start_of texts start begin indices others is also = one_start texts start begin is.started also.started
+
+one_reading : (texts : Texts) (start begin : List Record) (indices others : List Index) → AreListed texts start indices
+    → AreListed texts begin others → indices ≡ others
+one_reading texts start begin indices others is also = one_indexing texts indices others is.indexed also.indexed
+
+one_preferring : (texts : Texts) (start begin : List Record) (indices others : List Index) (prefs further : Preferences)
+    → AreRead texts start indices prefs → AreRead texts begin others further → prefs ≡ further
+one_preferring texts start begin indices others prefs further is also =
+    ok-same prefs further (preferences_of texts) is.preferred also.preferred
+
+pub one_meaning : HasOneMeaning
+one_meaning texts u other start begin is also = (
+  one_universe (inputs_of start is.indices is.prefs (goals_of is.lines)) u other is.requested.built.universe
+      (subst (λ db. IsUniverse (inputs_of db is.indices is.prefs (goals_of is.lines)) other) (sym begins)
+      (subst (λ indices. IsUniverse (inputs_of begin indices is.prefs (goals_of is.lines)) other) (sym indices)
+      (subst (λ prefs. IsUniverse (inputs_of begin also.indices prefs (goals_of is.lines)) other) (sym prefs)
+      (subst (λ lines. IsUniverse (inputs_of begin also.indices also.prefs (goals_of lines)) other) (sym lines) also.requested.built.universe)))),
+  begins,
+)
+  where
+    lines : is.lines ≡ also.lines
+    lines = ok-same is.lines also.lines (goals_in texts.arch texts.request) is.requested.read also.requested.read
+
+    indices : is.indices ≡ also.indices
+    indices = one_reading texts start begin is.indices also.indices is.read.listed also.read.listed
+
+    prefs : is.prefs ≡ also.prefs
+    prefs = one_preferring texts start begin is.indices also.indices is.prefs also.prefs is.read also.read
+
+    begins : start ≡ begin
+    begins = one_start_of texts start begin is.indices also.indices is.read.listed also.read.listed
+
+-- where a universe is built of goals, there is no fault in building it
+is_built : (start : List Record) (indices : List Index) (prefs : Preferences) (arch : List ℕ) (request : Found) (lines : List GoalLine)
+    (u : Universe) (found : Fault) → IsRequested arch request start indices prefs lines u → ¬ IsBuildFault start indices prefs lines found
+is_built start indices prefs arch request lines u (fault.Version kind) is no_fault = no_fault
+is_built start indices prefs arch request lines u (fault.Status refused) is no_fault = no_fault
+is_built start indices prefs arch request lines u (fault.Sources refused) is no_fault = no_fault
+is_built start indices prefs arch request lines u (fault.Index refused) is no_fault = no_fault
+is_built start indices prefs arch request lines u (fault.Preferences refused) is no_fault = no_fault
+is_built start indices prefs arch request lines u (fault.Request refused) is no_fault = no_fault
+is_built start indices prefs arch request lines u (fault.UnknownName line) is found =
+    absurd (let e : None ≡ Some line = sym is.built.known ∙ found in cc)
+is_built start indices prefs arch request lines u (fault.Plan refused) is no_fault = no_fault
+is_built start indices prefs arch request lines u (fault.Refutation refused) is no_fault = no_fault
+is_built start indices prefs arch request lines u fault.TooLarge is found =
+    let beyond = found.1 in
+    let equal = ap (λ (v : Universe). length v.pairs) (one_universe (inputs_of start indices prefs (goals_of lines)) u beyond.u is.built.universe beyond.universe) in
+    let within = is.built.bounded in
+    let over = beyond.beyond in
+    absurd (omega arith)
+is_built start indices prefs arch request lines u fault.Changed is no_fault = no_fault
+is_built start indices prefs arch request lines u fault.Read is no_fault = no_fault
+is_built start indices prefs arch request lines u fault.OutOfMemory is no_fault = no_fault
+
+-- a request that is answered has no fault
+not_requested : (arch : List ℕ) (request : Found) (start : List Record) (indices : List Index) (prefs : Preferences) (lines : List GoalLine)
+    (u : Universe) (found : Fault)
+    → IsRequested arch request start indices prefs lines u → ¬ IsRequestFault arch request start indices prefs found
+not_requested arch request start indices prefs lines u found is (inl refused) =
+    not-both lines found (goals_in arch request) is.read refused
+not_requested arch request start indices prefs lines u found is (inr stopped) =
+    is_built start indices prefs arch request lines u found is
+    (subst (λ (ls : List GoalLine). IsBuildFault start indices prefs ls found)
+    (ok-same stopped.lines lines (goals_in arch request) stopped.read is.read) stopped.fault)
+
+-- texts that have a meaning have no request that is refused
+not_asked : (texts : Texts) (u : Universe) (start : List Record) (found : Fault) → Denotes texts u start
+    → ¬ IsAsked texts found
+not_asked texts u start found is asked = not_requested texts.arch texts.request start is.indices is.prefs is.lines u found is.requested
+    (subst (λ prefs. IsRequestFault texts.arch texts.request start is.indices prefs found)
+    (one_preferring texts asked.start start asked.indices is.indices asked.prefs is.prefs asked.read is.read)
+    (subst (λ indices. IsRequestFault texts.arch texts.request start indices asked.prefs found)
+    (one_reading texts asked.start start asked.indices is.indices asked.read.listed is.read.listed)
+    (subst (λ db. IsRequestFault texts.arch texts.request db asked.indices asked.prefs found)
+    (one_start_of texts asked.start start asked.indices is.indices asked.read.listed is.read.listed) asked.refused)))
+
+-- texts that have a meaning have no fault before the request but want of memory
+not_before : (texts : Texts) (u : Universe) (start : List Record) (where_ : Input) (found : Fault)
+    → Denotes texts u start → IsFaultBefore texts where_ found → record { place = where_; fault = found } ≡ out_of_memory
+not_before texts u start (place.Version number) found is refused = absurd refused
+not_before texts u start place.Status found is refused =
+    absurd (not-both is.read.listed.started.slots found (status_of texts) is.read.listed.started.status refused)
+not_before texts u start place.Sources found is refused =
+    absurd (not-both is.read.listed.indexed.sources found (sources_of texts) is.read.listed.indexed.sources_are refused.1)
+not_before texts u start (place.Index number) found is refused =
+    let same = ok-same is.read.listed.indexed.sources refused.sources (sources_of texts) is.read.listed.indexed.sources_are refused.sources_are in
+    absurd (not-both is.indices (record { place = place.Index number; fault = found }) (read_indices texts.arch texts.index refused.sources)
+    (ap (λ named. read_indices texts.arch texts.index named) (sym same) ∙ is.read.listed.indexed.indices_are) refused.refused)
+not_before texts u start place.Preferences found is refused =
+    absurd (not-both is.prefs found (preferences_of texts) is.read.preferred refused.refused)
+not_before texts u start place.Request found is refused = absurd refused
+not_before texts u start place.Plan found is refused = absurd refused
+not_before texts u start place.Refutation found is refused = absurd refused
+not_before texts u start place.Memory found is refused = ap (λ (f : Fault). record { place = place.Memory; fault = f }) refused
+
+pub meaning_is_not_refused : MeaningIsNotRefused
+meaning_is_not_refused texts u start refused is (inl before) = not_before texts u start refused.place refused.fault is before
+meaning_is_not_refused texts u start refused is (inr asked) = absurd (not_asked texts u start refused.fault is asked.asked)
