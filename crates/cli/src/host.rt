@@ -43,7 +43,7 @@ pub trait Host {
     /// Gives back a text: what couldn't be read of it is counted.
     fn close(&mut self, text: Self::Text)
         ensures same { files self.new ≡ files self.old }
-        ensures count { faults self.new ≡ min (faults self.old + Self.Text.faults text.entry) (2 ^ 64 - 1) };
+        ensures count { faults self.new ≡ min (faults self.old + Self.Text.faults text) (2 ^ 64 - 1) };
 }
 
 /// A host that is lent.

@@ -23,8 +23,8 @@ pub use exit::{
     Exit, exit_of_candidate, exit_of_comparison, exit_of_refusal, exit_of_refutation,
     exit_of_solved, exit_of_verdict,
 };
-pub use find::find_candidate;
 pub use files::{HostShelf, Paths};
+pub use find::find_candidate;
 pub use host::Host;
 pub use inputs::{ReadError, ReadFailed, Source};
 pub use judge::{check_plan, check_refutation};

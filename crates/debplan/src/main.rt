@@ -98,7 +98,7 @@ impl Host for Disk<'_> {
     }
 
     fn close(&mut self, text: Opened) {
-        self.failures = self.failures.saturating_add(text.failures);
+        self.failures = self.failures.saturating_add(text.failures());
     }
 }
 
@@ -115,10 +115,7 @@ const BLOCK: usize = 262_144;
 
 // Reads the file to its end, or until it is longer than a text may be: what is longer is refused for that alone, so no
 // more of it is asked for, be there an end or not.
-fn read_whole(
-    alloc: Global,
-    file: &mut Opened,
-) -> Result<Result<Vec<u8>, ReadFailed>, AllocError> {
+fn read_whole(alloc: Global, file: &mut Opened) -> Result<Result<Vec<u8>, ReadFailed>, AllocError> {
     let mut text = Vec::new(alloc);
     let mut block = Vec::new(alloc);
     block.resize(BLOCK, 0u8)?;

@@ -1,11 +1,13 @@
 //! A plan judged, and a candidate found, by paths.
-ghost use Rattle.std.specs.Prelude.{None, Some, bytes_eq, if◌then◌else◌};
+ghost use Rattle.std.specs.Prelude.{◌≡◌, None, Some, bytes_eq, if◌then◌else◌};
+ghost use Rattle.inputs.specs.Counting.{one_more};
+ghost use Rattle.inputs.specs.declared.shelf.ReadError.TheVariants as ReadError;
 
 use crate::memory::Memory;
 use crate::scenario::add_plan;
 use cli::{
     Candidate, Exit, Fault, Host, HostShelf, Input, Outcome, Paths, ReadError, Refusal, Settings,
-    candidate_line, check_plan, exit_of_candidate, exit_of_refusal, exit_of_verdict,
+    Source, candidate_line, check_plan, exit_of_candidate, exit_of_refusal, exit_of_verdict,
     find_candidate, outcome_of_answer, outcome_of_candidate, verdict_line,
 };
 use rules::Verdict;
@@ -20,13 +22,16 @@ struct OneFile<'a> {
     failures: u64,
 }
 
-impl<'a> OneFile<'a> {
-    fn text_at(&mut self, path: &[u8]) -> Result<&'a [u8], ReadError> {
-        if path == self.path {
-            return Ok(self.text);
-        }
+impl OneFile<'_> {
+    // Counts a file that isn't there.
+    fn missing(&mut self) -> ReadError
+        ensures path { self.new.path ≡ self.old.path }
+        ensures text { self.new.text ≡ self.old.text }
+        ensures error { result ≡ ReadError.Unreadable }
+        ensures count { self.new.failures ≡ one_more self.old.failures }
+    {
         self.failures = self.failures.saturating_add(1);
-        Err(ReadError::Unreadable)
+        ReadError::Unreadable
     }
 }
 
@@ -42,18 +47,25 @@ impl<'a> Host for OneFile<'a> {
     }
 
     fn read(&mut self, alloc: Global, path: &[u8]) -> Result<Vec<u8>, ReadError> {
-        let text = self.text_at(path)?;
-        match text.to_vec(alloc) {
+        if path != self.path {
+            return Err(self.missing());
+        }
+        match self.text.to_vec(alloc) {
             Ok(text) => Ok(text),
             Err(AllocError) => Err(ReadError::OutOfMemory),
         }
     }
 
     fn open(&mut self, _alloc: Global, path: &[u8]) -> Result<&'a [u8], ReadError> {
-        self.text_at(path)
+        if path != self.path {
+            return Err(self.missing());
+        }
+        Ok(self.text)
     }
 
-    fn close(&mut self, _text: &'a [u8]) {}
+    fn close(&mut self, text: &'a [u8]) {
+        self.failures = self.failures.saturating_add(text.failures());
+    }
 }
 
 const SETTINGS: Settings<'static> = Settings {

@@ -133,7 +133,9 @@ impl Host for Memory<'_> {
         Ok(Opened { text, taken: 0 })
     }
 
-    fn close(&mut self, _text: Opened) {}
+    fn close(&mut self, text: Opened) {
+        self.failures = self.failures.saturating_add(text.failures());
+    }
 }
 
 /// The words of a line, which spaces part.

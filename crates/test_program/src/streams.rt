@@ -191,7 +191,7 @@ impl Host for Worn {
     }
 
     fn close(&mut self, text: Broken) {
-        self.failures = self.failures.saturating_add(text.failures);
+        self.failures = self.failures.saturating_add(text.failures());
     }
 }
 
