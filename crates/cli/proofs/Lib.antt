@@ -1,1 +1,2 @@
+mod SaidLemmas
 mod ShelfLemmas

@@ -1,5 +1,7 @@
 // The whole program over a host.
-ghost use Rattle.std.specs.Prelude.{◌≡◌};
+ghost use Rattle.std.specs.Prelude.{◌≡◌, IfOk, Some};
+ghost use Rattle.cli.specs.Calls.{IsOutcomeOfCall, IsOutcomeOfLines, IsOutcomeOfName, IsOutcomeOfPlan, IsOutcomeOfRequest, IsOutcomeOfVersions, IsSaidOfVersions};
+ghost use Rattle.cli.specs.Files.{Files};
 ghost use Rattle.cli.specs.Outcome.{IsWritten};
 ghost use Rattle.cli.specs.declared.outcome.Outcome.{Outcome as Found};
 
@@ -63,11 +65,11 @@ fn outcome_of_call<H: Host>(
     alloc: Global,
     call: &Call<'_>,
     host: &mut H,
-) -> Result<Outcome, AllocError> {
+) -> Result<Outcome, AllocError>
+    ensures { (at : Files) → H.files host.old ≡ Some at → IfOk result (λ outcome. IsOutcomeOfCall at call.now outcome) }
+{
     match call {
-        Call::Compare(comparison) => {
-            outcome_of_comparison(alloc, &answer_of_comparison(comparison))
-        }
+        Call::Compare(arguments) => outcome_of_versions(alloc, arguments),
         Call::Candidate(arguments, name) => {
             outcome_of_name(alloc, host, arguments, name.as_bytes())
         }
@@ -83,7 +85,9 @@ fn outcome_of_name<H: Host>(
     host: &mut H,
     arguments: &Arguments<'_>,
     name: &[u8],
-) -> Result<Outcome, AllocError> {
+) -> Result<Outcome, AllocError>
+    ensures { (at : Files) → H.files host.old ≡ Some at → IfOk result (λ outcome. IsOutcomeOfName at arguments.now name.now outcome) }
+{
     let Arguments { settings, paths } = *arguments;
     let mut shelf = HostShelf { host, paths };
     let answer = find_candidate(alloc, &mut shelf, &settings, name);
@@ -96,7 +100,9 @@ fn outcome_of_request<H: Host>(
     host: &mut H,
     arguments: &Arguments<'_>,
     limit: u32,
-) -> Result<Outcome, AllocError> {
+) -> Result<Outcome, AllocError>
+    ensures { (at : Files) → H.files host.old ≡ Some at → IfOk result (λ outcome. IsOutcomeOfRequest at arguments.now limit outcome) }
+{
     let Arguments { settings, paths } = *arguments;
     let mut shelf = HostShelf { host, paths };
     let answer = solve_request(alloc, &mut shelf, &settings, limit);
@@ -108,7 +114,9 @@ fn outcome_of_plan<H: Host>(
     alloc: Global,
     host: &mut H,
     arguments: &Arguments<'_>,
-) -> Result<Outcome, AllocError> {
+) -> Result<Outcome, AllocError>
+    ensures { (at : Files) → H.files host.old ≡ Some at → IfOk result (λ outcome. IsOutcomeOfPlan at arguments.now outcome) }
+{
     let Arguments { settings, paths } = *arguments;
     let mut shelf = HostShelf { host, paths };
     let answer = check_plan(alloc, &mut shelf, &settings);
@@ -120,14 +128,29 @@ fn outcome_of_lines<H: Host>(
     alloc: Global,
     host: &mut H,
     arguments: &Arguments<'_>,
-) -> Result<Outcome, AllocError> {
+) -> Result<Outcome, AllocError>
+    ensures { (at : Files) → H.files host.old ≡ Some at → IfOk result (λ outcome. IsOutcomeOfLines at arguments.now outcome) }
+{
     let Arguments { settings, paths } = *arguments;
     let mut shelf = HostShelf { host, paths };
     let answer = check_refutation(alloc, &mut shelf, &settings);
     outcome_of_refutation(alloc, &answer)
 }
 
-fn answer_of_comparison(comparison: &CompareArguments<'_>) -> Result<bool, Refusal> {
+// What is printed of the answer to the comparison.
+fn outcome_of_versions(
+    alloc: Global,
+    arguments: &CompareArguments<'_>,
+) -> Result<Outcome, AllocError>
+    ensures { IfOk result (λ outcome. IsOutcomeOfVersions arguments.now outcome) }
+{
+    let answer = answer_of_comparison(arguments);
+    outcome_of_comparison(alloc, &answer)
+}
+
+fn answer_of_comparison(comparison: &CompareArguments<'_>) -> Result<bool, Refusal>
+    ensures { IsSaidOfVersions comparison.now result }
+{
     let CompareArguments {
         version,
         relation,
