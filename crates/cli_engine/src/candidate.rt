@@ -13,7 +13,7 @@ use crate::offered::Candidate;
 use candidates::candidate;
 use index::Index;
 use inputs::{
-    Inputs, Listed, MemoryShelf, Refusal, Settings, Shelf, lend_indices, read_database,
+    Inputs, MemoryShelf, Refusal, Settings, Shelf, lend_indices, read_database,
     read_listed, read_preferences, read_status,
 };
 use pins::Prefs;
@@ -56,9 +56,9 @@ pub fn candidate_from<S: Shelf>(
     ensures same { S.found shelf.new ≡ S.found shelf.old }
     ensures count { CountsRead result (S.faults shelf.old) (S.faults shelf.new) }
 {
-    let status = read_status(alloc, shelf)?;
-    let database = read_database(alloc, status.as_slice(), settings)?;
-    let Listed { kept, releases } = read_listed(alloc, shelf, settings)?;
+    let status = read_status(alloc, shelf, settings)?;
+    let database = read_database(alloc, &status)?;
+    let (kept, releases) = read_listed(alloc, shelf, settings)?;
     let indices = lend_indices(alloc, kept.as_slice(), releases)?;
     let prefs = read_preferences(alloc, shelf, settings)?;
     let found = candidate_over(alloc, &database, indices.as_slice(), &prefs, name)?;

@@ -9,7 +9,7 @@ ghost use Rattle.cli_engine.specs.Answer.{IsAnswer, IsFirstRefusal};
 
 use crate::plan::read_steps;
 use inputs::{
-    Inputs, Listed, MemoryShelf, Refusal, Settings, Shelf, lend_indices, read_database,
+    Inputs, MemoryShelf, Refusal, Settings, Shelf, lend_indices, read_database,
     read_listed, read_preferences, read_status, read_universe,
 };
 use plancheck::check_plan;
@@ -53,9 +53,9 @@ pub fn check_plan_from<S: Shelf>(
     ensures same { S.found shelf.new ≡ S.found shelf.old }
     ensures count { CountsRead result (S.faults shelf.old) (S.faults shelf.new) }
 {
-    let status = read_status(alloc, shelf)?;
-    let database = read_database(alloc, status.as_slice(), settings)?;
-    let Listed { kept, releases } = read_listed(alloc, shelf, settings)?;
+    let status = read_status(alloc, shelf, settings)?;
+    let database = read_database(alloc, &status)?;
+    let (kept, releases) = read_listed(alloc, shelf, settings)?;
     let indices = lend_indices(alloc, kept.as_slice(), releases)?;
     let prefs = read_preferences(alloc, shelf, settings)?;
     let universe = read_universe(alloc, shelf, settings, &database, indices.as_slice(), &prefs)?;

@@ -13,7 +13,7 @@ ghost use Rattle.cli_engine.specs.Refuted.{AreRefuted, IsFirstRefutationRefusal,
 
 use crate::laws::yes_refutes;
 use inputs::{
-    Fault, Input, Inputs, Listed, MemoryShelf, Part, Refusal, Settings, Shelf, lend_indices,
+    Fault, Input, Inputs, MemoryShelf, Part, Refusal, Settings, Shelf, lend_indices,
     read_database, read_listed, read_part, read_preferences, read_status, read_universe, refused_at,
 };
 use refutation::Refutation;
@@ -71,9 +71,9 @@ pub fn check_refutation_from<S: Shelf>(
     ensures count { CountsRead result (S.faults shelf.old) (S.faults shelf.new) }
 {
     yes_refutes();
-    let status = read_status(alloc, shelf)?;
-    let database = read_database(alloc, status.as_slice(), settings)?;
-    let Listed { kept, releases } = read_listed(alloc, shelf, settings)?;
+    let status = read_status(alloc, shelf, settings)?;
+    let database = read_database(alloc, &status)?;
+    let (kept, releases) = read_listed(alloc, shelf, settings)?;
     let indices = lend_indices(alloc, kept.as_slice(), releases)?;
     let prefs = read_preferences(alloc, shelf, settings)?;
     let universe = read_universe(alloc, shelf, settings, &database, indices.as_slice(), &prefs)?;

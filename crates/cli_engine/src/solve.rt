@@ -11,7 +11,7 @@ ghost use Rattle.cli_engine.specs.Solution.{IsSolution};
 
 use crate::laws::a_meaning_is_solvable;
 use inputs::{
-    Inputs, Listed, MemoryShelf, Refusal, Settings, Shelf, lend_indices, read_database,
+    Inputs, MemoryShelf, Refusal, Settings, Shelf, lend_indices, read_database,
     read_listed, read_preferences, read_status, read_universe,
 };
 use solver::{Solved, solve};
@@ -55,9 +55,9 @@ pub fn solve_from<S: Shelf>(
     ensures count { CountsRead result (S.faults shelf.old) (S.faults shelf.new) }
 {
     a_meaning_is_solvable();
-    let status = read_status(alloc, shelf)?;
-    let database = read_database(alloc, status.as_slice(), settings)?;
-    let Listed { kept, releases } = read_listed(alloc, shelf, settings)?;
+    let status = read_status(alloc, shelf, settings)?;
+    let database = read_database(alloc, &status)?;
+    let (kept, releases) = read_listed(alloc, shelf, settings)?;
     let indices = lend_indices(alloc, kept.as_slice(), releases)?;
     let prefs = read_preferences(alloc, shelf, settings)?;
     let universe = read_universe(alloc, shelf, settings, &database, indices.as_slice(), &prefs)?;

@@ -5,4 +5,5 @@ pub mod Inputs
 pub mod Meaning
 pub mod Reading
 pub mod Refused
+pub mod StatusText
 pub mod Texts

@@ -17,15 +17,6 @@ use index::{Index, IndexSource, KeptIndex, StreamError};
 use rules::Release;
 use std::alloc::{AllocError, Global};
 
-/// The indices of the sources, in their order: what is kept of each, and its release keys.
-#[derive(Drop)]
-pub struct Listed {
-    /// What is kept.
-    pub kept: Vec<KeptIndex>,
-    /// The release keys.
-    pub releases: Vec<Release>,
-}
-
 // What is kept of the index of this number and source, behind so many packages of those before it.
 fn read_index<S: Shelf>(
     alloc: Global,
@@ -62,12 +53,12 @@ fn read_each<S: Shelf>(
     shelf: &mut S,
     arch: &[u8],
     sources: Vec<IndexSource<'_>>,
-) -> Result<Listed, Refusal>
+) -> Result<(Vec<KeptIndex>, Vec<Release>), Refusal>
     ensures ok { (at : Shelved) → S.found shelf.old ≡ Some at → IfOk result (λ listed.
-        Spec.read_indices arch.now at.index sources.entry.items ≡ Ok (released listed.releases.items listed.kept.items)) }
+        Spec.read_indices arch.now at.index sources.entry.items ≡ Ok (released listed.1.items listed.0.items)) }
     ensures refused { (at : Shelved) → S.found shelf.old ≡ Some at → IfErr result (λ refused.
         (refused ≡ out_of_memory) ⊎ (Spec.read_indices arch.now at.index sources.entry.items ≡ Err refused)) }
-    ensures count { IfOk result (λ listed. length listed.kept.items ≡ length listed.releases.items) }
+    ensures count { IfOk result (λ listed. length listed.0.items ≡ length listed.1.items) }
     ensures same { S.found shelf.new ≡ S.found shelf.old }
     ensures counted { CountsRead result (S.faults shelf.old) (S.faults shelf.new) }
 {
@@ -85,22 +76,23 @@ fn read_each<S: Shelf>(
         kept.push(index)?;
         releases.push(source.into_release())?;
     }
-    Ok(Listed { kept, releases })
+    Ok((kept, releases))
 }
 
 /// Reads the indices of these sources, or answers the first refusal: of more packages than are read too, which is that of the
-/// index that has the first one too many. Each is opened at its turn. Linear in the texts.
+/// index that has the first one too many. Each is opened at its turn. What is kept of each is answered, in the order of the
+/// sources, and the release keys of each. Linear in the texts.
 pub fn read_indices<S: Shelf>(
     alloc: Global,
     shelf: &mut S,
     settings: &Settings<'_>,
     sources: Vec<IndexSource<'_>>,
-) -> Result<Listed, Refusal>
+) -> Result<(Vec<KeptIndex>, Vec<Release>), Refusal>
     ensures ok { (at : Shelved) → S.found shelf.old ≡ Some at → sources_of (texts_of settings.now at) ≡ Ok sources.entry.items
-        → IfOk result (λ listed. HasIndices (texts_of settings.now at) (released listed.releases.items listed.kept.items)) }
+        → IfOk result (λ listed. HasIndices (texts_of settings.now at) (released listed.1.items listed.0.items)) }
     ensures refused { (at : Shelved) → S.found shelf.old ≡ Some at → sources_of (texts_of settings.now at) ≡ Ok sources.entry.items
         → HasStatus (texts_of settings.now at) → IfErr result (λ refused. IsRefusalBefore (texts_of settings.now at) refused) }
-    ensures count { IfOk result (λ listed. length listed.kept.items ≡ length listed.releases.items) }
+    ensures count { IfOk result (λ listed. length listed.0.items ≡ length listed.1.items) }
     ensures same { S.found shelf.new ≡ S.found shelf.old }
     ensures counted { CountsRead result (S.faults shelf.old) (S.faults shelf.new) }
 {
@@ -110,17 +102,18 @@ pub fn read_indices<S: Shelf>(
     }
 }
 
-/// Reads the sources, and the indices that they name, each at its turn. Linear in the texts.
+/// Reads the sources, and the indices that they name, each at its turn: what is kept of each, in the order of the sources, and
+/// the release keys of each. Linear in the texts.
 pub fn read_listed<S: Shelf>(
     alloc: Global,
     shelf: &mut S,
     settings: &Settings<'_>,
-) -> Result<Listed, Refusal>
+) -> Result<(Vec<KeptIndex>, Vec<Release>), Refusal>
     ensures ok { (at : Shelved) → S.found shelf.old ≡ Some at
-        → IfOk result (λ listed. HasIndices (texts_of settings.now at) (released listed.releases.items listed.kept.items)) }
+        → IfOk result (λ listed. HasIndices (texts_of settings.now at) (released listed.1.items listed.0.items)) }
     ensures refused { (at : Shelved) → S.found shelf.old ≡ Some at → HasStatus (texts_of settings.now at)
         → IfErr result (λ refused. IsRefusalBefore (texts_of settings.now at) refused) }
-    ensures count { IfOk result (λ listed. length listed.kept.items ≡ length listed.releases.items) }
+    ensures count { IfOk result (λ listed. length listed.0.items ≡ length listed.1.items) }
     ensures same { S.found shelf.new ≡ S.found shelf.old }
     ensures counted { CountsRead result (S.faults shelf.old) (S.faults shelf.new) }
 {

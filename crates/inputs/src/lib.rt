@@ -17,7 +17,7 @@ mod status_file;
 mod status_refusal;
 mod texts;
 
-pub use indices::{Listed, lend_indices, read_indices, read_listed};
+pub use indices::{lend_indices, read_indices, read_listed};
 pub use inputs::{Inputs, MemoryShelf};
 pub use laws::{a_meaning_is_not_refused, texts_have_one_meaning};
 pub use preferences::read_preferences;
@@ -27,6 +27,6 @@ pub use settings::Settings;
 pub use shelf::{Part, ReadError, Shelf};
 pub use sources::{read_sources, read_sources_text};
 pub use stanza::{ReadFailed, Source};
-pub use status_file::{read_database, read_status};
+pub use status_file::{StatusText, read_database, read_status};
 pub use status_refusal::{NamedPackage, StatusRefusal};
 pub use texts::{open_index, read_part};

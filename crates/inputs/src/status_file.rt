@@ -2,11 +2,11 @@
 ghost use Rattle.std.specs.Prelude.{◌≡◌, ◌≢◌, IfErr, IfOk, Ok, Some};
 ghost use Rattle.status_store.specs.Slots.{slot_records};
 ghost use Rattle.inputs.specs.Before.{HasStart, IsRefusalBefore};
+ghost use Rattle.inputs.specs.StatusText.{IsStatusText};
 ghost use Rattle.inputs.specs.Counting.{CountsRead};
 ghost use Rattle.inputs.specs.Reading.{IsFaultOf, OrMemory};
-ghost use Rattle.inputs.specs.Texts.{Shelved, status_in, status_refusal, texts_of};
+ghost use Rattle.inputs.specs.Texts.{Shelved, Texts, status_in, status_refusal, texts_of};
 ghost use Rattle.inputs.specs.declared.refusal.Fault.TheVariants as fault;
-ghost use Rattle.inputs.specs.declared.settings.Settings.{Settings as SettingsOf};
 
 use crate::refusal::{Fault, Input, Refusal, refused_at};
 use crate::settings::Settings;
@@ -39,33 +39,41 @@ fn database_in<'a>(alloc: Global, text: &'a [u8], arch: &'a [u8]) -> Result<Data
     }
 }
 
-/// The text of the status file.
-pub fn read_status<S: Shelf>(alloc: Global, shelf: &mut S) -> Result<Vec<u8>, Refusal>
-    ensures text { (at : Shelved) → S.found shelf.old ≡ Some at → IfOk result (λ text. at.status ≡ Some text.items) }
-    ensures refused { (at : Shelved) (settings : SettingsOf) → S.found shelf.old ≡ Some at
-        → IfErr result (λ refused. IsRefusalBefore (texts_of settings at) refused) }
+/// The text of a status file, and the configured architecture.
+#[derive(Drop)]
+pub struct StatusText {
+    text: Vec<u8>,
+    arch: Vec<u8>,
+}
+
+/// The text of the status file, with the architecture of these settings.
+pub fn read_status<S: Shelf>(
+    alloc: Global,
+    shelf: &mut S,
+    settings: &Settings<'_>,
+) -> Result<StatusText, Refusal>
+    ensures text { (at : Shelved) → S.found shelf.old ≡ Some at → IfOk result (λ status. IsStatusText (texts_of settings.now at) status) }
+    ensures refused { (at : Shelved) → S.found shelf.old ≡ Some at
+        → IfErr result (λ refused. IsRefusalBefore (texts_of settings.now at) refused) }
     ensures same { S.found shelf.new ≡ S.found shelf.old }
     ensures count { CountsRead result (S.faults shelf.old) (S.faults shelf.new) }
 {
     match read_part(alloc, shelf, Part::Status, Input::Status) {
-        Ok(text) => Ok(text),
+        Ok(text) => Ok(StatusText {
+            text,
+            arch: settings.arch.to_vec(alloc)?,
+        }),
         Err(refused) => Err(refused),
     }
 }
 
-/// The database that the text of the status file is, for these settings. Linear in the text.
-pub fn read_database<'a>(
-    alloc: Global,
-    text: &'a [u8],
-    settings: &Settings<'a>,
-) -> Result<Database<'a>, Refusal>
-    ensures ok { (at : Shelved) → at.status ≡ Some text.now
-        → IfOk result (λ db. HasStart (texts_of settings.now at) (slot_records db.slots)) }
-    ensures refused { (at : Shelved) → at.status ≡ Some text.now
-        → IfErr result (λ refused. IsRefusalBefore (texts_of settings.now at) refused) }
+/// The database that the text of the status file is. Linear in the text.
+pub fn read_database<'a>(alloc: Global, status: &'a StatusText) -> Result<Database<'a>, Refusal>
+    ensures ok { (texts : Texts) → IsStatusText texts status.now → IfOk result (λ db. HasStart texts (slot_records db.slots)) }
+    ensures refused { (texts : Texts) → IsStatusText texts status.now → IfErr result (λ refused. IsRefusalBefore texts refused) }
     ensures known { IfErr result (λ refused. refused.fault ≢ fault.Read) }
 {
-    match database_in(alloc, text, settings.arch) {
+    match database_in(alloc, status.text.as_slice(), status.arch.as_slice()) {
         Ok(database) => Ok(database),
         Err(fault) => Err(refused_at(Input::Status, fault)),
     }
