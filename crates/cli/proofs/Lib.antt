@@ -1,3 +1,2 @@
-pub mod StopLemmas
-pub mod KeptLemmas
-pub mod WholeLemmas
+mod SaidLemmas
+mod ShelfLemmas

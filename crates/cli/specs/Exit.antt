@@ -2,8 +2,8 @@
 use Rattle.std.specs.Prelude.{ℕ, Bool, Option, Some, None, if◌then◌else◌}
 use Rattle.cli.specs.declared.exit.Exit.{Exit}
 use Rattle.cli.specs.declared.exit.Exit.TheVariants as exit
-use Rattle.cli_engine.specs.declared.refusal.Fault.{Fault}
-use Rattle.cli_engine.specs.declared.refusal.Fault.TheVariants as fault
+use Rattle.inputs.specs.declared.refusal.Fault.{Fault}
+use Rattle.inputs.specs.declared.refusal.Fault.TheVariants as fault
 use Rattle.refutecheck.specs.declared.verdict.Verdict.{Verdict as Refuted}
 use Rattle.refutecheck.specs.declared.verdict.Verdict.TheVariants as refuted
 use Rattle.rules.specs.declared.step.Verdict.{Verdict}
@@ -61,3 +61,4 @@ exit_of_fault (fault.UnknownName line) = exit.Refused
 exit_of_fault (fault.Plan refused) = exit.Refused
 exit_of_fault (fault.Refutation refused) = exit.Refused
 exit_of_fault fault.TooLarge = exit.Refused
+exit_of_fault fault.Changed = exit.Refused

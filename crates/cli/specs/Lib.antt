@@ -1,8 +1,5 @@
 pub mod Answer
+pub mod Calls
 pub mod Exit
 pub mod Files
-pub mod Inputs
 pub mod Outcome
-pub mod Stop
-pub mod Whole
-pub mod Kept

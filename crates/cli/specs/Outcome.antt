@@ -7,7 +7,7 @@ use Rattle.cli.specs.Exit.{code_of, exit_of_candidate, exit_of_comparison, exit_
 use Rattle.cli.specs.declared.exit.Exit.TheVariants as exit
 use Rattle.cli.specs.declared.outcome.Outcome.{Outcome}
 use Rattle.cli.specs.declared.outcome.Outcome.TheVariants as outcome
-use Rattle.cli_engine.specs.declared.refusal.Refusal.{Refusal}
+use Rattle.inputs.specs.declared.refusal.Refusal.{Refusal}
 use Rattle.refutecheck.specs.declared.verdict.Verdict.{Verdict as Refuted}
 use Rattle.rules.specs.declared.step.Verdict.{Verdict}
 use Rattle.solver.specs.declared.solved.Solved.{Solved}

@@ -5,8 +5,7 @@ ghost use Rattle.std.specs.Fmt.{signed_decimal};
 ghost use Rattle.std.specs.Option.{option_copied};
 ghost use Rattle.cli.specs.Answer as Spec;
 
-use crate::candidate::Candidate;
-use cli_engine::{RefutationVerdict, Solved, Undecided};
+use cli_engine::{Candidate, RefutationVerdict, Solved, Undecided};
 use plantext::write_plan;
 use refutation_text::write_refutation;
 use rules::{Reason, Rule, Text, Verdict};

@@ -1,56 +1,19 @@
 // The words of the command line as a value.
 
 use crate::declare::program;
+use crate::files::Paths;
 use clap::error::ErrorKind;
 use clap::{ArgMatches, Error};
-use cli_engine::Comparison;
+use cli_engine::{Comparison, Settings};
 use std::alloc::{AllocError, Global};
 
-/// Where packages come from, and what is preferred among them: the architecture that packages are for, the paths of the
-/// files, and the target release.
+/// What an answer is given by: for which architecture texts are read, which release is preferred, and where the files are.
 #[derive(Clone, Copy)]
-pub struct Options<'a> {
-    /// The architecture.
-    pub arch: &'a str,
-    /// The path of the status file.
-    pub status: &'a str,
-    /// The path of the sources.
-    pub sources: &'a str,
-    /// The path of the preferences, if there are any.
-    pub preferences: Option<&'a str>,
-    /// The target release, if there is one.
-    pub target: Option<&'a str>,
-}
-
-/// What a plan or a refutation is to be judged by.
-#[derive(Clone, Copy)]
-pub struct Arguments<'a> {
-    /// Where packages come from.
-    pub options: Options<'a>,
-    /// The path of the request.
-    pub request: &'a str,
-    /// The path of the plan, or of the refutation.
-    pub judged: &'a str,
-}
-
-/// What a request is to be solved by.
-#[derive(Clone, Copy)]
-pub struct RequestArguments<'a> {
-    /// Where packages come from.
-    pub options: Options<'a>,
-    /// The path of the request.
-    pub request: &'a str,
-    /// After how many conflicts the search gives up.
-    pub limit: u32,
-}
-
-/// Of which name the candidate is asked for.
-#[derive(Clone, Copy)]
-pub struct Query<'a> {
-    /// Where packages come from.
-    pub options: Options<'a>,
-    /// The name, which need not be that of a package.
-    pub name: &'a str,
+pub(crate) struct Arguments<'a> {
+    /// The architecture, and the target release.
+    pub(crate) settings: Settings<'a>,
+    /// The paths of the files.
+    pub(crate) paths: Paths<'a>,
 }
 
 /// What two versions are to be compared as.
@@ -69,10 +32,10 @@ pub(crate) struct CompareArguments<'a> {
 pub(crate) enum Call<'a> {
     /// To compare two versions.
     Compare(CompareArguments<'a>),
-    /// To name the candidate of a name.
-    Candidate(Query<'a>),
-    /// To solve a request.
-    Solve(RequestArguments<'a>),
+    /// To name the candidate of this name, which need not be that of a package.
+    Candidate(Arguments<'a>, &'a str),
+    /// To solve a request, with at most so many conflicts of the search.
+    Solve(Arguments<'a>, u32),
     /// To judge a plan.
     CheckPlan(Arguments<'a>),
     /// To judge a refutation.
@@ -99,7 +62,7 @@ pub(crate) fn call_of<'a>(alloc: Global, words: &'a [&'a str]) -> Result<Call<'a
     };
     let call = match command {
         "compare" => comparison_in(values),
-        "candidate" => query_in(values),
+        "candidate" => candidate_in(values),
         "solve" => request_in(values),
         "check-refutation" => refutation_in(values),
         _ => plan_in(values),
@@ -130,21 +93,29 @@ fn relation_of(word: &str) -> Option<Comparison> {
     }
 }
 
-fn options_in<'a>(values: &ArgMatches<'a>) -> Option<Options<'a>> {
-    Some(Options {
-        arch: values.get_str("arch")?,
+// What an answer is given by, with the paths of the request and of what is judged, which are empty where none is read.
+fn arguments_in<'a>(
+    values: &ArgMatches<'a>,
+    request: &'a str,
+    judged: &'a str,
+) -> Option<Arguments<'a>> {
+    let settings = Settings {
+        arch: values.get_str("arch")?.as_bytes(),
+        target: values.get_str("target").map(|word| word.as_bytes()),
+    };
+    let paths = Paths {
         status: values.get_str("status")?,
         sources: values.get_str("sources")?,
         preferences: values.get_str("preferences"),
-        target: values.get_str("target"),
-    })
+        request,
+        judged,
+    };
+    Some(Arguments { settings, paths })
 }
 
-fn query_in<'a>(values: &ArgMatches<'a>) -> Option<Call<'a>> {
-    Some(Call::Candidate(Query {
-        options: options_in(values)?,
-        name: values.get_str("name")?,
-    }))
+fn candidate_in<'a>(values: &ArgMatches<'a>) -> Option<Call<'a>> {
+    let name = values.get_str("name")?;
+    Some(Call::Candidate(arguments_in(values, "", "")?, name))
 }
 
 /// After how many conflicts a search gives up where nothing else is said.
@@ -153,33 +124,36 @@ const DEFAULT_LIMIT: u32 = 100_000;
 fn limit_of(word: Option<&str>) -> Option<u32> {
     match word {
         None => Some(DEFAULT_LIMIT),
-        Some(word) => word.parse::<u32>().ok(),
+        Some(word) if is_number(word.as_bytes()) => word.parse::<u32>().ok(),
+        Some(_) => None,
+    }
+}
+
+// Whether these are the digits of a number, as in each text: without a sign, and with no zero before others.
+fn is_number(word: &[u8]) -> bool {
+    match word {
+        [b'0'] => true,
+        [b'1'..=b'9', rest @ ..] => rest.iter().all(|byte| byte.is_ascii_digit()),
+        _ => false,
     }
 }
 
 fn request_in<'a>(values: &ArgMatches<'a>) -> Option<Call<'a>> {
-    Some(Call::Solve(RequestArguments {
-        options: options_in(values)?,
-        request: values.get_str("request")?,
-        limit: limit_of(values.get_str("limit"))?,
-    }))
+    let arguments = arguments_in(values, values.get_str("request")?, "")?;
+    Some(Call::Solve(arguments, limit_of(values.get_str("limit"))?))
 }
 
 fn plan_in<'a>(values: &ArgMatches<'a>) -> Option<Call<'a>> {
-    Some(Call::CheckPlan(arguments_in(values, "plan")?))
+    Some(Call::CheckPlan(judged_in(values, "plan")?))
 }
 
 fn refutation_in<'a>(values: &ArgMatches<'a>) -> Option<Call<'a>> {
-    Some(Call::CheckRefutation(arguments_in(values, "refutation")?))
+    Some(Call::CheckRefutation(judged_in(values, "refutation")?))
 }
 
 // What a text is to be judged by whose path is the value of this name.
-fn arguments_in<'a>(values: &ArgMatches<'a>, name: &str) -> Option<Arguments<'a>> {
-    Some(Arguments {
-        options: options_in(values)?,
-        request: values.get_str("request")?,
-        judged: values.get_str(name)?,
-    })
+fn judged_in<'a>(values: &ArgMatches<'a>, name: &str) -> Option<Arguments<'a>> {
+    arguments_in(values, values.get_str("request")?, values.get_str(name)?)
 }
 
 /// What is to be said of words that are wrong as this text says.

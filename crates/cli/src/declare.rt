@@ -7,7 +7,7 @@ use std::alloc::{AllocError, Global};
 const VERSION: &str = "0.1.0";
 
 /// The version of the program, and the toolchain that proves it (`rt version`).
-const VERSION_AND_TOOLCHAIN: &str = "0.1.0\ntoolchain: rattle-kit-13b logic dac8208d650f15bf";
+const VERSION_AND_TOOLCHAIN: &str = "0.1.0\ntoolchain: rattle-kit-13f logic dac8208d650f15bf";
 
 /// Of which versions an answer speaks, and what each exit status means, as it stands below each help.
 const ANSWERS: &str =
@@ -139,8 +139,11 @@ fn with_options<'a>(alloc: Global, command: Command<'a>) -> Result<Command<'a>, 
         )
 }
 
+// The word behind an option is its value, whatever it begins with, as in getopt_long(3).
 fn option<'a>(alloc: Global, name: &'a str, value: &'a str) -> Arg<'a> {
-    word(alloc, name, value).long(name)
+    word(alloc, name, value)
+        .long(name)
+        .allow_hyphen_values(true)
 }
 
 // A word that is required, and stands behind its option where it has one.

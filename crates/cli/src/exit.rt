@@ -3,8 +3,7 @@ ghost use Rattle.std.specs.Prelude.{◌≡◌};
 ghost use Rattle.std.specs.Option.{option_copied};
 ghost use Rattle.cli.specs.Exit as Spec;
 
-use crate::candidate::Candidate;
-use cli_engine::{Fault, Refusal, RefutationVerdict, Solved};
+use cli_engine::{Candidate, Fault, Refusal, RefutationVerdict, Solved};
 use rules::Verdict;
 
 /// How the program ends.

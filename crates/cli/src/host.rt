@@ -1,20 +1,13 @@
 // What the program asks of the machine that it runs on.
-ghost use Rattle.std.specs.Prelude.{◌≡◌, ℕ, IfErr, IfOk, List, None, Option, Some};
+ghost use Rattle.std.specs.Prelude.{◌≡◌, ◌+◌, ◌-◌, ◌^◌, ℕ, IfErr, IfOk, List, None, Option, Some, min};
 ghost use Rattle.cli.specs.Files.{Files};
+ghost use Rattle.inputs.specs.Counting.{Counts};
 
-use kept_index::Source;
+use inputs::{ReadError, Source};
 use std::alloc::Global;
 
-/// Why a file wasn't read.
-#[derive(Clone, Copy, Debug, PartialEq, Eq)]
-pub enum ReadError {
-    /// There is no file at the path, or it can't be read.
-    Unreadable,
-    /// A growth was refused.
-    OutOfMemory,
-}
-
-/// Where files are read.
+/// Where files are read. A path is bytes: one that the machine can't open, as one that is no UTF-8 where paths have to be, is
+/// unreadable.
 pub trait Host {
     /// The text of a file that was opened, to be read from its beginning.
     type Text: Source + Drop;
@@ -22,19 +15,58 @@ pub trait Host {
     // The files, where they are known.
     ghost files: { Self → Option Files } = { λ _. None };
 
-    /// All bytes of the file at the path. A path is bytes: one that the machine can't open, as one that is no
-    /// UTF-8 where paths have to be, is unreadable.
+    // How many files couldn't be read.
+    ghost faults: { Self → ℕ };
+
+    /// How many files couldn't be read, up to what 64 bits hold.
+    fn failures(&self) -> u64
+        ensures { result ≡ faults self.now };
+
+    /// All bytes of the file at the path. Of one that is longer than a text may be it need be no more than shows that.
     fn read(&mut self, alloc: Global, path: &[u8]) -> Result<Vec<u8>, ReadError>
         ensures found { (at : Files) → files self.old ≡ Some at → IfOk result (λ text. at path.now ≡ Some text.items) }
-        ensures unreadable { (at : Files) → files self.old ≡ Some at
+        ensures missing { (at : Files) → files self.old ≡ Some at
             → IfErr result (λ e. e ≡ ReadError.Unreadable → at path.now ≡ None) }
-        ensures unchanged { files self.new ≡ files self.old };
+        ensures same { files self.new ≡ files self.old }
+        ensures count { Counts result (faults self.old) (faults self.new) };
 
     /// Opens the file at the path, whose text is the one that `read` would give.
     fn open(&mut self, alloc: Global, path: &[u8]) -> Result<Self::Text, ReadError>
         ensures found { (at : Files) → files self.old ≡ Some at → IfOk result (λ text.
             (bytes : List ℕ) × (at path.now ≡ Some bytes) × (Self.Text.left text ≡ Some bytes)) }
-        ensures unreadable { (at : Files) → files self.old ≡ Some at
+        ensures missing { (at : Files) → files self.old ≡ Some at
             → IfErr result (λ e. e ≡ ReadError.Unreadable → at path.now ≡ None) }
-        ensures unchanged { files self.new ≡ files self.old };
+        ensures fresh { IfOk result (λ text. Self.Text.faults text ≡ 0) }
+        ensures same { files self.new ≡ files self.old }
+        ensures count { Counts result (faults self.old) (faults self.new) };
+
+    /// Gives back a text: what couldn't be read of it is counted.
+    fn close(&mut self, text: Self::Text)
+        ensures same { files self.new ≡ files self.old }
+        ensures count { faults self.new ≡ min (faults self.old + Self.Text.faults text) (2 ^ 64 - 1) };
+}
+
+/// A host that is lent.
+impl<H: Host> Host for &mut H {
+    type Text = H::Text;
+
+    ghost files = { λ host. H.files host.now };
+
+    ghost faults = { λ host. H.faults host.now };
+
+    fn failures(&self) -> u64 {
+        Host::failures(&**self)
+    }
+
+    fn read(&mut self, alloc: Global, path: &[u8]) -> Result<Vec<u8>, ReadError> {
+        Host::read(&mut **self, alloc, path)
+    }
+
+    fn open(&mut self, alloc: Global, path: &[u8]) -> Result<H::Text, ReadError> {
+        Host::open(&mut **self, alloc, path)
+    }
+
+    fn close(&mut self, text: H::Text) {
+        Host::close(&mut **self, text)
+    }
 }

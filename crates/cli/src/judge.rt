@@ -1,97 +1,50 @@
-// Judging the plan or the refutation of a command line over a host.
-ghost use Rattle.std.specs.Prelude.{◌≡◌, IfOk, List, Some, map, ℕ};
-ghost use Rattle.cli.specs.Files.{AreTextsOf, Files};
-ghost use Rattle.cli.specs.Inputs.{texts_with};
-ghost use Rattle.cli_engine.specs.Answer.{HasItsIndices, IsAnswer};
-ghost use Rattle.cli_engine.specs.Refuted.{IsRefutationAnswer};
-ghost use Rattle.cli_engine.specs.Texts.{Texts as TextsOf, sources_of};
+// Judging a plan or a refutation by the files of a host.
+ghost use Rattle.std.specs.Prelude.{◌≡◌, IfErr, IfOk, Some};
+ghost use Rattle.cli.specs.Files.{Files, shelved_at};
+ghost use Rattle.cli_engine.specs.Answer.{IsAnswer, IsFirstRefusal};
+ghost use Rattle.cli_engine.specs.Refuted.{AreRefuted, IsFirstRefutationRefusal, IsRefutationAnswer};
+ghost use Rattle.inputs.specs.Counting.{CountsRead};
+ghost use Rattle.inputs.specs.Texts.{texts_of};
+ghost use Rattle.refutecheck.specs.declared.verdict.Verdict.TheVariants as verdict;
 
-use crate::arguments::Arguments;
+use crate::files::HostShelf;
 use crate::host::Host;
-use crate::inputs::{inputs_of, slices_of, unless_unread};
-use crate::read::{Judged, JudgedTexts, read_judged_texts};
-use crate::whole::with_line;
-use cli_engine::{Refusal, RefutationVerdict, check_plan_bytes, check_refutation_bytes};
+use cli_engine::{Refusal, RefutationVerdict, Settings, check_plan_from, check_refutation_from};
 use rules::Verdict;
 use std::alloc::Global;
 
-/// Judges the plan by the files of a host. They are read in the order status, sources, indices, preferences, request and
-/// plan, and of all refusals the first in that order is answered: a file that can't be read is refused (E5) at its place.
-/// A verdict is answered only where all of them were read. Of the indices no more is held than what is kept of them; where
-/// one is refused they are read once more, whole. Costs what reading them and `check_plan_bytes` cost.
+/// Judges the plan by the files of a host. They are opened in the order status, sources, indices, preferences, request and
+/// plan, each once and at its turn, and none behind the first refusal, which is answered: a file that can't be read is
+/// refused (E5) at its place. Of the indices no more is held than what is kept of them. Costs what `check_plan_from` costs.
 pub fn check_plan<H: Host>(
     alloc: Global,
-    host: &mut H,
-    arguments: &Arguments<'_>,
+    shelf: &mut HostShelf<'_, H>,
+    settings: &Settings<'_>,
 ) -> Result<Verdict, Refusal>
-    ensures answer { (at : Files) → H.files host.old ≡ Some at → IfOk result (λ verdict.
-        (texts : TextsOf) × (plan : List ℕ) × AreTextsOf at arguments.now texts plan × IsAnswer texts plan verdict) }
+    ensures answer { (at : Files) → H.files shelf.old.host ≡ Some at → IfOk result (λ verdict.
+        IsAnswer (texts_of settings.now (shelved_at at shelf.old.paths)) (at shelf.old.paths.judged.now) verdict) }
+    ensures refused { (at : Files) → H.files shelf.old.host ≡ Some at → IfErr result (λ refused.
+        IsFirstRefusal (texts_of settings.now (shelved_at at shelf.old.paths)) (at shelf.old.paths.judged.now) refused) }
+    ensures count { CountsRead result (H.faults shelf.old.host) (H.faults shelf.new.host) }
 {
-    let mut stopped_at = None;
-    let mut read = read_judged_texts(alloc, host, &mut stopped_at, arguments, Judged::Plan)?;
-    match unless_unread(plan_verdict(alloc, arguments, &read), stopped_at) {
-        Ok(verdict) => Ok(verdict),
-        Err(refused) => Err(with_line(alloc, host, &arguments.options, &mut read.texts, refused)),
-    }
+    check_plan_from(alloc, shelf, settings)
 }
 
-// What is answered of the plan by these texts.
-fn plan_verdict<'t, 'a: 't>(
-    alloc: Global,
-    arguments: &Arguments<'a>,
-    read: &'t JudgedTexts,
-) -> Result<Verdict, Refusal>
-    requires { HasItsIndices (sources_of read.now.texts.sources.items) (map (λ text. text.items) read.now.texts.indices.items) }
-    ensures { IfOk result (λ verdict.
-        IsAnswer (texts_with arguments.now.options read.now.texts read.now.request.items) read.now.judged.items verdict) }
-{
-    let slices = slices_of(alloc, read.texts.indices.as_slice())?;
-    let inputs = inputs_of(
-        &arguments.options,
-        &read.texts,
-        slices.as_slice(),
-        read.request.as_slice(),
-    );
-    check_plan_bytes(alloc, &inputs, read.judged.as_slice())
-}
-
-/// Judges the refutation by the files of a host, which are read and refused as `check_plan` says, with the refutation in the
-/// place of the plan. A verdict is answered only where all of them were read; a yes means that no set of admitted pairs is
-/// acceptable. Costs what reading the files and `check_refutation_bytes` cost.
+/// Judges the refutation by the files of a host, which are opened and refused as `check_plan` says, with the refutation in
+/// the place of the plan. Costs what `check_refutation_from` costs.
 pub fn check_refutation<H: Host>(
     alloc: Global,
-    host: &mut H,
-    arguments: &Arguments<'_>,
+    shelf: &mut HostShelf<'_, H>,
+    settings: &Settings<'_>,
 ) -> Result<RefutationVerdict, Refusal>
-    ensures answer { (at : Files) → H.files host.old ≡ Some at → IfOk result (λ verdict.
-        (texts : TextsOf) × (refutation : List ℕ) × AreTextsOf at arguments.now texts refutation
-        × IsRefutationAnswer texts refutation verdict) }
+    ensures answer { (at : Files) → H.files shelf.old.host ≡ Some at → IfOk result (λ found. IsRefutationAnswer
+        (texts_of settings.now (shelved_at at shelf.old.paths)) (at shelf.old.paths.judged.now) found) }
+    // where it is yes, no set of admitted pairs is acceptable
+    ensures refuted { (at : Files) → H.files shelf.old.host ≡ Some at → IfOk result (λ found.
+        found ≡ verdict.Yes → AreRefuted (texts_of settings.now (shelved_at at shelf.old.paths))) }
+    ensures refused { (at : Files) → H.files shelf.old.host ≡ Some at → IfErr result (λ refused. IsFirstRefutationRefusal
+        (texts_of settings.now (shelved_at at shelf.old.paths)) (at shelf.old.paths.judged.now) refused) }
+    ensures count { CountsRead result (H.faults shelf.old.host) (H.faults shelf.new.host) }
 {
-    let mut stopped_at = None;
-    let judged = Judged::Refutation;
-    let mut read = read_judged_texts(alloc, host, &mut stopped_at, arguments, judged)?;
-    match unless_unread(refutation_verdict(alloc, arguments, &read), stopped_at) {
-        Ok(verdict) => Ok(verdict),
-        Err(refused) => Err(with_line(alloc, host, &arguments.options, &mut read.texts, refused)),
-    }
-}
-
-// What is answered of the refutation by these texts.
-fn refutation_verdict<'t, 'a: 't>(
-    alloc: Global,
-    arguments: &Arguments<'a>,
-    read: &'t JudgedTexts,
-) -> Result<RefutationVerdict, Refusal>
-    requires { HasItsIndices (sources_of read.now.texts.sources.items) (map (λ text. text.items) read.now.texts.indices.items) }
-    ensures { IfOk result (λ verdict. IsRefutationAnswer
-        (texts_with arguments.now.options read.now.texts read.now.request.items) read.now.judged.items verdict) }
-{
-    let slices = slices_of(alloc, read.texts.indices.as_slice())?;
-    let inputs = inputs_of(
-        &arguments.options,
-        &read.texts,
-        slices.as_slice(),
-        read.request.as_slice(),
-    );
-    check_refutation_bytes(alloc, &inputs, read.judged.as_slice())
+    check_refutation_from(alloc, shelf, settings)
 }

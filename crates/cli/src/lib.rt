@@ -4,35 +4,30 @@
 
 mod answer;
 mod arguments;
-mod candidate;
 mod declare;
 mod exit;
+mod files;
 mod find;
 mod host;
-mod inputs;
 mod judge;
 mod outcome;
 mod print;
 mod program;
-mod read;
 mod solve;
-mod whole;
 
 pub use answer::{candidate_line, comparison_line, refutation_line, solved_text, verdict_line};
-pub use arguments::{Arguments, Options, Query, RequestArguments};
-pub use candidate::Candidate;
 pub use cli_engine::{
-    Comparison, Fault, Input, Inputs, Offer, Refusal, RefutationVerdict, Solved, Undecided,
-    candidate_bytes, check_plan_bytes, check_refutation_bytes, compare, solve_bytes,
+    Candidate, Comparison, Fault, Input, Refusal, RefutationVerdict, Settings, Solved, Undecided,
 };
 pub use exit::{
     Exit, exit_of_candidate, exit_of_comparison, exit_of_refusal, exit_of_refutation,
     exit_of_solved, exit_of_verdict,
 };
+pub use files::{HostShelf, Paths};
 pub use find::find_candidate;
-pub use host::{Host, ReadError};
+pub use host::Host;
+pub use inputs::{ReadError, ReadFailed, Source};
 pub use judge::{check_plan, check_refutation};
-pub use kept_index::{ReadFailed, Source};
 pub use outcome::{
     Outcome, outcome_of_answer, outcome_of_candidate, outcome_of_comparison, outcome_of_refutation,
     outcome_of_solved,

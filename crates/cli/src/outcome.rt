@@ -3,7 +3,6 @@ ghost use Rattle.std.specs.Prelude.{◌≡◌, IfOk};
 ghost use Rattle.cli.specs.Outcome.{IsComplaint, IsOutcomeOf, IsOutcomeOfCandidate, IsOutcomeOfComparison, IsOutcomeOfRefusal, IsOutcomeOfRefutation, IsOutcomeOfSolved};
 
 use crate::answer::{candidate_line, comparison_line, refutation_line, solved_text, verdict_line};
-use crate::candidate::Candidate;
 use crate::declare::COMMANDS;
 use crate::exit::{
     Exit, exit_of_candidate, exit_of_comparison, exit_of_refusal, exit_of_refutation,
@@ -11,7 +10,7 @@ use crate::exit::{
 };
 use clap::Error;
 use clap::error::ErrorKind;
-use cli_engine::{Refusal, RefutationVerdict, Solved};
+use cli_engine::{Candidate, Refusal, RefutationVerdict, Solved};
 use rules::{Items, Verdict};
 use std::alloc::{AllocError, Global};
 

@@ -1,10 +1,13 @@
 // The whole program over a host.
-ghost use Rattle.std.specs.Prelude.{◌≡◌};
+ghost use Rattle.std.specs.Prelude.{◌≡◌, IfOk, Some};
+ghost use Rattle.cli.specs.Calls.{IsOutcomeOfCall, IsOutcomeOfLines, IsOutcomeOfName, IsOutcomeOfPlan, IsOutcomeOfRequest, IsOutcomeOfVersions, IsSaidOfVersions};
+ghost use Rattle.cli.specs.Files.{Files};
 ghost use Rattle.cli.specs.Outcome.{IsWritten};
 ghost use Rattle.cli.specs.declared.outcome.Outcome.{Outcome as Found};
 
-use crate::arguments::{Call, CompareArguments, call_of, mistake, texts_of};
+use crate::arguments::{Arguments, Call, CompareArguments, call_of, mistake, texts_of};
 use crate::exit::Exit;
+use crate::files::HostShelf;
 use crate::find::find_candidate;
 use crate::host::Host;
 use crate::judge::{check_plan, check_refutation};
@@ -19,8 +22,7 @@ use std::alloc::{AllocError, Global};
 use std::io::Write;
 
 /// Runs the program on the words of its command line, of which the first is its own name, and gives its exit status.
-/// It reads each file from its beginning to its end, once, and the indices once more where one is refused. It writes nothing
-/// but its answer or one refusal.
+/// It opens each file once, at its turn, and none behind a refusal. It writes nothing but its answer or one refusal.
 pub fn run<H: Host, W: Write, E: Write>(
     alloc: Global,
     words: &[Vec<u8>],
@@ -63,28 +65,92 @@ fn outcome_of_call<H: Host>(
     alloc: Global,
     call: &Call<'_>,
     host: &mut H,
-) -> Result<Outcome, AllocError> {
+) -> Result<Outcome, AllocError>
+    ensures { (at : Files) → H.files host.old ≡ Some at → IfOk result (λ outcome. IsOutcomeOfCall at call.now outcome) }
+{
     match call {
-        Call::Compare(comparison) => {
-            outcome_of_comparison(alloc, &answer_of_comparison(comparison))
+        Call::Compare(arguments) => outcome_of_versions(alloc, arguments),
+        Call::Candidate(arguments, name) => {
+            outcome_of_name(alloc, host, arguments, name.as_bytes())
         }
-        Call::Candidate(query) => {
-            let answer = find_candidate(alloc, host, query);
-            outcome_of_candidate(alloc, query.name.as_bytes(), &answer)
-        }
-        Call::Solve(arguments) => {
-            outcome_of_solved(alloc, &solve_request(alloc, host, arguments))
-        }
-        Call::CheckPlan(arguments) => {
-            outcome_of_answer(alloc, &check_plan(alloc, host, arguments))
-        }
-        Call::CheckRefutation(arguments) => {
-            outcome_of_refutation(alloc, &check_refutation(alloc, host, arguments))
-        }
+        Call::Solve(arguments, limit) => outcome_of_request(alloc, host, arguments, *limit),
+        Call::CheckPlan(arguments) => outcome_of_plan(alloc, host, arguments),
+        Call::CheckRefutation(arguments) => outcome_of_lines(alloc, host, arguments),
     }
 }
 
-fn answer_of_comparison(comparison: &CompareArguments<'_>) -> Result<bool, Refusal> {
+// What is printed of the candidate of this name.
+fn outcome_of_name<H: Host>(
+    alloc: Global,
+    host: &mut H,
+    arguments: &Arguments<'_>,
+    name: &[u8],
+) -> Result<Outcome, AllocError>
+    ensures { (at : Files) → H.files host.old ≡ Some at → IfOk result (λ outcome. IsOutcomeOfName at arguments.now name.now outcome) }
+{
+    let Arguments { settings, paths } = *arguments;
+    let mut shelf = HostShelf { host, paths };
+    let answer = find_candidate(alloc, &mut shelf, &settings, name);
+    outcome_of_candidate(alloc, name, &answer)
+}
+
+// What is printed of the answer to the request.
+fn outcome_of_request<H: Host>(
+    alloc: Global,
+    host: &mut H,
+    arguments: &Arguments<'_>,
+    limit: u32,
+) -> Result<Outcome, AllocError>
+    ensures { (at : Files) → H.files host.old ≡ Some at → IfOk result (λ outcome. IsOutcomeOfRequest at arguments.now limit outcome) }
+{
+    let Arguments { settings, paths } = *arguments;
+    let mut shelf = HostShelf { host, paths };
+    let answer = solve_request(alloc, &mut shelf, &settings, limit);
+    outcome_of_solved(alloc, &answer)
+}
+
+// What is printed of the answer to the plan.
+fn outcome_of_plan<H: Host>(
+    alloc: Global,
+    host: &mut H,
+    arguments: &Arguments<'_>,
+) -> Result<Outcome, AllocError>
+    ensures { (at : Files) → H.files host.old ≡ Some at → IfOk result (λ outcome. IsOutcomeOfPlan at arguments.now outcome) }
+{
+    let Arguments { settings, paths } = *arguments;
+    let mut shelf = HostShelf { host, paths };
+    let answer = check_plan(alloc, &mut shelf, &settings);
+    outcome_of_answer(alloc, &answer)
+}
+
+// What is printed of the answer to the lines of the refutation.
+fn outcome_of_lines<H: Host>(
+    alloc: Global,
+    host: &mut H,
+    arguments: &Arguments<'_>,
+) -> Result<Outcome, AllocError>
+    ensures { (at : Files) → H.files host.old ≡ Some at → IfOk result (λ outcome. IsOutcomeOfLines at arguments.now outcome) }
+{
+    let Arguments { settings, paths } = *arguments;
+    let mut shelf = HostShelf { host, paths };
+    let answer = check_refutation(alloc, &mut shelf, &settings);
+    outcome_of_refutation(alloc, &answer)
+}
+
+// What is printed of the answer to the comparison.
+fn outcome_of_versions(
+    alloc: Global,
+    arguments: &CompareArguments<'_>,
+) -> Result<Outcome, AllocError>
+    ensures { IfOk result (λ outcome. IsOutcomeOfVersions arguments.now outcome) }
+{
+    let answer = answer_of_comparison(arguments);
+    outcome_of_comparison(alloc, &answer)
+}
+
+fn answer_of_comparison(comparison: &CompareArguments<'_>) -> Result<bool, Refusal>
+    ensures { IsSaidOfVersions comparison.now result }
+{
     let CompareArguments {
         version,
         relation,

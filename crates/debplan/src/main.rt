@@ -2,6 +2,8 @@
 #![tactic(auto)]
 
 ghost use Rattle.std.specs.Prelude.{◌≡◌, ◌≤◌, IfOk, length};
+ghost use Rattle.inputs.specs.Counting.{one_more};
+ghost use Rattle.inputs.specs.declared.shelf.ReadError.TheVariants as ReadError;
 
 use cli::{Host, ReadError, ReadFailed, Source, refuse_for_memory, run};
 use rules::TEXT_BYTES;
@@ -51,34 +53,60 @@ fn read_file(file: &mut File, block: &mut [u8]) -> Result<usize, ReadFailed>
     Err(ReadFailed)
 }
 
-/// The files of the machine.
+/// The files of the machine, and how many couldn't be read.
 #[derive(Drop)]
 struct Disk<'a> {
     rt: &'a HostRuntime,
+    failures: u64,
+}
+
+impl Disk<'_> {
+    // Counts a file that can't be read.
+    fn unreadable(&mut self) -> ReadError
+        ensures error { result ≡ ReadError.Unreadable }
+        ensures count { self.new.failures ≡ one_more self.old.failures }
+    {
+        self.failures = self.failures.saturating_add(1);
+        ReadError::Unreadable
+    }
 }
 
 impl Host for Disk<'_> {
     type Text = Opened;
 
+    ghost faults = { λ disk. disk.failures };
+
+    fn failures(&self) -> u64 {
+        self.failures
+    }
+
     fn read(&mut self, alloc: Global, path: &[u8]) -> Result<Vec<u8>, ReadError> {
-        let mut text = Vec::new(alloc);
         let mut file = self.open(alloc, path)?;
-        match read_into(alloc, &mut text, &mut file) {
-            Ok(Ok(())) => Ok(text),
-            Ok(Err(ReadFailed)) => Err(ReadError::Unreadable),
+        match read_whole(alloc, &mut file) {
+            Ok(Ok(text)) => Ok(text),
+            Ok(Err(ReadFailed)) => Err(self.unreadable()),
             Err(AllocError) => Err(ReadError::OutOfMemory),
         }
     }
 
     fn open(&mut self, _alloc: Global, path: &[u8]) -> Result<Opened, ReadError> {
-        let Ok(path) = str::from_utf8(path) else {
-            return Err(ReadError::Unreadable);
-        };
-        match File::open(self.rt, path) {
+        match open_file(self.rt, path) {
             Ok(file) => Ok(Opened { file, failures: 0 }),
-            Err(error) if error.kind() == ErrorKind::OutOfMemory => Err(ReadError::OutOfMemory),
-            Err(_) => Err(ReadError::Unreadable),
+            Err(ErrorKind::OutOfMemory) => Err(ReadError::OutOfMemory),
+            Err(_) => Err(self.unreadable()),
         }
+    }
+
+    fn close(&mut self, text: Opened) {
+        self.failures = self.failures.saturating_add(text.failures());
+    }
+}
+
+// Opens the file at the path, which has to be UTF-8.
+fn open_file(rt: &HostRuntime, path: &[u8]) -> Result<File, ErrorKind> {
+    match str::from_utf8(path) {
+        Ok(path) => File::open(rt, path).map_err(|error| error.kind()),
+        Err(_) => Err(ErrorKind::InvalidInput),
     }
 }
 
@@ -87,11 +115,8 @@ const BLOCK: usize = 262_144;
 
 // Reads the file to its end, or until it is longer than a text may be: what is longer is refused for that alone, so no
 // more of it is asked for, be there an end or not.
-fn read_into(
-    alloc: Global,
-    text: &mut Vec<u8>,
-    file: &mut Opened,
-) -> Result<Result<(), ReadFailed>, AllocError> {
+fn read_whole(alloc: Global, file: &mut Opened) -> Result<Result<Vec<u8>, ReadFailed>, AllocError> {
+    let mut text = Vec::new(alloc);
     let mut block = Vec::new(alloc);
     block.resize(BLOCK, 0u8)?;
     for _ in 0..usize::MAX {
@@ -99,13 +124,13 @@ fn read_into(
             return Ok(Err(ReadFailed));
         };
         let front = block.as_slice().get(..count).unwrap_or_default();
-        make_room(text, front.len())?;
+        make_room(&mut text, front.len())?;
         text.extend_from_slice(front)?;
         if front.is_empty() || text.len() > TEXT_BYTES {
             break;
         }
     }
-    Ok(Ok(()))
+    Ok(Ok(text))
 }
 
 // Makes room for so many more bytes: it is doubled, and where that comes near to what a text may have, so much is taken
@@ -125,7 +150,10 @@ fn main(rt: HostRuntime) -> ExitCode {
     let mut err = rt.stderr();
     let status = match words_of(&rt) {
         Ok(words) => {
-            let mut disk = Disk { rt: &rt };
+            let mut disk = Disk {
+                rt: &rt,
+                failures: 0,
+            };
             run(rt.alloc(), words.as_slice(), &mut disk, &mut out, &mut err)
         }
         Err(AllocError) => refuse_for_memory(&mut err),

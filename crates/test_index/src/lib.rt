@@ -1,7 +1,6 @@
-//! What an index and a sources text are read as, what is kept and fetched of an index, and who provides
-//! a name, row by row. This crate
-//! has tests alone, so that `index`, `kept_index` and `fetch` aren't proved once more with each of them. Lines
-//! and offsets were counted in the row's text.
+//! What an index and a sources text are read as, what is kept and fetched of an index, and who provides a name, row by row.
+//! This crate has tests alone, so that `index` and `fetch` aren't proved once more with each of them. Lines and offsets were
+//! counted in the row's text.
 #![tactic(auto)]
 
 #[cfg(test)]
@@ -10,8 +9,6 @@ mod alone;
 mod devices;
 #[cfg(test)]
 mod fetching;
-#[cfg(test)]
-mod keeping;
 #[cfg(test)]
 mod packages;
 #[cfg(test)]

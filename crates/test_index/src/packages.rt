@@ -1,5 +1,5 @@
 //! Packages files, by rows worked by hand, for the architecture amd64.
-use crate::devices::Broken;
+use crate::devices::{Broken, Few};
 use crate::texts::{is_printed, write_part};
 use index::{Index, IndexEntry, IndexError, KeptIndex, StreamError};
 use relation::Pkg;
@@ -73,10 +73,15 @@ fn is_read_as(alloc: Global, text: &[u8], before: usize, wanted: &str) -> Result
     }
 }
 
-// The same of the text where it comes piece by piece, and what is read of it is kept.
-fn is_kept_as(alloc: Global, text: &[u8], before: usize, wanted: &str) -> Result<bool, AllocError> {
-    let mut source = text;
-    match KeptIndex::read_from(alloc, &mut source, ARCH, 1, before) {
+// The same of the text where no reading gives more than so many bytes, and what is read of it is kept.
+fn is_kept_by(
+    alloc: Global,
+    text: &[u8],
+    most: usize,
+    before: usize,
+    wanted: &str,
+) -> Result<bool, AllocError> {
+    match KeptIndex::read_from(alloc, &mut Few { bytes: text, most }, ARCH, 1, before) {
         Ok(kept) => is_index(
             alloc,
             &Index::of(alloc, &kept, release_of(alloc, b"h")?)?,
@@ -84,6 +89,16 @@ fn is_kept_as(alloc: Global, text: &[u8], before: usize, wanted: &str) -> Result
         ),
         Err(error) => is_printed(alloc, &error, wanted),
     }
+}
+
+// However many bytes a reading gives.
+fn is_kept_as(alloc: Global, text: &[u8], before: usize, wanted: &str) -> Result<bool, AllocError> {
+    for most in 1..9 {
+        if !is_kept_by(alloc, text, most, before, wanted)? {
+            return Ok(false);
+        }
+    }
+    is_kept_by(alloc, text, usize::MAX, before, wanted)
 }
 
 fn is_read_and_kept_as(
@@ -104,6 +119,8 @@ const READ: &str = "\
 4000000→Package: a$Architecture: any$→skipped 1
 0→Package: a$Architecture: ALL$→skipped 1
 0→Package: a$Architecture: i386 amd64$$Package: a$Architecture:$→skipped 2
+0→Package: a$Version: 1$Architecture: all$Depends: b,$ c$Description: d$ e$Pre-Depends:$ b$→a 1 12000, skipped 0
+0→$package:a$PROVIDES:   c $Version: 1$Architecture: all$$$ $Package: b$Version: 1$Architecture: all$Breaks: c→a 1 00001, b 1 00010, skipped 0
 ";
 
 // Policy 5.6.9 has `Essential: yes`; that Protected says the same is this project's own.
@@ -117,6 +134,8 @@ const ESSENTIAL: &str = "\
 
 const REFUSED: &str = "\
 0→Package: a$Architecture: all$Version: 1$Provides: _$package: b→E4 DuplicateField 5
+0→Package: a$Version: 1$Architecture: all$Maintainer: b$maintainer: c$→E4 DuplicateField 5
+0→Package: a$Version: 1$Architecture: all$$Package: b$c$→E2 BadLine 6
 0→ x$Package: a$→E2 BadLine 1
 0→#c: 1$→E3 BadFieldName 1
 0→Package: a$$$Package: b$Version: 1$Size: 1$size: 2$→E9 MissingField 1 Architecture

@@ -1,22 +1,38 @@
 //! A plan judged, and a candidate found, by paths.
-ghost use Rattle.std.specs.Prelude.{None, Some, bytes_eq, if◌then◌else◌};
+ghost use Rattle.std.specs.Prelude.{◌≡◌, None, Some, bytes_eq, if◌then◌else◌};
+ghost use Rattle.inputs.specs.Counting.{one_more};
+ghost use Rattle.inputs.specs.declared.shelf.ReadError.TheVariants as ReadError;
 
 use crate::memory::Memory;
 use crate::scenario::add_plan;
 use cli::{
-    Arguments, Candidate, Exit, Fault, Host, Input, Options, Outcome, Query, ReadError, Refusal,
-    candidate_line, check_plan, exit_of_candidate, exit_of_refusal, exit_of_verdict,
+    Candidate, Exit, Fault, Host, HostShelf, Input, Outcome, Paths, ReadError, Refusal, Settings,
+    Source, candidate_line, check_plan, exit_of_candidate, exit_of_refusal, exit_of_verdict,
     find_candidate, outcome_of_answer, outcome_of_candidate, verdict_line,
 };
 use rules::Verdict;
 use std::alloc::{AllocError, Global};
 use std::test::Fail;
 
-/// A host that has one file, which a contract knows.
+/// A host that has one file, which a contract knows, and counts the others that it is asked for.
 #[derive(Drop)]
 struct OneFile<'a> {
     path: &'a [u8],
     text: &'a [u8],
+    failures: u64,
+}
+
+impl OneFile<'_> {
+    // Counts a file that isn't there.
+    fn missing(&mut self) -> ReadError
+        ensures path { self.new.path ≡ self.old.path }
+        ensures text { self.new.text ≡ self.old.text }
+        ensures error { result ≡ ReadError.Unreadable }
+        ensures count { self.new.failures ≡ one_more self.old.failures }
+    {
+        self.failures = self.failures.saturating_add(1);
+        ReadError::Unreadable
+    }
 }
 
 impl<'a> Host for OneFile<'a> {
@@ -24,34 +40,43 @@ impl<'a> Host for OneFile<'a> {
 
     ghost files = { λ host. Some (λ path. if bytes_eq path host.path.now then Some host.text.now else None) };
 
+    ghost faults = { λ host. host.failures };
+
+    fn failures(&self) -> u64 {
+        self.failures
+    }
+
     fn read(&mut self, alloc: Global, path: &[u8]) -> Result<Vec<u8>, ReadError> {
         if path != self.path {
-            return Err(ReadError::Unreadable);
+            return Err(self.missing());
         }
         match self.text.to_vec(alloc) {
             Ok(text) => Ok(text),
-            Err(_) => Err(ReadError::OutOfMemory),
+            Err(AllocError) => Err(ReadError::OutOfMemory),
         }
     }
 
     fn open(&mut self, _alloc: Global, path: &[u8]) -> Result<&'a [u8], ReadError> {
         if path != self.path {
-            return Err(ReadError::Unreadable);
+            return Err(self.missing());
         }
         Ok(self.text)
     }
+
+    fn close(&mut self, text: &'a [u8]) {
+        self.failures = self.failures.saturating_add(text.failures());
+    }
 }
 
-const OPTIONS: Options<'static> = Options {
-    arch: "amd64",
-    status: "status",
-    sources: "sources",
-    preferences: None,
+const SETTINGS: Settings<'static> = Settings {
+    arch: b"amd64",
     target: None,
 };
 
-const PATHS: Arguments<'static> = Arguments {
-    options: OPTIONS,
+const PATHS: Paths<'static> = Paths {
+    status: "status",
+    sources: "sources",
+    preferences: None,
     request: "request",
     judged: "plan",
 };
@@ -81,7 +106,8 @@ fn prints_yes(alloc: Global, answer: &Result<Verdict, Refusal>) -> Result<bool, 
 fn answer_of_plan(alloc: Global) -> Result<Result<Verdict, Refusal>, Fail> {
     let mut host = Memory::new(alloc);
     add_plan(alloc, &mut host, "plan 1$")?;
-    Ok(check_plan(alloc, &mut host, &PATHS))
+    let mut shelf = HostShelf { host, paths: PATHS };
+    Ok(check_plan(alloc, &mut shelf, &SETTINGS))
 }
 
 #[test]
@@ -132,11 +158,8 @@ fn add_foo(alloc: Global, host: &mut Memory<'_>) -> Result<(), Fail> {
 fn answer_of_foo(alloc: Global) -> Result<Result<Option<Candidate>, Refusal>, Fail> {
     let mut host = Memory::new(alloc);
     add_foo(alloc, &mut host)?;
-    let query = Query {
-        options: OPTIONS,
-        name: "foo",
-    };
-    Ok(find_candidate(alloc, &mut host, &query))
+    let mut shelf = HostShelf { host, paths: PATHS };
+    Ok(find_candidate(alloc, &mut shelf, &SETTINGS, b"foo"))
 }
 
 #[test]
@@ -160,12 +183,15 @@ fn is_complaint(alloc: Global, answer: &Result<Verdict, Refusal>) -> Result<bool
 
 #[test]
 fn a_refusal_is_printed_as_a_complaint(rt: HostRuntime) -> Result<(), Fail> {
-    let mut host = OneFile {
+    let host = OneFile {
         path: b"status",
         text: b"",
+        failures: 0,
     };
-    let answer = check_plan(rt.alloc(), &mut host, &PATHS);
+    let mut shelf = HostShelf { host, paths: PATHS };
+    let answer = check_plan(rt.alloc(), &mut shelf, &SETTINGS);
     assert!(rt; matches!(&answer, Err(refusal) if are_sources_unread(refusal)));
+    assert!(rt; shelf.host.failures() == 1);
     assert!(rt; is_complaint(rt.alloc(), &answer)?);
     Ok(())
 }

@@ -1,4 +1,8 @@
 //! A host in memory, and runs of the program over it.
+ghost use Rattle.std.specs.Prelude.{◌≡◌, IfErr};
+ghost use Rattle.inputs.specs.Counting.{Counts};
+ghost use Rattle.inputs.specs.declared.shelf.ReadError.TheVariants as ReadError;
+
 use cli::{Host, ReadError, ReadFailed, Source, run};
 use rows::unescaped;
 use std::alloc::{AllocError, Global};
@@ -10,11 +14,12 @@ struct File<'a> {
     text: Vec<u8>,
 }
 
-/// Files by their paths, and the paths that were opened, in order, each followed by a space.
+/// Files by their paths, the paths that were opened, in order, each followed by a space, and how many of them weren't there.
 #[derive(Drop)]
 pub(crate) struct Memory<'a> {
     files: Vec<File<'a>>,
     opened: Vec<u8>,
+    failures: u64,
 }
 
 impl<'a> Memory<'a> {
@@ -22,6 +27,7 @@ impl<'a> Memory<'a> {
         Memory {
             files: Vec::new(alloc),
             opened: Vec::new(alloc),
+            failures: 0,
         }
     }
 
@@ -36,10 +42,45 @@ impl<'a> Memory<'a> {
         self.opened.as_slice()
     }
 
-    fn note(&mut self, path: &[u8]) -> Result<(), AllocError> {
+    fn note(&mut self, path: &[u8]) -> Result<(), AllocError>
+        ensures { self.new.failures ≡ self.old.failures }
+    {
         self.opened.extend_from_slice(path)?;
         self.opened.push(b' ')?;
         Ok(())
+    }
+
+    // The text at the path, if there is one.
+    fn text_at(&self, path: &[u8]) -> Option<&[u8]> {
+        for file in &self.files {
+            if file.path.as_bytes() == path {
+                return Some(file.text.as_slice());
+            }
+        }
+        None
+    }
+
+    // A copy of the text at the path.
+    fn copy_at(&mut self, alloc: Global, path: &[u8]) -> Result<Vec<u8>, ReadError>
+        ensures { Counts result self.old.failures self.new.failures }
+    {
+        match self.text_at(path) {
+            Some(text) => copied(alloc, text),
+            None => {
+                self.failures = self.failures.saturating_add(1);
+                Err(ReadError::Unreadable)
+            }
+        }
+    }
+}
+
+/// The text, copied.
+pub(crate) fn copied(alloc: Global, text: &[u8]) -> Result<Vec<u8>, ReadError>
+    ensures { IfErr result (λ e. e ≡ ReadError.OutOfMemory) }
+{
+    match text.to_vec(alloc) {
+        Ok(text) => Ok(text),
+        Err(AllocError) => Err(ReadError::OutOfMemory),
     }
 }
 
@@ -74,22 +115,26 @@ impl Source for Opened {
 impl Host for Memory<'_> {
     type Text = Opened;
 
+    ghost faults = { λ host. host.failures };
+
+    fn failures(&self) -> u64 {
+        self.failures
+    }
+
     fn read(&mut self, alloc: Global, path: &[u8]) -> Result<Vec<u8>, ReadError> {
-        if self.note(path).is_err() {
-            return Err(ReadError::OutOfMemory);
+        match self.note(path) {
+            Ok(()) => self.copy_at(alloc, path),
+            Err(AllocError) => Err(ReadError::OutOfMemory),
         }
-        for file in &self.files {
-            if file.path.as_bytes() == path {
-                let text = file.text.as_slice().to_vec(alloc);
-                return text.map_err(|_| ReadError::OutOfMemory);
-            }
-        }
-        Err(ReadError::Unreadable)
     }
 
     fn open(&mut self, alloc: Global, path: &[u8]) -> Result<Opened, ReadError> {
         let text = self.read(alloc, path)?;
         Ok(Opened { text, taken: 0 })
+    }
+
+    fn close(&mut self, text: Opened) {
+        self.failures = self.failures.saturating_add(text.failures());
     }
 }
 

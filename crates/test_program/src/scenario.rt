@@ -11,6 +11,10 @@ pub(crate) const CHECK_PLAN: &str =
 pub(crate) const CANDIDATE: &str =
     "debplan candidate --arch amd64 --status status --sources sources";
 
+/// The command line of `solve`.
+pub(crate) const SOLVE: &str =
+    "debplan solve --arch amd64 --status status --sources sources --request request";
+
 /// The next column of a row that has more behind it.
 pub(crate) fn next_column<'a>(row: &mut &'a str) -> Result<&'a str, Fail> {
     let Some((column, rest)) = row.split_once('→') else {

@@ -1,7 +1,7 @@
-//! Failures to write, and failures to read for want of memory.
-use crate::memory::{Memory, words_in};
+//! Failures to write, and failures to read, of a file and for want of memory.
+use crate::memory::{Memory, copied, words_in};
 use crate::scenario::{CHECK_PLAN, add_plan};
-use cli::{Host, ReadError, refuse_for_memory, run};
+use cli::{Host, ReadError, ReadFailed, Source, refuse_for_memory, run};
 use std::alloc::Global;
 use std::io;
 use std::io::{ErrorKind, Write};
@@ -111,6 +111,12 @@ struct Exhausted;
 impl Host for Exhausted {
     type Text = &'static [u8];
 
+    ghost faults = { λ _. 0 };
+
+    fn failures(&self) -> u64 {
+        0
+    }
+
     fn read(&mut self, _alloc: Global, _path: &[u8]) -> Result<Vec<u8>, ReadError> {
         Err(ReadError::OutOfMemory)
     }
@@ -118,6 +124,8 @@ impl Host for Exhausted {
     fn open(&mut self, _alloc: Global, _path: &[u8]) -> Result<&'static [u8], ReadError> {
         Err(ReadError::OutOfMemory)
     }
+
+    fn close(&mut self, _text: &'static [u8]) {}
 }
 
 #[test]
@@ -133,5 +141,71 @@ fn want_of_memory_is_refused_as_such(rt: HostRuntime) -> Result<(), Fail> {
     let mut err = Vec::new(alloc);
     assert!(rt; refuse_for_memory(&mut err) == 5);
     assert!(rt; err.as_slice() == refusal);
+    Ok(())
+}
+
+/// The text of a file that can be opened and not read.
+#[derive(Drop)]
+struct Broken {
+    failures: u64,
+}
+
+impl Source for Broken {
+    ghost faults = { λ broken. broken.failures };
+
+    fn failures(&self) -> u64 {
+        self.failures
+    }
+
+    fn read(&mut self, _block: &mut [u8]) -> Result<usize, ReadFailed> {
+        self.failures = self.failures.saturating_add(1);
+        Err(ReadFailed)
+    }
+}
+
+/// A host whose sources name an index that can't be read; its other files are empty.
+#[derive(Drop)]
+struct Worn {
+    failures: u64,
+}
+
+impl Host for Worn {
+    type Text = Broken;
+
+    ghost faults = { λ host. host.failures };
+
+    fn failures(&self) -> u64 {
+        self.failures
+    }
+
+    fn read(&mut self, alloc: Global, path: &[u8]) -> Result<Vec<u8>, ReadError> {
+        if path == b"sources".as_slice() {
+            copied(alloc, b"File: index\n")
+        } else {
+            copied(alloc, b"")
+        }
+    }
+
+    fn open(&mut self, _alloc: Global, _path: &[u8]) -> Result<Broken, ReadError> {
+        Ok(Broken { failures: 0 })
+    }
+
+    fn close(&mut self, text: Broken) {
+        self.failures = self.failures.saturating_add(text.failures());
+    }
+}
+
+#[test]
+fn an_index_that_cannot_be_read_is_refused_at_its_place_and_counted(
+    rt: HostRuntime,
+) -> Result<(), Fail> {
+    let alloc = rt.alloc();
+    let words = words_in(alloc, CHECK_PLAN)?;
+    let mut host = Worn { failures: 0 };
+    let mut out = Vec::new(alloc);
+    let mut err = Vec::new(alloc);
+    let status = run(alloc, words.as_slice(), &mut host, &mut out, &mut err);
+    assert!(rt; status == 5 && out.is_empty() && host.failures == 1);
+    assert!(rt; err.as_slice() == b"debplan: index 1: E5 Read\n".as_slice());
     Ok(())
 }

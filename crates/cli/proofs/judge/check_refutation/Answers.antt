@@ -1,21 +1,16 @@
--- A verdict on a refutation is answered of the texts that the files have.
-use Rattle.std.proofs.lemmas.Result.{IfOk-at_ok}
+-- The files at the paths are what is found on the shelf.
+use Rattle.cli.proofs.ShelfLemmas.{found_at}
 use Rattle.cli.proofs.judge.check_refutation.Goals as goal
-use Rattle.cli.proofs.WholeLemmas.{refutation_kept}
-use Rattle.cli.specs.Inputs.{texts_with}
-use Rattle.cli.specs.Kept.{with_indices}
-use Rattle.cli_engine.specs.Refuted.{IsRefutationAnswer}
+use Rattle.cli.specs.Files.{shelved_at}
 
-pub returns-in-Ok : goal.returns-in-Ok
-returns-in-Ok g c = record {
-  answer = λ at known.
-      let texts = texts_with c.args.arguments.now.options c.in_ok-read.read.texts c.in_ok-read.read.request.items in
-      let refutation = c.in_ok-read.read.judged.items in
-      let read = c.in_ok-read.ensures.found at known c.in-Ok.ensures.read in
-      let holds = IfOk-at_ok (λ verdict. IsRefutationAnswer texts refutation verdict) c.in-Ok.ensures.same c.refutation_verdict.ensures in (
-        with_indices read.indices texts,
-        refutation,
-        read.whole,
-        refutation_kept texts read.indices refutation c.in-Ok.verdict read.kept holds,
-      );
-}
+pub returns-clause-answer : goal.returns-clause-answer
+returns-clause-answer g c at known =
+    c.check_refutation_from.ensures.answer (shelved_at at c.args.shelf.now.paths) (found_at c.args.shelf.now.paths at known)
+
+pub returns-clause-refuted : goal.returns-clause-refuted
+returns-clause-refuted g c at known =
+    c.check_refutation_from.ensures.refuted (shelved_at at c.args.shelf.now.paths) (found_at c.args.shelf.now.paths at known)
+
+pub returns-clause-refused : goal.returns-clause-refused
+returns-clause-refused g c at known =
+    c.check_refutation_from.ensures.refused (shelved_at at c.args.shelf.now.paths) (found_at c.args.shelf.now.paths at known)

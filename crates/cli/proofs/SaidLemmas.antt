@@ -1,0 +1,41 @@
+-- What is said in answer, from what holds of an answer and of a refusal.
+use Rattle.std.proofs.Common.{◌≡◌, ℕ, List, Option, Result, Ok, Err, IfOk, IfErr}
+use Rattle.candidates.specs.Offer.{Offer}
+use Rattle.cli.specs.Calls.{IsSaidOfName}
+use Rattle.cli_engine.specs.Answer.{IsAnswer, IsCandidateAnswer, IsFirstRefusal}
+use Rattle.cli_engine.specs.Meaning.{IsSaid}
+use Rattle.cli_engine.specs.Refuted.{IsFirstRefutationRefusal, IsRefutationAnswer, IsSaidOf}
+use Rattle.cli_engine.specs.Solution.{IsSaidOfRequest, IsSolution}
+use Rattle.inputs.specs.Before.{IsRefusalBefore}
+use Rattle.inputs.specs.Refused.{IsRefusal}
+use Rattle.inputs.specs.Texts.{Found, Texts}
+use Rattle.inputs.specs.declared.refusal.Refusal.{Refusal}
+use Rattle.refutecheck.specs.declared.verdict.Verdict.{Verdict as Refuted}
+use Rattle.rules.specs.declared.step.Verdict.{Verdict}
+use Rattle.solver.specs.declared.solved.Solved.{Solved}
+
+-- what holds of a value holds of it in a result
+pub if_ok : {A E : Type 0} (r : Result A E) (P Q : A → Type 0) → ((a : A) → P a → Q a) → IfOk r P → IfOk r Q
+if_ok (Ok a) P Q then holds = then a holds
+if_ok (Err e) P Q then holds = tt
+
+pub said_of_plan : (texts : Texts) (plan : Found) (r : Result Verdict Refusal)
+    → IfOk r (λ verdict. IsAnswer texts plan verdict) → IfErr r (λ refused. IsFirstRefusal texts plan refused) → IsSaid texts plan r
+said_of_plan texts plan (Ok verdict) answer refused = answer
+said_of_plan texts plan (Err e) answer refused = refused
+
+pub said_of_lines : (texts : Texts) (lines : Found) (r : Result Refuted Refusal)
+    → IfOk r (λ verdict. IsRefutationAnswer texts lines verdict) → IfErr r (λ refused. IsFirstRefutationRefusal texts lines refused)
+    → IsSaidOf texts lines r
+said_of_lines texts lines (Ok verdict) answer refused = answer
+said_of_lines texts lines (Err e) answer refused = refused
+
+pub said_of_request : (texts : Texts) (limit : ℕ) (r : Result Solved Refusal)
+    → IfOk r (λ solved. IsSolution texts limit solved) → IfErr r (λ refused. IsRefusal texts refused) → IsSaidOfRequest texts limit r
+said_of_request texts limit (Ok solved) answer refused = answer
+said_of_request texts limit (Err e) answer refused = refused
+
+pub said_of_name : (texts : Texts) (name : List ℕ) (r : Result (Option Offer) Refusal)
+    → IfOk r (λ found. IsCandidateAnswer texts name found) → IfErr r (λ refused. IsRefusalBefore texts refused) → IsSaidOfName texts name r
+said_of_name texts name (Ok found) answer refused = answer
+said_of_name texts name (Err e) answer refused = refused

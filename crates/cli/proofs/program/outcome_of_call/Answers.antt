@@ -1,0 +1,14 @@
+-- What is printed of each call is what is said in answer to it.
+use Rattle.cli.proofs.program.outcome_of_call.Goals as goal
+
+pub returns-in-Candidate : goal.returns-in-Candidate
+returns-in-Candidate g c at known = rw (c.in-Candidate.is, ← c.as_bytes.ensures.value) (c.outcome_of_name.ensures at known)
+
+pub returns-in-Solve : goal.returns-in-Solve
+returns-in-Solve g c at known = rw c.in-Solve.is (c.outcome_of_request.ensures at known)
+
+pub returns-in-CheckPlan : goal.returns-in-CheckPlan
+returns-in-CheckPlan g c at known = rw c.in-CheckPlan.is (c.outcome_of_plan.ensures at known)
+
+pub returns-in-CheckRefutation : goal.returns-in-CheckRefutation
+returns-in-CheckRefutation g c at known = rw c.in-CheckRefutation.is (c.outcome_of_lines.ensures at known)

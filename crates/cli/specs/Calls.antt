@@ -1,0 +1,72 @@
+-- What the program answers to a call over known files.
+use Rattle.std.specs.Prelude.{◌≡◌, ℕ, Bool, List, Option, Result, Ok, Err, None, Some}
+use Rattle.candidates.specs.Offer.{Offer}
+use Rattle.cli.specs.Files.{Files, shelved_at}
+use Rattle.cli.specs.Outcome.{IsOutcomeOf, IsOutcomeOfCandidate, IsOutcomeOfComparison, IsOutcomeOfRefutation, IsOutcomeOfSolved}
+use Rattle.cli.specs.declared.arguments.Arguments.{Arguments}
+use Rattle.cli.specs.declared.arguments.Call.{Call}
+use Rattle.cli.specs.declared.arguments.Call.TheVariants as call
+use Rattle.cli.specs.declared.arguments.CompareArguments.{CompareArguments}
+use Rattle.cli.specs.declared.outcome.Outcome.{Outcome}
+use Rattle.cli_engine.specs.Answer.{IsCandidateAnswer}
+use Rattle.cli_engine.specs.Comparison.{comparison_refusal, holds}
+use Rattle.cli_engine.specs.Meaning.{IsSaid}
+use Rattle.cli_engine.specs.Refuted.{IsSaidOf}
+use Rattle.cli_engine.specs.Solution.{IsSaidOfRequest}
+use Rattle.inputs.specs.Before.{IsRefusalBefore}
+use Rattle.inputs.specs.Texts.{Texts, texts_of}
+use Rattle.inputs.specs.declared.refusal.Refusal.{Refusal}
+use Rattle.refutecheck.specs.declared.verdict.Verdict.{Verdict as Refuted}
+use Rattle.rules.specs.Version.{version_cmp}
+use Rattle.rules.specs.declared.step.Verdict.{Verdict}
+use Rattle.solver.specs.declared.solved.Solved.{Solved}
+
+-- the texts that the files have for these arguments
+abbrev pub texts_at : Files → Arguments → Texts
+texts_at files arguments = texts_of arguments.settings (shelved_at files arguments.paths)
+
+-- what is said of two versions: whether they stand so to each other, or the first refusal
+abbrev pub IsSaidOfVersions : CompareArguments → Result Bool Refusal → Type 0
+IsSaidOfVersions arguments (Ok answer) = (comparison_refusal arguments.version.now arguments.other.now ≡ None)
+    × (answer ≡ holds arguments.relation (version_cmp arguments.version.now arguments.other.now))
+IsSaidOfVersions arguments (Err refused) = comparison_refusal arguments.version.now arguments.other.now ≡ Some refused
+
+-- what is said of a name: its candidate, or the first refusal
+abbrev pub IsSaidOfName : Texts → List ℕ → Result (Option Offer) Refusal → Type 0
+IsSaidOfName texts name (Ok found) = IsCandidateAnswer texts name found
+IsSaidOfName texts name (Err refused) = IsRefusalBefore texts refused
+
+-- The outcomes
+
+-- the outcome is that of what is said of the name by the files
+abbrev pub IsOutcomeOfName : Files → Arguments → List ℕ → Outcome → Type 0
+IsOutcomeOfName files arguments name found = (said : Result (Option Offer) Refusal)
+    × IsSaidOfName (texts_at files arguments) name said × IsOutcomeOfCandidate name said found
+
+-- the outcome is that of what is said of the request by the files
+abbrev pub IsOutcomeOfRequest : Files → Arguments → ℕ → Outcome → Type 0
+IsOutcomeOfRequest files arguments limit found = (said : Result Solved Refusal)
+    × IsSaidOfRequest (texts_at files arguments) limit said × IsOutcomeOfSolved said found
+
+-- the outcome is that of what is said of the plan by the files
+abbrev pub IsOutcomeOfPlan : Files → Arguments → Outcome → Type 0
+IsOutcomeOfPlan files arguments found = (said : Result Verdict Refusal)
+    × IsSaid (texts_at files arguments) (files arguments.paths.judged.now) said × IsOutcomeOf said found
+
+-- the outcome is that of what is said of the refutation by the files
+abbrev pub IsOutcomeOfLines : Files → Arguments → Outcome → Type 0
+IsOutcomeOfLines files arguments found = (said : Result Refuted Refusal)
+    × IsSaidOf (texts_at files arguments) (files arguments.paths.judged.now) said × IsOutcomeOfRefutation said found
+
+-- the outcome is that of what is said of the versions
+abbrev pub IsOutcomeOfVersions : CompareArguments → Outcome → Type 0
+IsOutcomeOfVersions arguments found =
+    (said : Result Bool Refusal) × IsSaidOfVersions arguments said × IsOutcomeOfComparison said found
+
+-- the outcome is that of what is said in answer to the call
+abbrev pub IsOutcomeOfCall : Files → Call → Outcome → Type 0
+IsOutcomeOfCall files (call.Compare arguments) found = IsOutcomeOfVersions arguments found
+IsOutcomeOfCall files (call.Candidate arguments name) found = IsOutcomeOfName files arguments name.now found
+IsOutcomeOfCall files (call.Solve arguments limit) found = IsOutcomeOfRequest files arguments limit found
+IsOutcomeOfCall files (call.CheckPlan arguments) found = IsOutcomeOfPlan files arguments found
+IsOutcomeOfCall files (call.CheckRefutation arguments) found = IsOutcomeOfLines files arguments found
