@@ -11,7 +11,7 @@ use Rattle.status_text.specs.declared.error.StatusFault.TheVariants as from
 use Rattle.status_text.proofs.DistinctLemmas.{distinct_names}
 use Rattle.inputs.specs.Before.{HasStart}
 use Rattle.inputs.specs.Reading.{with_fault}
-use Rattle.inputs.specs.Texts.{Found, Texts, read_found, status_in, status_of, status_refusal}
+use Rattle.inputs.specs.Texts.{Found, Texts, read_found, status_in, status_file_of, status_refusal}
 use Rattle.inputs.specs.declared.refusal.Fault.{Fault}
 use Rattle.inputs.specs.declared.refusal.Fault.TheVariants as fault
 
@@ -34,7 +34,7 @@ not-long false reading slots is = is
 not-long true reading slots is = absurd (let e : Err from.TooLarge ≡ Ok slots = is in cc)
 
 -- the slots of a status file that is read, of which this is the text
-pub status-read : (texts : Texts) (slots : List FileSlot) → status_of texts ≡ Ok slots
+pub status-read : (texts : Texts) (slots : List FileSlot) → status_file_of texts ≡ Ok slots
     → (text : List ℕ) × (read_status texts.arch text ≡ Ok slots)
 status-read texts slots is =
     let (text, found, read) = found-ok (status_in texts.arch) texts.status slots is in

@@ -15,7 +15,7 @@ use Rattle.inputs.specs.Indices.{read_indices}
 use Rattle.inputs.specs.Meaning.{Denotes, IsAsked, IsBuildFault, IsRequestFault, IsRequested, goals_in}
 use Rattle.inputs.specs.Reading.{out_of_memory}
 use Rattle.inputs.specs.Refused.{HasOneMeaning, MeaningIsNotRefused}
-use Rattle.inputs.specs.Texts.{Found, Texts, preferences_of, sources_of, status_of}
+use Rattle.inputs.specs.Texts.{Found, Texts, preferences_of, sources_of, status_file_of}
 use Rattle.inputs.specs.declared.refusal.Fault.{Fault}
 use Rattle.inputs.specs.declared.refusal.Fault.TheVariants as fault
 use Rattle.inputs.specs.declared.refusal.Input.{Input}
@@ -41,7 +41,7 @@ one_indexing texts indices others is also =
 pub one_start : (texts : Texts) (start begin : List Record) → HasStart texts start → HasStart texts begin → start ≡ begin
 one_start texts start begin is also =
     is.start_is
-    ∙ ap (λ slots. records_of (entries_of slots)) (ok-same is.slots also.slots (status_of texts) is.status also.status)
+    ∙ ap (λ slots. records_of (entries_of slots)) (ok-same is.slots also.slots (status_file_of texts) is.status also.status)
     ∙ sym also.start_is
 
 -- what texts before the request are read as
@@ -130,7 +130,7 @@ not_before : (texts : Texts) (u : Universe) (start : List Record) (where_ : Inpu
     → Denotes texts u start → IsFaultBefore texts where_ found → record { place = where_; fault = found } ≡ out_of_memory
 not_before texts u start (place.Version number) found is refused = absurd refused
 not_before texts u start place.Status found is refused =
-    absurd (not-both is.read.listed.started.slots found (status_of texts) is.read.listed.started.status refused)
+    absurd (not-both is.read.listed.started.slots found (status_file_of texts) is.read.listed.started.status refused)
 not_before texts u start place.Sources found is refused =
     absurd (not-both is.read.listed.indexed.sources found (sources_of texts) is.read.listed.indexed.sources_are refused.1)
 not_before texts u start (place.Index number) found is refused =

@@ -7,7 +7,7 @@ use Rattle.rules.specs.Database.{Record}
 use Rattle.rules.specs.FileRecord.{records_of}
 use Rattle.status_text.specs.Slot.{FileSlot, entries_of}
 use Rattle.inputs.specs.Indices.{read_indices}
-use Rattle.inputs.specs.Texts.{Texts, status_of, sources_of, preferences_of}
+use Rattle.inputs.specs.Texts.{Texts, status_file_of, sources_of, preferences_of}
 use Rattle.inputs.specs.declared.refusal.Fault.{Fault}
 use Rattle.inputs.specs.declared.refusal.Fault.TheVariants as fault
 use Rattle.inputs.specs.declared.refusal.Input.{Input}
@@ -17,7 +17,7 @@ use Rattle.inputs.specs.declared.refusal.Refusal.{Refusal}
 -- the status file is read without refusal, as this start
 pub record HasStart (texts : Texts) (start : List Record) : Type 0 where
   pub slots : List FileSlot
-  pub status : status_of texts ≡ Ok slots
+  pub status : status_file_of texts ≡ Ok slots
   pub start_is : start ≡ records_of (entries_of slots)
 
 -- the status file is read without refusal
@@ -58,7 +58,7 @@ pub record AreRead (texts : Texts) (start : List Record) (indices : List Index) 
 -- memory was wanting
 abbrev pub IsFaultBefore : Texts → Input → Fault → Type 0
 IsFaultBefore texts (place.Version number) found = ⊥
-IsFaultBefore texts place.Status found = status_of texts ≡ Err found
+IsFaultBefore texts place.Status found = status_file_of texts ≡ Err found
 IsFaultBefore texts place.Sources found = HasStatus texts × (sources_of texts ≡ Err found)
 IsFaultBefore texts (place.Index number) found = IsIndexFault texts number found
 IsFaultBefore texts place.Preferences found = IsPreferencesFault texts found

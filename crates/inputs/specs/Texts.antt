@@ -70,8 +70,9 @@ status_refusal from.TooLarge = refusal.TooLarge
 abbrev pub status_in : List ℕ → List ℕ → Result (List FileSlot) Fault
 status_in arch text = with_fault (λ refused. fault.Status (status_refusal refused)) (read_status arch text)
 
-abbrev pub status_of : Texts → Result (List FileSlot) Fault
-status_of texts = read_found (status_in texts.arch) texts.status
+-- what the status file of these texts is read as
+abbrev pub status_file_of : Texts → Result (List FileSlot) Fault
+status_file_of texts = read_found (status_in texts.arch) texts.status
 
 -- The sources
 
@@ -79,6 +80,7 @@ status_of texts = read_found (status_in texts.arch) texts.status
 abbrev pub sources_in : List ℕ → Result (List SourceText) Fault
 sources_in text = with_fault fault.Sources (read_sources text)
 
+-- what the sources of these texts are read as
 abbrev pub sources_of : Texts → Result (List SourceText) Fault
 sources_of texts = read_found sources_in texts.sources
 

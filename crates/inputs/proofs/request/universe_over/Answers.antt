@@ -24,6 +24,8 @@ returns-in-Ok-clause-distinct c =
 
 pub returns-in-Ok-clause-universe : goal.returns-in-Ok-clause-universe
 returns-in-Ok-clause-universe c =
-    let same : map (λ r. r.now) c.as_slice.result.now ≡ entries_of c.args.database.now.slots = rw c.as_slice.ensures.value c.in_ok-records.ensures in
-    (c.in-Ok.ensures.ok.0, subst (λ es. IsUniverse (inputs_of (records_of es) (indices_of c.args.indices.now) c.args.prefs.now (goals_of c.in-Ok.ensures.ok.0)) c.in-Ok.universe)
-    same c.in-Ok.ensures.ok.1.built.universe)
+    let same : map (λ r. r.now) c.as_slice.result.now ≡ entries_of c.args.database.now.slots = rw c.as_slice.ensures.value c.in_ok-records.ensures in (
+      c.in-Ok.ensures.ok.0,
+      subst (λ es. IsUniverse (inputs_of (records_of es) (indices_of c.args.indices.now) c.args.prefs.now (goals_of c.in-Ok.ensures.ok.0)) c.in-Ok.universe)
+          same c.in-Ok.ensures.ok.1.built.universe,
+    )
