@@ -1,5 +1,5 @@
 -- What is said in answer, from what holds of an answer and of a refusal.
-use Rattle.std.proofs.Common.{◌≡◌, ℕ, List, Option, Result, Ok, Err, IfOk, IfErr}
+use Rattle.std.proofs.Common.{ℕ, List, Option, Result, Ok, Err, IfOk, IfErr}
 use Rattle.candidates.specs.Offer.{Offer}
 use Rattle.cli.specs.Calls.{IsSaidOfName}
 use Rattle.cli_engine.specs.Answer.{IsAnswer, IsCandidateAnswer, IsFirstRefusal}

@@ -1,5 +1,5 @@
 -- A plan has one answer; yes keeps its promise, and is said of every good plan.
-use Rattle.std.proofs.Common.{◌≡◌, ◌⊎◌, ℕ, List, Ok, Err, sym, ap, subst, ◌∙◌}
+use Rattle.std.proofs.Common.{◌≡◌, List, Ok, Err, ap, subst}
 use Rattle.rules.specs.Database.{Record}
 use Rattle.rules.specs.Universe.{Universe}
 use Rattle.rules.specs.Verdict.{IsVerdict}

@@ -1,10 +1,9 @@
 -- A refutation has one answer, and where that is yes no selection is acceptable.
-use Rattle.std.proofs.Common.{◌≡◌, ◌⊎◌, ℕ, List, [], Ok, Err, refl, sym, ap, subst, ◌∙◌}
+use Rattle.std.proofs.Common.{◌≡◌, List, Ok, Err, refl, ap, subst}
 use Rattle.candidates.specs.Inputs.{inputs_of}
 use Rattle.plain.specs.Counted.{IsCounted}
 use Rattle.refutation.specs.Laws.{HasAscendingPairs, HasNeededPairs}
 use Rattle.refutation.specs.declared.line.Line.{Line}
-use Rattle.refutation_text.specs.Text.{read_refutation, refutation_text}
 use Rattle.rules.specs.Database.{Record}
 use Rattle.rules.specs.Universe.{Universe}
 use Rattle.refutecheck.specs.Answer.{IsVerdict}

@@ -1,5 +1,5 @@
 -- What texts denote can be solved.
-use Rattle.std.proofs.Common.{◌≡◌, ℕ, ◌+◌, List, [], ◌∷◌, length, Some, Result, Ok, Err, refl, sym, ap, subst, ◌∙◌, arith}
+use Rattle.std.proofs.Common.{◌≡◌, ℕ, ◌+◌, List, [], ◌∷◌, length, Some, Result, Ok, Err, refl, sym, subst, arith}
 use Rattle.std.specs.Prelude.{IsTrue}
 use Rattle.std.specs.List.{All}
 use Rattle.std.proofs.lemmas.List.Elements.{All-contains, All-nil}
@@ -9,20 +9,15 @@ use Rattle.index.specs.Sources.{SourceText}
 use Rattle.rules.specs.Available.{Index, all_listed, counting_package}
 use Rattle.rules.specs.Database.{Record}
 use Rattle.rules.specs.ElementLaws.{All-intro}
-use Rattle.rules.specs.FileRecord.{records_of}
 use Rattle.rules.specs.Name.{is_name}
-use Rattle.rules.specs.Universe.{Pair, Universe}
+use Rattle.rules.specs.Universe.{Pair}
 use Rattle.rules.specs.Verdict.{IsBuiltOn}
 use Rattle.rules.proofs.VerdictLemmas.{universe_is_built}
-use Rattle.status_text.specs.Slot.{entries_of}
-use Rattle.status_text.specs.Status.{read_status}
-use Rattle.status_text.specs.declared.error.StatusFault.{StatusFault}
 use Rattle.universe.specs.Universe.{HaveDistinctNames}
 use Rattle.universe_build.proofs.StartsApart.{starts_apart}
 use Rattle.universe_build.specs.Build.{goals_of}
-use Rattle.inputs.specs.Before.{AreListed, HasIndices, HasStart}
+use Rattle.inputs.specs.Before.{HasIndices, HasStart}
 use Rattle.inputs.specs.Indices.{index_in, index_of, index_then, indices_from, read_indices, with_indices}
-use Rattle.inputs.specs.Meaning.{Denotes}
 use Rattle.inputs.specs.Texts.{Found, Texts}
 use Rattle.inputs.specs.declared.refusal.Fault.{Fault}
 use Rattle.inputs.specs.declared.refusal.Refusal.{Refusal}

@@ -1,5 +1,5 @@
 -- What follows from what the texts denote: a plan has one answer, and what the answer yes promises.
-use Rattle.std.specs.Prelude.{◌≡◌, ◌⊎◌, ℕ, List, Result, Ok, Err}
+use Rattle.std.specs.Prelude.{◌≡◌, ◌⊎◌, List, Result, Ok, Err}
 use Rattle.inputs.specs.Meaning.{Denotes}
 use Rattle.inputs.specs.Reading.{out_of_memory}
 use Rattle.inputs.specs.Texts.{Found, Texts}

@@ -1,14 +1,14 @@
 -- What was read before each text says that its refusal is the first, and what all are read as.
-use Rattle.std.proofs.Common.{◌∙◌, List, refl, sym, subst}
+use Rattle.std.proofs.Common.{◌∙◌, List, refl, subst}
 use Rattle.std.proofs.lemmas.Result.{err_from_is_err_and}
 use Rattle.candidates.specs.Inputs.{indices_of}
 use Rattle.rules.specs.Verdict.{IsVerdict}
 use Rattle.rules.specs.declared.step.Step.{Step}
 use Rattle.status_store.specs.Slots.{slot_records}
 use Rattle.inputs.specs.Texts.{texts_of}
-use Rattle.cli_engine.proofs.ReadingLemmas.{lent_indexed, lent_listed}
+use Rattle.cli_engine.proofs.ReadingLemmas.{lent_listed}
 use Rattle.cli_engine.proofs.check.check_over.Goals as goal
-use mathlib.Core.Logic.{inl, inr}
+use mathlib.Core.Logic.{inl}
 
 pub returns-in_err-prefs-clause-refused : goal.returns-in_err-prefs-clause-refused
 returns-in_err-prefs-clause-refused g c = λ at known started indexed.

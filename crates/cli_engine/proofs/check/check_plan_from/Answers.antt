@@ -1,12 +1,11 @@
 -- What was read before the indices says that their refusal is the first; behind them it goes on.
-use Rattle.std.proofs.Common.{◌∙◌, refl, sym, subst}
+use Rattle.std.proofs.Common.{◌∙◌}
 use Rattle.std.proofs.lemmas.Result.{err_from_is_err_and}
-use Rattle.candidates.specs.Inputs.{indices_of}
 use Rattle.status_store.specs.Slots.{slot_records}
 use Rattle.inputs.specs.Texts.{texts_of}
-use Rattle.cli_engine.proofs.ReadingLemmas.{lent_indexed, lent_listed}
+use Rattle.cli_engine.proofs.ReadingLemmas.{lent_indexed}
 use Rattle.cli_engine.proofs.check.check_plan_from.Goals as goal
-use mathlib.Core.Logic.{inl, inr}
+use mathlib.Core.Logic.{inl}
 
 pub returns-in_err-kept-clause-refused : goal.returns-in_err-kept-clause-refused
 returns-in_err-kept-clause-refused g c = λ at known.

@@ -1,12 +1,12 @@
 -- What was read before each text says that its refusal is the first, and what all are read as.
-use Rattle.std.proofs.Common.{◌∙◌, refl, sym, subst}
+use Rattle.std.proofs.Common.{◌∙◌, refl}
 use Rattle.std.proofs.lemmas.Result.{err_from_is_err_and}
 use Rattle.candidates.specs.Inputs.{indices_of}
 use Rattle.status_store.specs.Slots.{slot_records}
 use Rattle.inputs.specs.Texts.{texts_of}
-use Rattle.cli_engine.proofs.ReadingLemmas.{lent_indexed, lent_listed}
+use Rattle.cli_engine.proofs.ReadingLemmas.{lent_listed}
 use Rattle.cli_engine.proofs.check_refutation.check_over.Goals as goal
-use mathlib.Core.Logic.{inl, inr}
+use mathlib.Core.Logic.{inl}
 
 pub returns-in_err-prefs-clause-refused : goal.returns-in_err-prefs-clause-refused
 returns-in_err-prefs-clause-refused g c = λ at known started indexed.

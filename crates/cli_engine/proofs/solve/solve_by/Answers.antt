@@ -1,5 +1,5 @@
 -- What was read before each text says that its refusal is the first, and what all are read as.
-use Rattle.std.proofs.Common.{◌∙◌, refl, sym, subst}
+use Rattle.std.proofs.Common.{◌∙◌, refl}
 use Rattle.std.proofs.lemmas.Result.{err_from_is_err_and}
 use Rattle.candidates.specs.Inputs.{indices_of, inputs_of}
 use Rattle.plain.proofs.MemberLemmas.{universe_is_counted}
@@ -7,9 +7,9 @@ use Rattle.refutation.proofs.NeededLemmas.{universe_has_needed_pairs}
 use Rattle.status_store.specs.Slots.{slot_records}
 use Rattle.universe_build.specs.Build.{goals_of}
 use Rattle.inputs.specs.Texts.{texts_of}
-use Rattle.cli_engine.proofs.ReadingLemmas.{lent_indexed, lent_listed}
+use Rattle.cli_engine.proofs.ReadingLemmas.{lent_listed}
 use Rattle.cli_engine.proofs.solve.solve_by.Goals as goal
-use mathlib.Core.Logic.{inl, inr}
+use mathlib.Core.Logic.{inl}
 
 pub returns-in_err-prefs-clause-refused : goal.returns-in_err-prefs-clause-refused
 returns-in_err-prefs-clause-refused g c = λ at known started indexed.

@@ -1,5 +1,5 @@
 -- The texts in memory are what is found on their shelf.
-use Rattle.std.proofs.Common.{None, Some, refl}
+use Rattle.std.proofs.Common.{None, refl}
 use Rattle.inputs.specs.Inputs.{shelved}
 use Rattle.cli_engine.proofs.solve.solve_bytes.Goals as goal
 
