@@ -1,5 +1,5 @@
 -- The stanzas that the steps of a plan unpack.
-use Rattle.std.specs.Prelude.{◌≡◌, ◌<◌, ℕ, List, Option, Some}
+use Rattle.std.specs.Prelude.{◌≡◌, ◌<◌, ℕ, List, Some}
 use Rattle.std.specs.List.{All, Any, slice_get}
 use Rattle.rules.specs.Step.{IndexPackage}
 use Rattle.rules.specs.Universe.{Universe, listed_for}

@@ -1,5 +1,5 @@
 //! The second opening of an index.
-ghost use Rattle.std.specs.Prelude.{◌≡◌, IfErr, IfOk, List, Some, map, ℕ};
+ghost use Rattle.std.specs.Prelude.{◌≡◌, IfErr, IfOk, List, Some, length, map, ℕ};
 ghost use Rattle.std.specs.List.Sorted.{IsNonDecreasingBy};
 ghost use Rattle.fetch.specs.Fetched.{AreFetched, items_in};
 ghost use Rattle.inputs.specs.Counting.{CountsRead};
@@ -21,6 +21,7 @@ pub(crate) fn fetch_from<S: Shelf>(
     wanted: &[&IndexEntry<'_>],
 ) -> Result<Vec<Vec<u8>>, Refusal>
     requires { IsNonDecreasingBy (λ entry. entry.now.place.stanza) wanted.now }
+    ensures each { IfOk result (λ texts. length texts.items ≡ length wanted.now) }
     ensures fetched { (at : Shelved) → S.found shelf.old ≡ Some at → IfOk result (λ texts.
         (bytes : List ℕ) × (at.index number file.now ≡ Some bytes)
         × AreFetched arch.now (items_in bytes) (map (λ entry. entry.now) wanted.now) (map (λ text. text.items) texts.items)) }

@@ -1,6 +1,6 @@
 //! The texts of all steps of a plan.
 ghost use Rattle.std.specs.Prelude.{◌≡◌, ◌<◌, IfErr, IfOk, OnOk, Some, length, map};
-ghost use Rattle.std.specs.Option.{option_map};
+ghost use Rattle.std.specs.Option.{option_copied};
 ghost use Rattle.inputs.specs.Counting.{CountsRead};
 ghost use Rattle.inputs.specs.Texts.{Shelved};
 ghost use Rattle.universe.specs.Universe.{numbered};
@@ -20,11 +20,11 @@ use std::alloc::Global;
 use universe::Universe;
 
 // The file of the index of this number, counted from 1.
-fn file_of<'f>(files: &[&'f [u8]], number: usize) -> Option<&'f [u8]>
-    ensures { option_map (λ file. file.now) result ≡ numbered number (map (λ file. file.now) files.now) }
+fn file_of<'p, 'f>(files: &'p [&'f [u8]], number: usize) -> Option<&'p &'f [u8]>
+    ensures { option_copied result ≡ numbered number files.now }
 {
     let place = number.checked_sub(1)?;
-    files.get(place).copied()
+    files.get(place)
 }
 
 // Fetches the texts of these stanzas, all of the index of this number, and puts each at the place of its step.
@@ -76,12 +76,14 @@ fn fetch_all<S: Shelf>(
     ensures same { S.found shelf.new ≡ S.found shelf.old }
     ensures counted { CountsRead result (S.faults shelf.old) (S.faults shelf.new) }
 {
-    let mut rest = wanted;
-    while let [first, ..] = rest {
-        let number = first.index();
-        let (group, later) = rest.split_at(count_of_first(rest, number));
+    let mut at = 0;
+    while at < wanted.len() {
+        let (_, rest) = wanted.split_at(at);
+        let number = rest[0].index();
+        let count = count_of_first(rest, number);
+        let (group, _) = rest.split_at(count);
         fetch_group(alloc, shelf, arch, files, number, group, texts)?;
-        rest = later;
+        at += count;
     }
     Ok(())
 }
