@@ -5,14 +5,11 @@ use Rattle.journal.specs.Ledger.{history_of}
 use Rattle.journal.specs.Payload.{Recorded}
 use Rattle.journal.specs.declared.error.AppendError.{AppendError}
 use Rattle.journal.specs.declared.error.AppendError.TheVariants as append_error
-use Rattle.journal.specs.declared.error.OpenError.TheVariants as open_error
 use Rattle.journal.specs.declared.ledger.Ledger.{Ledger}
 use Rattle.apply.specs.Fault.{StandsAgainst}
 use Rattle.apply.specs.Opening.{IsBeginFault, IsDiskError}
 use Rattle.apply.specs.Planned.{IsOfPlan}
 use Rattle.apply.specs.Progress.{IsUpTo}
-use Rattle.apply.specs.declared.error.BeginError.{BeginError}
-use Rattle.apply.specs.declared.error.BeginError.TheVariants.{NotOpened}
 use Rattle.apply.specs.declared.error.CatchUpError.{CatchUpError}
 use Rattle.apply.specs.declared.error.CatchUpError.TheVariants as error
 use Rattle.run_plan.specs.Run.{IsNew}
@@ -35,10 +32,6 @@ IsFinishFault start plan h error.Disk = ⊤
 IsFinishFault start plan h error.Reopen = ⊥
 IsFinishFault start plan h error.Mismatch = ¬ IsOfPlan start plan h
 
--- the file wasn't read: a call of the disk failed, or memory was refused
-abbrev pub IsUnread : BeginError → Type 0
-IsUnread e = (e ≡ NotOpened open_error.OutOfMemory) ⊎ (e ≡ NotOpened open_error.Disk)
-
 -- the history is that of a new journal, where the file is empty, or else what the file shows
 abbrev pub IsFound : List ℕ → List ℕ → List ℕ → History → Type 0
 IsFound arch start file h = ((file ≡ []) × IsNew arch start h) ⊎ ((file ≢ []) × (h.arch ≡ arch) × Shows file h)
@@ -51,7 +44,7 @@ pub record IsUnfinished (arch start : List ℕ) (plan : List Recorded) (file : L
 
 -- why the plan isn't carried out on a file with these bytes
 abbrev pub IsRunFault : List ℕ → List ℕ → List Recorded → List ℕ → RunError → Type 0
-IsRunFault arch start plan file (NotBegun e) = IsUnread e ⊎ IsBeginFault arch start file e
+IsRunFault arch start plan file (NotBegun e) = IsBeginFault arch start file e
 IsRunFault arch start plan file (NotFinished e) = IsUnfinished arch start plan file e
 
 -- there was a journal, and it wasn't brought to the plan's end
