@@ -37,5 +37,5 @@ CountsDisk (Err (Journal found)) old new = CountsFault found old new
 -- the shelf counts one more text where E5 is refused, and none else
 abbrev pub CountsTexts : Result Applied ApplyRefusal → ℕ → ℕ → Type 0
 CountsTexts (Ok applied) old new = new ≡ old
-CountsTexts (Err (Text refused)) old new = CountsRead {Applied} (Err refused) old new
+CountsTexts (Err (Text refused)) old new = CountsRead {A = Applied} (Err refused) old new
 CountsTexts (Err (Journal found)) old new = new ≡ old

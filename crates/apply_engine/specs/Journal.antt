@@ -5,7 +5,7 @@ use Rattle.journal.specs.declared.error.OpenError.TheVariants as open_error
 use Rattle.apply.specs.declared.error.BeginError.TheVariants.{NotOpened}
 use Rattle.apply.specs.declared.error.CatchUpError.{CatchUpError}
 use Rattle.apply.specs.declared.error.CatchUpError.TheVariants as error
-use Rattle.run_plan.specs.Fault.{IsFinishError, IsRunFault}
+use Rattle.run_plan.specs.Fault.{IsRunFault}
 use Rattle.run_plan.specs.declared.error.RunError.{RunError}
 use Rattle.run_plan.specs.declared.error.RunError.TheVariants.{NotBegun, NotFinished}
 use Rattle.apply_engine.specs.declared.refusal.JournalFault.{JournalFault}
@@ -24,9 +24,13 @@ abbrev pub fault_of : RunError → JournalFault
 fault_of (NotBegun e) = fault.NotBegun e
 fault_of (NotFinished e) = finish_fault_of e
 
--- it is the same cause; or behind the beginning memory was wanting for it
+-- a step can't be taken, whose name is in the cause
+abbrev pub IsNamed : RunError → Type 0
+IsNamed e = (name : List ℕ) × (e ≡ NotFinished (error.NotApplicable name))
+
+-- it is the same cause; or memory was wanting for the name in it
 abbrev pub IsOwned : RunError → JournalFault → Type 0
-IsOwned e found = (found ≡ fault_of e) ⊎ ((found ≡ fault.OutOfMemory) × IsFinishError e)
+IsOwned e found = (found ≡ fault_of e) ⊎ ((found ≡ fault.OutOfMemory) × IsNamed e)
 
 -- there was a journal, and it wasn't brought to the plan's end
 abbrev pub IsStop : JournalFault → Type 0

@@ -49,7 +49,7 @@ pub enum ApplyRefusal {
 }
 
 impl From<Refusal> for ApplyRefusal {
-    ghost from_gives = { λ refused e. e ≡ refused.Text refused };
+    ghost from_gives = { λ text e. e ≡ refused.Text text };
 
     fn from(refused: Refusal) -> ApplyRefusal {
         ApplyRefusal::Text(refused)

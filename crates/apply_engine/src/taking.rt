@@ -1,5 +1,5 @@
 //! A plan judged by texts, and carried out where it is good.
-ghost use Rattle.std.specs.Prelude.{◌≡◌, ◌≢◌, ◌↔◌, IfErr, IfOk, Some, map};
+ghost use Rattle.std.specs.Prelude.{◌≡◌, ◌≢◌, ◌↔◌, IfErr, IfOk, IsTrue, Some, map};
 ghost use Rattle.inputs.specs.Texts.{Shelved, texts_of};
 ghost use Rattle.rules.specs.declared.step.Verdict.TheVariants as verdict;
 ghost use Rattle.unpack_texts.specs.Texts.{IsTextsRefusal};
@@ -24,6 +24,16 @@ use status_store::Database;
 use std::alloc::Global;
 use universe::Universe;
 use unpack_texts::fetch_texts;
+
+// Whether the plan is good.
+fn is_yes(found: &Verdict) -> bool
+    ensures { IsTrue result ↔ found.now ≡ verdict.Yes }
+{
+    match found {
+        Verdict::Yes => true,
+        _ => false,
+    }
+}
 
 // Fetches the texts of the stanzas that the steps unpack, and carries the steps out.
 fn take<S: Shelf, D: Disk>(
@@ -100,8 +110,8 @@ pub fn apply_from<S: Shelf, D: Disk>(
     let text = read_sources_text(alloc, shelf)?;
     let sources = read_sources(alloc, text.as_slice())?;
     let files = files_of(alloc, sources.as_slice())?;
-    let (kept, releases) = read_indices(alloc, shelf, settings, sources)?;
-    let indices = lend_indices(alloc, kept.as_slice(), releases)?;
+    let listed = read_indices(alloc, shelf, settings, sources)?;
+    let indices = lend_indices(alloc, listed.0.as_slice(), listed.1)?;
     let prefs = read_preferences(alloc, shelf, settings)?;
     let universe = read_universe(
         alloc,
@@ -112,17 +122,18 @@ pub fn apply_from<S: Shelf, D: Disk>(
         &prefs,
     )?;
     let steps = read_steps(alloc, shelf)?;
-    match judge(alloc, &database, &universe, steps.as_slice())? {
-        Verdict::Yes => take(
-            alloc,
-            shelf,
-            settings,
-            disk,
-            files.as_slice(),
-            &database,
-            &universe,
-            steps.as_slice(),
-        ),
-        verdict => Ok(Applied::Judged(verdict)),
+    let verdict = judge(alloc, &database, &universe, steps.as_slice())?;
+    if !is_yes(&verdict) {
+        return Ok(Applied::Judged(verdict));
     }
+    take(
+        alloc,
+        shelf,
+        settings,
+        disk,
+        files.as_slice(),
+        &database,
+        &universe,
+        steps.as_slice(),
+    )
 }
