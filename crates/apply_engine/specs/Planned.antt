@@ -1,15 +1,18 @@
 -- What a journal records of a plan, by the texts.
 use Rattle.std.specs.Prelude.{◌≡◌, ◌⊎◌, ℕ, List, length, map, Option, Some, Ok, ⊤}
 use Rattle.index.specs.Sources.{SourceText}
+use Rattle.rules.specs.Available.{Index}
 use Rattle.rules.specs.Database.{Record}
 use Rattle.rules.specs.Run.{IsGoodPlan}
 use Rattle.rules.specs.Universe.{Universe}
 use Rattle.rules.specs.declared.step.Step.{Step}
+use Rattle.status_store.specs.Slots.{slot_records}
 use Rattle.status_store.specs.Text.{slots_text}
 use Rattle.status_text.specs.Slot.{FileSlot}
 use Rattle.journal.specs.Payload.{Recorded}
 use Rattle.apply.specs.Planned.{planned}
 use Rattle.run_plan.specs.Run.{IsEndText}
+use Rattle.inputs.specs.Before.{HasIndices, HasStart}
 use Rattle.inputs.specs.Meaning.{Denotes}
 use Rattle.inputs.specs.Texts.{Found, Shelved, Texts, sources_of, status_of, texts_of}
 use Rattle.inputs.specs.declared.refusal.Refusal.{Refusal}
@@ -57,6 +60,20 @@ pub record AreRecorded (arch : List ℕ) (found : Option Shelved) (files : List 
   pub start_is : start ≡ slots_text slots
   pub records_are : (at : Shelved) → found ≡ Some at
       → (stanzas : List (Option (List ℕ))) × AreTexts arch at.index files u steps stanzas × (records ≡ planned steps stanzas)
+
+-- the texts before the preferences are read: the status file as these slots, the sources with these files, and these indices
+pub record IsReadBefore (texts : Texts) (files : List (List ℕ)) (slots : List FileSlot) (indices : List Index) : Type 0 where
+  pub sources : List SourceText
+  pub started : HasStart texts (slot_records slots)
+  pub status_is : status_of texts ≡ Ok slots
+  pub sources_are : sources_of texts ≡ Ok sources
+  pub files_are : files ≡ files_of sources
+  pub indexed : HasIndices texts indices
+
+-- where they are read so, this is what a journal records of the plan by what is found on a shelf
+abbrev pub IsPlannedBehind : Settings → Option Shelved → List (List ℕ) → List FileSlot → List Index → List ℕ → List Recorded → Type 0
+IsPlannedBehind settings found files slots indices start records = (at : Shelved) → found ≡ Some at
+    → IsReadBefore (texts_of settings at) files slots indices → IsPlanned (texts_of settings at) at.judged start records
 
 -- such a plan was carried out, with so many steps, and this is the text of the status file that they lead to
 pub record IsCarriedOut (Planned : List ℕ → List Recorded → Type 0) (arch : List ℕ) (done : CarriedOut) : Type 0 where
