@@ -1,12 +1,12 @@
 -- What is so of a disk, with which plan.
-use Rattle.std.proofs.Common.{◌≡◌, ◌≢◌, ◌⊎◌, inl, inr, ⊎_elim, ℕ, List, [], Result, Ok, Err, IfOk, IfErr, refl}
+use Rattle.std.proofs.Common.{inl, inr, ℕ, List, Result, Ok, Err, IfOk, refl}
 use Rattle.disk.specs.Facts.{DiskFacts, LeavesOnly}
 use Rattle.disk.specs.RunLaws.{started, weaker}
 use Rattle.journal.specs.Payload.{Recorded}
 use Rattle.inputs.specs.declared.refusal.Refusal.{Refusal}
 use Rattle.rules.specs.declared.step.Verdict.{Verdict}
 use Rattle.apply_engine.specs.Applied.{IfDone}
-use Rattle.apply_engine.specs.Left.{IsDoneOn, IsLeftBy, IsLeftSo, IsStoppedOn, ShowsPlanned}
+use Rattle.apply_engine.specs.Left.{IsDoneOn, IsLeftBy, IsLeftSo}
 use Rattle.apply_engine.specs.Planned.{IsCarriedOut}
 use Rattle.apply_engine.specs.declared.applied.Applied.{Applied}
 use Rattle.apply_engine.specs.declared.applied.Applied.TheVariants.{Judged, Done}

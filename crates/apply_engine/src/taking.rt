@@ -18,8 +18,8 @@ use cli_engine::{judge, read_steps};
 use disk::Disk;
 use index::KeptIndex;
 use inputs::{
-    Settings, Shelf, lend_indices, read_database, read_indices, read_preferences,
-    read_sources, read_sources_text, read_status, read_universe,
+    Settings, Shelf, lend_indices, read_database, read_indices, read_preferences, read_sources,
+    read_sources_text, read_status, read_universe,
 };
 use rules::{Release, Step, Verdict};
 use status_store::Database;

@@ -1,5 +1,5 @@
 -- The error of a run is that of the journal.
-use Rattle.std.proofs.Common.{◌≡◌, map}
+use Rattle.std.proofs.Common.{map}
 use Rattle.std.specs.Option.{option_copied}
 use Rattle.apply.specs.Planned.{planned}
 use Rattle.apply_engine.proofs.CarryLemmas.{counts_as, fault_is, stop_is_of_end}

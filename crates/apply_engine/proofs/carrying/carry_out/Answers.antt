@@ -1,16 +1,15 @@
 -- The file is read, and the run goes on from it.
-use Rattle.std.proofs.Common.{◌≡◌, ◌∙◌, ℕ, List, Option, [], length, map, refl, sym, ap, subst}
+use Rattle.std.proofs.Common.{◌≡◌, ◌∙◌, ℕ, List, Option, length, map, refl, sym, ap, subst}
 use Rattle.std.proofs.lemmas.List.{length-map}
 use Rattle.std.specs.Option.{option_copied}
 use Rattle.std.proofs.Common.{Ok, Err}
 use Rattle.journal.specs.Payload.{Recorded}
 use Rattle.apply.specs.Planned.{planned}
 use Rattle.apply.proofs.PlanLemmas.{length-plan}
-use Rattle.run_plan.specs.Run.{HasBegun, IsEndText}
-use Rattle.apply_engine.specs.Left.{IsLeftSo}
+use Rattle.run_plan.specs.Run.{IsEndText}
 use Rattle.apply_engine.specs.declared.applied.Applied.TheVariants.{Done}
 use Rattle.apply_engine.specs.declared.refusal.ApplyRefusal.TheVariants.{Journal}
-use Rattle.apply_engine.proofs.CarryLemmas.{Is, run_done, run_stopped, unread_counts, unread_left}
+use Rattle.apply_engine.proofs.CarryLemmas.{Is, run_done, run_stopped, unread_counts}
 use Rattle.apply_engine.proofs.LeftLemmas.{left_weaker}
 use Rattle.apply_engine.proofs.carrying.carry_out.Goals as goal
 

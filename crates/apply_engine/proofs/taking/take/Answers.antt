@@ -1,10 +1,6 @@
 -- What is carried out is recorded with the texts that were fetched.
-use Rattle.std.proofs.Common.{◌≡◌, ◌∙◌, Bor, ℕ, List, map, refl, sym, ap, subst}
-use Rattle.journal.specs.Payload.{Recorded}
+use Rattle.std.proofs.Common.{◌∙◌, Bor, ℕ, List, map}
 use Rattle.apply.specs.Planned.{planned}
-use Rattle.status_store.specs.Text.{slots_text}
-use Rattle.inputs.specs.Texts.{Shelved}
-use Rattle.unpack_texts.specs.Texts.{AreTexts}
 use Rattle.apply_engine.specs.Planned.{AreRecorded}
 use Rattle.apply_engine.proofs.CarryLemmas.{Is}
 use Rattle.apply_engine.proofs.LeftLemmas.{carried_result, left_weaker}
