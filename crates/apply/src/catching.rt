@@ -83,6 +83,7 @@ pub fn catch_up<'a, 's, D: Disk>(
 
     // The comparison comes first, and an error of it changes nothing.
     ensures mismatch { IsErrOf result error.Mismatch ↔ ¬ IsOfPlan start.now (planned steps.now (map option_copied texts.now)) (history_of ledger.old) }
+    ensures of_plan { (¬ IsErrOf result error.Mismatch) → IsOfPlan start.now (planned steps.now (map option_copied texts.now)) (history_of ledger.old) }
     ensures untouched { IsErrOf result error.Mismatch → (ledger.new ≡ ledger.old) × (disk.new ≡ disk.old) }
 
     // A crash at any moment of the call leaves the steps that the journal had, and behind them the next ones of the plan up to

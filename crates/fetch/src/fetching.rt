@@ -1,5 +1,5 @@
 //! Fetching stanzas in a second reading of their index.
-ghost use Rattle.std.specs.Prelude.{◌≡◌, ◌≢◌, ◌↔◌, ◌⊎◌, ◌+◌, ◌-◌, ◌^◌, ℕ, List, None, Some, true, IfErr, IfOk, IsTrue, OnOk, map, min};
+ghost use Rattle.std.specs.Prelude.{◌≡◌, ◌≢◌, ◌↔◌, ◌⊎◌, ◌+◌, ◌-◌, ◌^◌, ℕ, List, None, Some, true, IfErr, IfOk, IsTrue, OnOk, length, map, min};
 ghost use Rattle.std.specs.List.Sorted.{IsNonDecreasingBy, IsPermutation};
 ghost use Rattle.fetch.specs.Fetched.{AreFetched, HasRead, IsChanged, IsFetched, IsGone, IsSamePackage, Items, items_in};
 ghost use Rattle.fetch.specs.declared.error.FetchError.TheVariants as error;
@@ -88,6 +88,7 @@ pub fn fetch<S: Source>(
     wanted: &[&IndexEntry<'_>],
 ) -> Result<Vec<Vec<u8>>, FetchError>
     requires order { IsNonDecreasingBy (λ entry. entry.now.place.stanza) wanted.now }
+    ensures each { IfOk result (λ texts. length texts.items ≡ length wanted.now) }
     ensures fetched { (text : List ℕ) → S.left source.old ≡ Some text → IfOk result (λ texts.
         AreFetched arch.now (items_in text) (map (λ entry. entry.now) wanted.now) (map (λ text. text.items) texts.items)) }
     ensures changed { (text : List ℕ) → S.left source.old ≡ Some text → IfErr result (λ e.

@@ -27,6 +27,15 @@ impl Model for NamedPackage {
 }
 
 impl NamedPackage {
+    /// A copy of the name with these bytes. Memory alone can fail.
+    pub fn copied_from(alloc: Global, name: &[u8]) -> Result<NamedPackage, AllocError>
+        ensures { IfOk result (λ named. named ≡ name.now) }
+    {
+        Ok(NamedPackage {
+            name: Text::copied_from(alloc, name)?,
+        })
+    }
+
     /// The bytes of the name.
     pub fn as_bytes(&self) -> &[u8]
         ensures { result.now ≡ self.now }
@@ -77,9 +86,7 @@ pub enum StatusRefusal {
 fn named(alloc: Global, name: &PackageName<'_>) -> Result<NamedPackage, AllocError>
     ensures { IfOk result (λ named. named ≡ name.now) }
 {
-    Ok(NamedPackage {
-        name: Text::copied_from(alloc, name.as_bytes())?,
-    })
+    NamedPackage::copied_from(alloc, name.as_bytes())
 }
 
 /// The refusal with its own copy of the name, if it has one. Memory alone can fail.

@@ -21,6 +21,7 @@ pub fn read_all<D: Disk>(alloc: Global, disk: &mut D) -> Result<Vec<u8>, OpenErr
     ensures stays { D.honest disk.old → Stays (D.facts disk.old) (D.facts disk.new) }
     ensures causes { IfErr result (λ e. (e ≡ open_error.OutOfMemory) ⊎ (e ≡ open_error.Disk)) }
     ensures failed { IsErrOf result open_error.Disk → D.faults disk.new ≡ min (D.faults disk.old + 1) (2 ^ 64 - 1) }
+    ensures refused { IfErr result (λ e. e ≢ open_error.Disk → D.faults disk.new ≡ D.faults disk.old) }
     ensures count { OnOk result (D.faults disk.new ≡ D.faults disk.old) }
 {
     let len = disk.len()?;

@@ -1,7 +1,7 @@
 -- Each turn fetches the text of the first package that is left.
-use Rattle.std.proofs.Common.{◌≡◌, ◌∙◌, ◌++◌, ◌∷◌, [], ◌+◌, ◌≤◌, ℕ, Bor, List, Vec, Global, drop, get_or, map, refl, rules, ap, sym, subst, arith}
+use Rattle.std.proofs.Common.{◌≡◌, ◌∙◌, ◌++◌, ◌∷◌, [], ◌+◌, ◌≤◌, ℕ, Bor, List, Vec, Global, drop, get_or, length, map, refl, rules, ap, sym, subst, arith}
 use Rattle.std.proofs.Math.ListN.{length-map}
-use Rattle.std.proofs.lemmas.List.{append-nil, drop_all, get_or_default}
+use Rattle.std.proofs.lemmas.List.{append-nil, drop_all, get_or_default, length_push}
 use Rattle.std.proofs.lemmas.Result.{err_from_is_err_and}
 use Rattle.rules.specs.Step.{IndexPackage}
 use Rattle.rules.specs.declared.index_place.IndexPlace.{IndexPlace}
@@ -16,6 +16,7 @@ loop-next-init g c = record {
   sound = ap (λ (r : Reading). r.failed) c.in_ok-reader.ensures;
   known = λ text known. (text, known, has-begun text c.in_ok-reader.reader c.in_ok-reader.ensures);
   so_far = λ text later known are. rw c.new-texts.ensures.items are;
+  each = search rules;
   count = refl;
 }
 
@@ -67,6 +68,7 @@ loop-next-preserved g c =
           ∙ one-mapped (λ (one : Vec ℕ Global). one.items) w.texts.items found later))
           (w.invariant.so_far text (found.items ∷ later) known
           (first-fetched c.args.arch.now (items_in text) (drop w.next-index shown) (drop (w.next-index + 1) shown) c.next-item.result.now found.items later e fetched are)));
+      each = omega (arith, ap length c.in_ok-push.ensures.items, length_push w.texts.items c.in_ok-text_reached.field-0, w.invariant.each);
       count = search rules;
     }
 

@@ -1,0 +1,3 @@
+pub mod CarryLemmas
+pub mod LeftLemmas
+pub mod PlannedLemmas

@@ -1,0 +1,20 @@
+//! What came of a plan.
+use rules::Verdict;
+
+/// A plan that was carried out.
+#[derive(Drop)]
+pub struct CarriedOut {
+    /// How many steps it has.
+    pub steps: usize,
+    /// The text of the status file that they lead to.
+    pub status: Vec<u8>,
+}
+
+/// What came of a plan.
+#[derive(Drop)]
+pub enum Applied {
+    /// It isn't good, and nothing was done.
+    Judged(Verdict),
+    /// It was carried out.
+    Done(CarriedOut),
+}

@@ -1,0 +1,14 @@
+//! A plan carried out by texts: the plan is judged by the texts of a shelf, as `cli_engine` judges it, and where it is good its
+//! steps are taken by a journal on a disk, each unpacking with the text of its stanza. The call is `apply_from`; begin with
+//! `specs/Applied.antt`.
+#![tactic(auto)]
+
+mod applied;
+mod carrying;
+mod files;
+mod refusal;
+mod taking;
+
+pub use applied::{Applied, CarriedOut};
+pub use refusal::{ApplyRefusal, JournalFault};
+pub use taking::apply_from;

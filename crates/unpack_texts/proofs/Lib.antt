@@ -1,0 +1,4 @@
+pub mod FilledLemmas
+pub mod RefusalLemmas
+pub mod TextLemmas
+pub mod WantedLemmas

@@ -1,0 +1,4 @@
+pub mod Filled
+pub mod Opened
+pub mod Texts
+pub mod Wanted
