@@ -14,7 +14,7 @@ use Rattle.apply.specs.Planned.{planned}
 use Rattle.run_plan.specs.Run.{IsEndText}
 use Rattle.inputs.specs.Before.{HasIndices, HasStart}
 use Rattle.inputs.specs.Meaning.{Denotes}
-use Rattle.inputs.specs.Texts.{Found, Shelved, Texts, sources_of, status_of, texts_of}
+use Rattle.inputs.specs.Texts.{Found, Shelved, Texts, sources_of, status_file_of, texts_of}
 use Rattle.inputs.specs.declared.refusal.Refusal.{Refusal}
 use Rattle.inputs.specs.declared.settings.Settings.{Settings}
 use Rattle.unpack_texts.specs.Texts.{AreTexts, IsTextsRefusal}
@@ -44,7 +44,7 @@ pub record IsPlanned (texts : Texts) (plan : Found) (start : List ℕ) (records 
   pub slots : List FileSlot
   pub stanzas : List (Option (List ℕ))
   pub good : IsGoodBy texts plan universe steps sources
-  pub status_is : status_of texts ≡ Ok slots
+  pub status_is : status_file_of texts ≡ Ok slots
   pub start_is : start ≡ slots_text slots
   pub fetched : AreTexts texts.arch texts.index (files_of sources) universe steps stanzas
   pub records_are : records ≡ planned steps stanzas
@@ -65,7 +65,7 @@ pub record AreRecorded (arch : List ℕ) (found : Option Shelved) (files : List 
 pub record IsReadBefore (texts : Texts) (files : List (List ℕ)) (slots : List FileSlot) (indices : List Index) : Type 0 where
   pub sources : List SourceText
   pub started : HasStart texts (slot_records slots)
-  pub status_is : status_of texts ≡ Ok slots
+  pub status_is : status_file_of texts ≡ Ok slots
   pub sources_are : sources_of texts ≡ Ok sources
   pub files_are : files ≡ files_of sources
   pub indexed : HasIndices texts indices

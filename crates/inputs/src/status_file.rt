@@ -5,7 +5,7 @@ ghost use Rattle.inputs.specs.Before.{HasStart, IsRefusalBefore};
 ghost use Rattle.inputs.specs.StatusText.{IsStatusText};
 ghost use Rattle.inputs.specs.Counting.{CountsRead};
 ghost use Rattle.inputs.specs.Reading.{IsFaultOf, OrMemory};
-ghost use Rattle.inputs.specs.Texts.{Shelved, Texts, status_in, status_of, status_refusal, texts_of};
+ghost use Rattle.inputs.specs.Texts.{Shelved, Texts, status_in, status_file_of, status_refusal, texts_of};
 ghost use Rattle.inputs.specs.declared.refusal.Fault.TheVariants as fault;
 
 use crate::refusal::{Fault, Input, Refusal, refused_at};
@@ -70,7 +70,7 @@ pub fn read_status<S: Shelf>(
 /// The database that the text of the status file is. Linear in the text.
 pub fn read_database<'a>(alloc: Global, status: &'a StatusText) -> Result<Database<'a>, Refusal>
     ensures ok { (texts : Texts) → IsStatusText texts status.now → IfOk result (λ db. HasStart texts (slot_records db.slots)) }
-    ensures slots { (texts : Texts) → IsStatusText texts status.now → IfOk result (λ db. status_of texts ≡ Ok db.slots) }
+    ensures slots { (texts : Texts) → IsStatusText texts status.now → IfOk result (λ db. status_file_of texts ≡ Ok db.slots) }
     ensures refused { (texts : Texts) → IsStatusText texts status.now → IfErr result (λ refused. IsRefusalBefore texts refused) }
     ensures known { IfErr result (λ refused. refused.fault ≢ fault.Read) }
 {
