@@ -48,8 +48,8 @@ fn applied<S: Shelf>(
 fn installed(
     alloc: Global,
     disk: &mut MemoryDisk,
-    status: &[u8],
-    plan: &[u8],
+    status: &'static [u8],
+    plan: &'static [u8],
 ) -> Result<(String, Vec<u8>), AllocError> {
     let indices = [INDEX];
     let inputs = Inputs {

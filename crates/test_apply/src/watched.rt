@@ -1,6 +1,7 @@
 //! Texts in memory that are watched: which indices are opened, in their order, and each index may have another text when it
 //! is opened again.
-ghost use Rattle.std.specs.Prelude.{ℕ};
+ghost use Rattle.std.specs.Prelude.{◌≡◌, ℕ, IfErr};
+ghost use Rattle.inputs.specs.declared.shelf.ReadError.TheVariants as error;
 
 use inputs::{Part, ReadError, Shelf};
 use std::alloc::{AllocError, Global};
@@ -20,7 +21,9 @@ pub struct Watched<'a> {
     pub opened: Vec<usize>,
 }
 
-fn copied(alloc: Global, bytes: &[u8]) -> Result<Vec<u8>, ReadError> {
+fn copied(alloc: Global, bytes: &[u8]) -> Result<Vec<u8>, ReadError>
+    ensures { IfErr result (λ e. e ≡ error.OutOfMemory) }
+{
     match bytes.to_vec(alloc) {
         Ok(text) => Ok(text),
         Err(AllocError) => Err(ReadError::OutOfMemory),
