@@ -63,6 +63,10 @@ verdict_words (verdict.End found) = codes "no end F11 " ++ reason_words found
 abbrev pub verdict_line : Verdict → List ℕ
 verdict_line answer = verdict_words answer ++ codes "\n"
 
+-- the line that is printed of a plan that was carried out: the number of its steps
+abbrev pub applied_line : ℕ → List ℕ
+applied_line steps = codes "applied " ++ (decimal steps ++ codes "\n")
+
 -- the line that is printed of the verdict on a refutation: yes, or no with the number of its first bad line
 abbrev pub refutation_line : Refuted → List ℕ
 refutation_line refuted.Yes = codes "yes\n"

@@ -1,4 +1,5 @@
 pub mod Answer
+pub mod Applied
 pub mod Calls
 pub mod Exit
 pub mod Files

@@ -64,6 +64,13 @@ fn undecided_line(alloc: Global, why: &Undecided) -> Result<Vec<u8>, AllocError>
     }
 }
 
+/// The line that is printed of a plan that was carried out: `applied NUMBER`, with the number of its steps. Memory alone can fail.
+pub fn applied_line(alloc: Global, steps: usize) -> Result<Vec<u8>, AllocError>
+    ensures { IfOk result (λ line. line.items ≡ Spec.applied_line steps) }
+{
+    Ok(format!(in alloc; "applied {steps}\n")?.into_bytes())
+}
+
 /// The line that is printed of a comparison: `yes` or `no`. Memory alone can fail.
 pub fn comparison_line(alloc: Global, answer: bool) -> Result<Vec<u8>, AllocError>
     ensures { IfOk result (λ line. line.items ≡ Spec.comparison_line answer) }

@@ -27,6 +27,15 @@ pub(crate) struct CompareArguments<'a> {
     pub(crate) other: &'a str,
 }
 
+/// Where the journal of a plan is, and where the status file at its end is written.
+#[derive(Clone, Copy)]
+pub(crate) struct Places<'a> {
+    /// The path of the journal.
+    pub(crate) journal: &'a str,
+    /// The path of the output.
+    pub(crate) output: &'a str,
+}
+
 /// What a command line asks for.
 #[derive(Clone, Copy)]
 pub(crate) enum Call<'a> {
@@ -40,6 +49,8 @@ pub(crate) enum Call<'a> {
     CheckPlan(Arguments<'a>),
     /// To judge a refutation.
     CheckRefutation(Arguments<'a>),
+    /// To carry a plan out.
+    Apply(Arguments<'a>, Places<'a>),
 }
 
 /// The words as text, unless one of them isn't UTF-8. Memory alone can fail.
@@ -65,6 +76,7 @@ pub(crate) fn call_of<'a>(alloc: Global, words: &'a [&'a str]) -> Result<Call<'a
         "candidate" => candidate_in(values),
         "solve" => request_in(values),
         "check-refutation" => refutation_in(values),
+        "apply" => applying_in(values),
         _ => plan_in(values),
     };
     call.ok_or_else(|| mistake(
@@ -149,6 +161,14 @@ fn plan_in<'a>(values: &ArgMatches<'a>) -> Option<Call<'a>> {
 
 fn refutation_in<'a>(values: &ArgMatches<'a>) -> Option<Call<'a>> {
     Some(Call::CheckRefutation(judged_in(values, "refutation")?))
+}
+
+fn applying_in<'a>(values: &ArgMatches<'a>) -> Option<Call<'a>> {
+    let places = Places {
+        journal: values.get_str("journal")?,
+        output: values.get_str("output")?,
+    };
+    Some(Call::Apply(judged_in(values, "plan")?, places))
 }
 
 // What a text is to be judged by whose path is the value of this name.

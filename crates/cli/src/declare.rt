@@ -16,16 +16,16 @@ Admitted are, of each package, the installed version, the candidate, and each ve
 names, as in install hello (= 2.10-3); of a held package, the installed version alone.
 
 Exit status:
-  0  yes, a plan, a candidate, or help
+  0  yes, a plan, a candidate, a plan carried out, or help
   1  no, a refutation, or no candidate
   2  undecided: the search gave up, or no order of steps was found
-  3  an input is malformed: standard error names the file, the fault and its place
+  3  an input is malformed, or the journal is another plan's: standard error names the file, the fault and its place
   4  the command line is wrong
-  5  a file can't be read, memory is exhausted, or the answer can't be written";
+  5  a file can't be read, memory is exhausted, or the answer, the journal or the output can't be written";
 
 /// What is said of a command that there is none of, behind what is wrong with it.
 pub(crate) const COMMANDS: &str =
-    "Commands: compare, candidate, solve, check-plan, check-refutation, help\n";
+    "Commands: compare, candidate, solve, check-plan, check-refutation, apply, help\n";
 
 /// The command line of the program. Memory alone can fail.
 pub(crate) fn program<'a>(alloc: Global) -> Result<Command<'a>, AllocError> {
@@ -41,7 +41,8 @@ pub(crate) fn program<'a>(alloc: Global) -> Result<Command<'a>, AllocError> {
     let program = with(program, candidate(alloc))?;
     let program = with(program, solve(alloc))?;
     let program = with(program, check_plan(alloc))?;
-    with(program, check_refutation(alloc))
+    let program = with(program, check_refutation(alloc))?;
+    with(program, apply(alloc))
 }
 
 // The command of this name, which does this.
@@ -111,6 +112,25 @@ fn check_refutation<'a>(alloc: Global) -> Result<Command<'a>, AllocError> {
         "refutation",
         "REFUTATION",
     ).help("The refutation, with a premise or a derived clause on each line"))
+}
+
+fn apply<'a>(alloc: Global) -> Result<Command<'a>, AllocError> {
+    let command = named(
+        alloc,
+        "apply",
+        "Carry a good plan out on the status database, by a journal, and write the status file at its end",
+    );
+    with_options(alloc, command)?
+        .arg(request(alloc))?
+        .arg(option(alloc, "journal", "FILE").help(
+            "The journal of the plan: made where there is none, and gone on with where the plan was begun",
+        ))?
+        .arg(option(alloc, "output", "FILE").help(
+            "Where the status file at the end of the plan is written, whole and in one go",
+        ))?
+        .arg(word(alloc, "plan", "PLAN").help(
+            "The plan, with an action on each line",
+        ))
 }
 
 fn request<'a>(alloc: Global) -> Arg<'a> {

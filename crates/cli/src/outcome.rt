@@ -1,16 +1,24 @@
 // What the program prints, and on which stream.
-ghost use Rattle.std.specs.Prelude.{◌≡◌, IfOk};
+ghost use Rattle.std.specs.Prelude.{◌≡◌, ℕ, IfOk, List};
+ghost use Rattle.cli.specs.Answer.{applied_line};
+ghost use Rattle.cli.specs.declared.exit.Exit.TheVariants as exit;
+ghost use Rattle.cli.specs.Applied.{IsUnwritten};
+ghost use Rattle.cli.specs.Exit.{exit_of_apply_refusal};
+ghost use Rattle.cli.specs.declared.outcome.Outcome.TheVariants as found;
 ghost use Rattle.cli.specs.Outcome.{IsComplaint, IsOutcomeOf, IsOutcomeOfCandidate, IsOutcomeOfComparison, IsOutcomeOfRefusal, IsOutcomeOfRefutation, IsOutcomeOfSolved};
 
-use crate::answer::{candidate_line, comparison_line, refutation_line, solved_text, verdict_line};
+use crate::answer::{applied_line, candidate_line, comparison_line, refutation_line, solved_text, verdict_line};
 use crate::declare::COMMANDS;
 use crate::exit::{
-    Exit, exit_of_candidate, exit_of_comparison, exit_of_refusal, exit_of_refutation,
+    Exit, exit_of_apply_refusal, exit_of_candidate, exit_of_comparison, exit_of_refusal, exit_of_refutation,
     exit_of_solved, exit_of_verdict,
 };
+use apply::BeginError;
+use apply_engine::{ApplyRefusal, JournalFault};
 use clap::Error;
 use clap::error::ErrorKind;
 use cli_engine::{Candidate, Refusal, RefutationVerdict, Solved};
+use journal::{CreateError, OpenError};
 use rules::{Items, Verdict};
 use std::alloc::{AllocError, Global};
 
@@ -123,6 +131,52 @@ fn refusal_line(alloc: Global, refusal: &Refusal) -> Result<Vec<u8>, AllocError>
 {
     let refusal = refusal.to_string(alloc)?;
     Ok(format!(in alloc; "debplan: {refusal}\n")?.into_bytes())
+}
+
+/// What is printed of a plan that is neither judged a bad one nor carried out. Memory alone can fail.
+pub(crate) fn outcome_of_apply_refusal(
+    alloc: Global,
+    refusal: &ApplyRefusal,
+) -> Result<Outcome, AllocError>
+    ensures { IfOk result (λ outcome. (line : List ℕ)
+        × (outcome ≡ found.Complaint line (exit_of_apply_refusal refusal.now)) × IsComplaint line) }
+{
+    if is_for_memory(refusal) {
+        return Err(AllocError);
+    }
+    let refused = refusal.to_string(alloc)?;
+    let line = Items::new(format!(in alloc; "debplan: {refused}\n")?.into_bytes());
+    Ok(Outcome::Complaint(line, exit_of_apply_refusal(refusal)))
+}
+
+/// What is printed of an output that couldn't be written. Memory alone can fail.
+pub(crate) fn outcome_of_unwritten(alloc: Global) -> Result<Outcome, AllocError>
+    ensures { IfOk result IsUnwritten }
+{
+    let line = Items::new(b"debplan: output: E26 Write\n".to_vec(alloc)?);
+    Ok(Outcome::Complaint(line, Exit::Device))
+}
+
+/// What is printed of a plan of so many steps that was carried out. Memory alone can fail.
+pub(crate) fn outcome_of_steps(alloc: Global, steps: usize) -> Result<Outcome, AllocError>
+    ensures { IfOk result (λ outcome. outcome ≡ found.Answer (applied_line steps) exit.Success) }
+{
+    let line = Items::new(applied_line(alloc, steps)?);
+    Ok(Outcome::Answer(line, Exit::Success))
+}
+
+// Whether memory was wanting for the journal: then no text is refused.
+fn is_for_memory(refusal: &ApplyRefusal) -> bool {
+    match refusal {
+        ApplyRefusal::Journal(JournalFault::OutOfMemory) => true,
+        ApplyRefusal::Journal(JournalFault::NotBegun(BeginError::NotCreated(e))) => {
+            *e == CreateError::OutOfMemory
+        }
+        ApplyRefusal::Journal(JournalFault::NotBegun(BeginError::NotOpened(e))) => {
+            *e == OpenError::OutOfMemory
+        }
+        _ => false,
+    }
 }
 
 /// What is printed of words that ask for help or are wrong. Memory alone can fail.
