@@ -37,7 +37,7 @@ IsUnwritten found = found ≡ outcome.Complaint (codes "debplan: output: E26 Wri
 abbrev pub IsOutcomeOfDone : ℕ → List ℕ → List ℕ → Files → Option Files → Outcome → Type 0
 IsOutcomeOfDone steps status output old new found =
     ((found ≡ outcome.Answer (applied_line steps) exit.Success)
-        × ((after : Files) × (new ≡ Some after) × HasPut output status old after))
+    × ((after : Files) × (new ≡ Some after) × HasPut output status old after))
     ⊎ (IsUnwritten found × (new ≡ Some old))
 
 -- the outcome is that of what is said of the plan; a file is written only where it was carried out

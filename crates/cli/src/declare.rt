@@ -128,9 +128,7 @@ fn apply<'a>(alloc: Global) -> Result<Command<'a>, AllocError> {
         .arg(option(alloc, "output", "FILE").help(
             "Where the status file at the end of the plan is written, whole and in one go",
         ))?
-        .arg(word(alloc, "plan", "PLAN").help(
-            "The plan, with an action on each line",
-        ))
+        .arg(word(alloc, "plan", "PLAN").help("The plan, with an action on each line"))
 }
 
 fn request<'a>(alloc: Global) -> Arg<'a> {

@@ -73,6 +73,7 @@ pub trait Host {
 /// A host that is lent.
 impl<H: Host> Host for &mut H {
     type Text = H::Text;
+
     type Journal = H::Journal;
 
     ghost files = { λ host. H.files host.now };

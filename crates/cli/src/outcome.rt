@@ -7,11 +7,13 @@ ghost use Rattle.cli.specs.Exit.{exit_of_apply_refusal};
 ghost use Rattle.cli.specs.declared.outcome.Outcome.TheVariants as found;
 ghost use Rattle.cli.specs.Outcome.{IsComplaint, IsOutcomeOf, IsOutcomeOfCandidate, IsOutcomeOfComparison, IsOutcomeOfRefusal, IsOutcomeOfRefutation, IsOutcomeOfSolved};
 
-use crate::answer::{applied_line, candidate_line, comparison_line, refutation_line, solved_text, verdict_line};
+use crate::answer::{
+    applied_line, candidate_line, comparison_line, refutation_line, solved_text, verdict_line,
+};
 use crate::declare::COMMANDS;
 use crate::exit::{
-    Exit, exit_of_apply_refusal, exit_of_candidate, exit_of_comparison, exit_of_refusal, exit_of_refutation,
-    exit_of_solved, exit_of_verdict,
+    Exit, exit_of_apply_refusal, exit_of_candidate, exit_of_comparison, exit_of_refusal,
+    exit_of_refutation, exit_of_solved, exit_of_verdict,
 };
 use apply::BeginError;
 use apply_engine::{ApplyRefusal, JournalFault};

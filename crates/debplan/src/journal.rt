@@ -6,10 +6,9 @@ ghost use Rattle.disk.specs.Facts.{nothing_known};
 use crate::output::{sync_folder, text_of};
 use disk::{Disk, Failed, FileDisk};
 use std::alloc::{AllocError, Global};
-use std::fs;
 use std::fs::{File, OpenOptions, TryLockError};
-use std::io;
 use std::io::ErrorKind;
+use std::{fs, io};
 
 /// The file of a journal, which the first call opens. It doesn't say that it is honest: what a machine's file does in a crash is
 /// outside of what a contract can know.

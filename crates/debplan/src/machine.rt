@@ -76,6 +76,7 @@ impl<'a> Machine<'a> {
 
 impl<'a> Host for Machine<'a> {
     type Text = Opened;
+
     type Journal = JournalFile<'a>;
 
     ghost faults = { λ machine. machine.failures };

@@ -4,10 +4,9 @@ ghost use Rattle.std.specs.Prelude.{◌≡◌};
 
 use cli::PutError;
 use std::alloc::{AllocError, Global};
-use std::fs;
 use std::fs::{File, Metadata};
-use std::io;
 use std::io::{ErrorKind, Write};
+use std::{fs, io};
 
 /// Puts the text in the place of the file at the path, or makes the file. What is no plain file, as a device or a pipe, is written
 /// as it stands; a link stays, and the file that it leads to is replaced.

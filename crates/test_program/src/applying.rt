@@ -6,7 +6,8 @@ use rows::unescaped;
 use std::alloc::{AllocError, Global};
 use std::test::Fail;
 
-const APPLY: &str = "debplan apply --arch amd64 --status status --sources sources --request request \
+const APPLY: &str =
+    "debplan apply --arch amd64 --status status --sources sources --request request \
 --journal journal --output output plan";
 
 const INDEX: &str = "\

@@ -6,9 +6,9 @@ ghost use Rattle.inputs.specs.declared.shelf.ReadError.TheVariants as ReadError;
 use crate::memory::Memory;
 use crate::scenario::add_plan;
 use cli::{
-    Candidate, Exit, Fault, Host, HostShelf, Input, Outcome, Paths, PutError, ReadError, Refusal, Settings,
-    Source, candidate_line, check_plan, exit_of_candidate, exit_of_refusal, exit_of_verdict,
-    find_candidate, outcome_of_answer, outcome_of_candidate, verdict_line,
+    Candidate, Exit, Fault, Host, HostShelf, Input, Outcome, Paths, PutError, ReadError, Refusal,
+    Settings, Source, candidate_line, check_plan, exit_of_candidate, exit_of_refusal,
+    exit_of_verdict, find_candidate, outcome_of_answer, outcome_of_candidate, verdict_line,
 };
 use disk::MemoryDisk;
 use rules::Verdict;
@@ -38,6 +38,7 @@ impl OneFile<'_> {
 
 impl<'a> Host for OneFile<'a> {
     type Text = &'a [u8];
+
     type Journal = MemoryDisk;
 
     ghost files = { λ host. Some (λ path. if bytes_eq path host.path.now then Some host.text.now else None) };

@@ -132,6 +132,7 @@ impl Source for Opened {
 
 impl Host for Memory<'_> {
     type Text = Opened;
+
     type Journal = MemoryDisk;
 
     ghost faults = { λ host. host.failures };

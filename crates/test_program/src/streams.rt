@@ -111,6 +111,7 @@ struct Exhausted;
 
 impl Host for Exhausted {
     type Text = &'static [u8];
+
     type Journal = MemoryDisk;
 
     ghost faults = { λ _. 0 };
@@ -181,6 +182,7 @@ struct Worn {
 
 impl Host for Worn {
     type Text = Broken;
+
     type Journal = MemoryDisk;
 
     ghost faults = { λ host. host.failures };

@@ -19,10 +19,7 @@ fn ended(text: Vec<u8>) -> Result<Vec<u8>, AllocError>
 }
 
 /// The texts, each with a newline at its end. Memory alone can fail.
-pub(crate) fn all_ended(
-    alloc: Global,
-    texts: Vec<Vec<u8>>,
-) -> Result<Vec<Vec<u8>>, AllocError>
+pub(crate) fn all_ended(alloc: Global, texts: Vec<Vec<u8>>) -> Result<Vec<Vec<u8>>, AllocError>
     ensures { IfOk result (λ whole. map (λ text. text.items) whole.items ≡ map (λ text. ended text.items) texts.items) }
 {
     let mut all = Vec::new(alloc);
