@@ -1,14 +1,13 @@
 //! The request, and the universe that it is answered from.
-ghost use Rattle.std.specs.Prelude.{◌≡◌, ◌≢◌, ◌<◌, ◌^◌, IfErr, IfOk, List, Ok, Some, length, map};
+ghost use Rattle.std.specs.Prelude.{◌≡◌, ◌≢◌, ◌<◌, ◌^◌, IfErr, IfOk, Ok, Some, length, map};
 ghost use Rattle.candidates.specs.Inputs.{indices_of, inputs_of};
+ghost use Rattle.rules.specs.Available.{Request as RequestOf};
 ghost use Rattle.rules.specs.Database.{HasDistinctNames};
 ghost use Rattle.rules.specs.FileRecord.{records_of};
 ghost use Rattle.rules.specs.Universe.{IsUniverse};
 ghost use Rattle.rules.specs.Verdict.{IsBuiltOn};
-ghost use Rattle.rules.specs.declared.goal.GoalLine.{GoalLine as LineOf};
 ghost use Rattle.status_store.specs.Slots.{slot_records};
 ghost use Rattle.universe.specs.Universe.{HaveDistinctNames};
-ghost use Rattle.universe_build.specs.Build.{goals_of};
 ghost use Rattle.universe_build.specs.Error.{IsBuilt};
 ghost use Rattle.universe_request.specs.Request as Read;
 ghost use Rattle.inputs.specs.Before.{AreRead};
@@ -25,7 +24,7 @@ use crate::shelf::{Part, Shelf};
 use crate::texts::read_part;
 use index::Index;
 use pins::Prefs;
-use rules::{GoalLine, universe_is_built};
+use rules::universe_is_built;
 use status_record::FileRecord;
 use status_store::Database;
 use std::alloc::Global;
@@ -33,35 +32,43 @@ use universe::Universe;
 use universe_build::{UniverseError, build};
 use universe_request::{Request, RequestError};
 
-// The goals of a request.
-fn goals_in(alloc: Global, text: &[u8], arch: &[u8]) -> Result<Vec<GoalLine>, Fault>
-    ensures ok { IfOk result (λ goals. with_fault fault.Request (Read.read_request arch.now text.now) ≡ Ok goals.items) }
+// What the text of a request is read as.
+fn request_in(alloc: Global, text: &[u8], arch: &[u8]) -> Result<Request, Fault>
+    ensures ok { IfOk result (λ request. with_fault fault.Request (Read.read_request arch.now text.now) ≡ Ok request) }
     ensures err { IfErr result (λ f. IsFaultOf (with_fault fault.Request (Read.read_request arch.now text.now)) f) }
     ensures known { IfErr result (λ f. f ≢ fault.Read) }
 {
     match Request::read(alloc, text, arch) {
-        Ok(request) => Ok(request.into_vec()),
+        Ok(request) => Ok(request),
         Err(RequestError::Refused(refused)) => Err(Fault::Request(refused)),
         Err(RequestError::OutOfMemory) => Err(Fault::OutOfMemory),
     }
 }
 
-// Builds the universe of the goals.
+// Builds the universe of the request.
 fn built<'p, 'a>(
     alloc: Global,
     start: &[&FileRecord<'a>],
     indices: &'p [Index<'a>],
     prefs: &Prefs,
-    lines: Vec<GoalLine>,
+    request: Request,
 ) -> Result<Universe<'p, 'a>, Fault>
     requires { HasDistinctNames (records_of (map (λ r. r.now) start.now)) }
     ensures ok { IfOk result (λ u.
-        IsBuilt (records_of (map (λ r. r.now) start.now)) (indices_of indices.now) prefs.now lines.items u) }
+        IsBuilt (records_of (map (λ r. r.now) start.now)) (indices_of indices.now) prefs.now request.goals request.asks_all_versions u) }
     ensures err { IfErr result (λ f. OrMemory
-        (IsBuildFault (records_of (map (λ r. r.now) start.now)) (indices_of indices.now) prefs.now lines.items) f) }
+        (IsBuildFault (records_of (map (λ r. r.now) start.now)) (indices_of indices.now) prefs.now request) f) }
     ensures known { IfErr result (λ f. f ≢ fault.Read) }
 {
-    match build(alloc, start, indices, prefs, lines) {
+    let asks_all_versions = request.asks_all_versions();
+    match build(
+        alloc,
+        start,
+        indices,
+        prefs,
+        request.into_vec(),
+        asks_all_versions,
+    ) {
         Ok(universe) => Ok(universe),
         Err(UniverseError::UnknownName(line)) => Err(Fault::UnknownName(line)),
         Err(UniverseError::TooLarge) => Err(Fault::TooLarge),
@@ -79,14 +86,14 @@ fn universe_in<'p, 'a>(
     arch: &[u8],
 ) -> Result<Universe<'p, 'a>, Fault>
     requires { HasDistinctNames (records_of (map (λ r. r.now) start.now)) }
-    ensures ok { IfOk result (λ u. (lines : List LineOf)
-        × IsRequested arch.now (Some text.now) (records_of (map (λ r. r.now) start.now)) (indices_of indices.now) prefs.now lines u) }
+    ensures ok { IfOk result (λ u. (asked : Read.ReadRequest)
+        × IsRequested arch.now (Some text.now) (records_of (map (λ r. r.now) start.now)) (indices_of indices.now) prefs.now asked u) }
     ensures err { IfErr result (λ f. OrMemory
         (IsRequestFault arch.now (Some text.now) (records_of (map (λ r. r.now) start.now)) (indices_of indices.now) prefs.now) f) }
     ensures known { IfErr result (λ f. f ≢ fault.Read) }
 {
-    let lines = goals_in(alloc, text, arch)?;
-    let universe = built(alloc, start, indices, prefs, lines)?;
+    let request = request_in(alloc, text, arch)?;
+    let universe = built(alloc, start, indices, prefs, request)?;
     Ok(universe)
 }
 
@@ -103,8 +110,8 @@ fn universe_over<'p, 'a>(
         → AreRead (texts_of settings.now at) (slot_records database.now.slots) (indices_of indices.now) prefs.now
         → IfOk result (λ u. Denotes (texts_of settings.now at) u (slot_records database.now.slots)) }
     ensures built { IfOk result (λ u. IsBuiltOn (slot_records database.now.slots) u) }
-    ensures universe { IfOk result (λ u. (lines : List LineOf)
-        × IsUniverse (inputs_of (slot_records database.now.slots) (indices_of indices.now) prefs.now (goals_of lines)) u) }
+    ensures universe { IfOk result (λ u. (request : RequestOf)
+        × IsUniverse (inputs_of (slot_records database.now.slots) (indices_of indices.now) prefs.now request) u) }
     ensures start { IfOk result (λ _. HasDistinctNames (slot_records database.now.slots)) }
     ensures few { IfOk result (λ u. length u.pairs < 2 ^ 32) }
     ensures distinct { IfOk result (λ u. HaveDistinctNames u.starts) }
@@ -142,8 +149,8 @@ pub fn read_universe<'p, 'a, S: Shelf>(
         → AreRead (texts_of settings.now at) (slot_records database.now.slots) (indices_of indices.now) prefs.now
         → IfOk result (λ u. Denotes (texts_of settings.now at) u (slot_records database.now.slots)) }
     ensures built { IfOk result (λ u. IsBuiltOn (slot_records database.now.slots) u) }
-    ensures universe { IfOk result (λ u. (lines : List LineOf)
-        × IsUniverse (inputs_of (slot_records database.now.slots) (indices_of indices.now) prefs.now (goals_of lines)) u) }
+    ensures universe { IfOk result (λ u. (request : RequestOf)
+        × IsUniverse (inputs_of (slot_records database.now.slots) (indices_of indices.now) prefs.now request) u) }
     ensures start { IfOk result (λ _. HasDistinctNames (slot_records database.now.slots)) }
     ensures few { IfOk result (λ u. length u.pairs < 2 ^ 32) }
     ensures distinct { IfOk result (λ u. HaveDistinctNames u.starts) }

@@ -5,7 +5,6 @@ use Rattle.candidates.specs.Inputs.{indices_of, inputs_of}
 use Rattle.plain.proofs.MemberLemmas.{universe_is_counted}
 use Rattle.refutation.proofs.NeededLemmas.{universe_has_needed_pairs}
 use Rattle.status_store.specs.Slots.{slot_records}
-use Rattle.universe_build.specs.Build.{goals_of}
 use Rattle.inputs.specs.Texts.{texts_of}
 use Rattle.cli_engine.proofs.ReadingLemmas.{lent_listed}
 use Rattle.cli_engine.proofs.solve.solve_by.Goals as goal
@@ -42,7 +41,7 @@ returns-clause-answer g c = λ at known started indexed.
 pub solve_over-requires : goal.solve_over-requires
 solve_over-requires g c = λ starts pairs.
     let made = c.in_ok-universe.ensures.universe in
-    let inputs = inputs_of (slot_records c.args.database.now.slots) (indices_of c.as_slice.result.now) c.in_ok-prefs.prefs (goals_of made.0) in
+    let inputs = inputs_of (slot_records c.args.database.now.slots) (indices_of c.as_slice.result.now) c.in_ok-prefs.prefs made.0 in
     let needed = universe_has_needed_pairs inputs c.in_ok-universe.universe c.in_ok-universe.ensures.start made.1 in
     record {
       built = c.in_ok-universe.ensures.built;
