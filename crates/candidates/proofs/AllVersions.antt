@@ -1,5 +1,5 @@
 -- The offers that may be chosen are the versions that are admitted where all versions are asked for.
-use Rattle.std.proofs.Common.{◌≡◌, ℕ, Bool, true, false, List, [], if◌then◌else◌, sym, subst, ◌∙◌}
+use Rattle.std.proofs.Common.{◌≡◌, Bool, true, false, List, [], if◌then◌else◌, sym, subst, ◌∙◌}
 use Rattle.std.specs.List.{Contains}
 use Rattle.pins.specs.Prefs.{Preferences}
 use Rattle.rules.specs.Available.{Index, Request}

@@ -18,7 +18,7 @@ use Rattle.universe.proofs.Finding.{find-some}
 use Rattle.universe.proofs.PairOrder.{is_of-parts}
 use Rattle.candidates.specs.Eligible.{AreEligibleOf, IsOffer}
 use Rattle.candidates.specs.Inputs.{inputs_of}
-use Rattle.candidates.specs.Offer.{IsFor, Offer, eligible, is_eligible}
+use Rattle.candidates.specs.Offer.{IsFor, Offer, is_eligible}
 use Rattle.candidates.specs.Place.{AreSorted, Place, has_place_name, places_of, stanzas_of, with_version}
 use Rattle.candidates.specs.Rated.{AreInOrder, AreRated, IsKept, IsRated, kept_version, origins_among, origins_with}
 use Rattle.candidates.specs.Recorded.{IsByName, is_downgrade, standing_as, standing_version}

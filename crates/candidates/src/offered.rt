@@ -65,8 +65,8 @@ fn offered_at<'p, 'a>(
 
 impl<'s, 'p, 'a> Offered<'s, 'p, 'a> {
     /// What these records of the start, whose names are distinct, and the indices offer where these preferences hold, to a
-    /// request that asks for all versions or doesn't (this project's own, after apt_preferences(5)). About n log n comparisons of n records and stanzas, and for each version what
-    /// `Prefs::priority` costs. Memory alone can fail.
+    /// request that asks for all versions or doesn't (this project's own, after apt_preferences(5)). About n log n
+    /// comparisons of n records and stanzas, and for each version what `Prefs::priority` costs. Memory alone can fail.
     pub fn find(
         alloc: Global,
         start: Vec<Recorded<'s, 'a>>,

@@ -1,5 +1,5 @@
 -- The versions of the name that may be chosen, among its own records and places.
-use Rattle.std.proofs.Common.{◌≡◌, List, map, sym, ap, subst, ◌∙◌}
+use Rattle.std.proofs.Common.{◌≡◌, List, map, ap, subst, ◌∙◌}
 use Rattle.std.specs.List.{filter}
 use Rattle.rules.specs.Database.{Record}
 use Rattle.rules.specs.FileRecord.{records_of}
