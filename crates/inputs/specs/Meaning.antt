@@ -1,5 +1,5 @@
 -- What the texts denote, and what is refused of a request.
-use Rattle.std.specs.Prelude.{◌≡◌, ◌⊎◌, ℕ, List, Result, Ok, Err, None, Some}
+use Rattle.std.specs.Prelude.{◌≡◌, ◌⊎◌, ℕ, Bool, List, Result, Ok, Err, None, Some}
 use Rattle.pins.specs.Prefs.{Preferences}
 use Rattle.rules.specs.Available.{Index, Request, all_listed}
 use Rattle.rules.specs.Database.{Record}
@@ -57,6 +57,11 @@ pub record Denotes (texts : Texts) (u : Universe) (start : List Record) : Type 0
   pub asked : ReadRequest
   pub read : AreRead texts start indices prefs
   pub requested : IsRequested texts.arch texts.request start indices prefs asked u
+
+-- the same, and the request asks for all versions, or doesn't
+pub record DenotesAsked (texts : Texts) (u : Universe) (start : List Record) (asks_all_versions : Bool) : Type 0 where
+  pub denoted : Denotes texts u start
+  pub asks : asks_all_versions ≡ denoted.asked.asks_all_versions
 
 -- the texts before the request are read, and the request has the fault
 pub record IsAsked (texts : Texts) (found : Fault) : Type 0 where

@@ -12,7 +12,7 @@ ghost use Rattle.universe_build.specs.Error.{IsBuilt};
 ghost use Rattle.universe_request.specs.Request as Read;
 ghost use Rattle.inputs.specs.Before.{AreRead};
 ghost use Rattle.inputs.specs.Counting.{CountsRead};
-ghost use Rattle.inputs.specs.Meaning.{Denotes, IsBuildFault, IsRequestFault, IsRequested};
+ghost use Rattle.inputs.specs.Meaning.{Denotes, DenotesAsked, IsBuildFault, IsRequestFault, IsRequested};
 ghost use Rattle.inputs.specs.Reading.{IsFaultOf, OrMemory, with_fault};
 ghost use Rattle.inputs.specs.Refused.{IsRefusal};
 ghost use Rattle.inputs.specs.Texts.{Shelved, texts_of};
@@ -31,6 +31,15 @@ use std::alloc::Global;
 use universe::Universe;
 use universe_build::{UniverseError, build};
 use universe_request::{Request, RequestError};
+
+/// What a request is answered from, and how its answer is written.
+#[derive(Drop)]
+pub struct Requested<'p, 'a> {
+    /// The universe.
+    pub universe: Universe<'p, 'a>,
+    /// Whether the request asks for all versions.
+    pub asks_all_versions: bool,
+}
 
 // What the text of a request is read as.
 fn request_in(alloc: Global, text: &[u8], arch: &[u8]) -> Result<Request, Fault>
@@ -84,17 +93,22 @@ fn universe_in<'p, 'a>(
     prefs: &Prefs,
     text: &[u8],
     arch: &[u8],
-) -> Result<Universe<'p, 'a>, Fault>
+) -> Result<Requested<'p, 'a>, Fault>
     requires { HasDistinctNames (records_of (map (λ r. r.now) start.now)) }
-    ensures ok { IfOk result (λ u. (asked : Read.ReadRequest)
-        × IsRequested arch.now (Some text.now) (records_of (map (λ r. r.now) start.now)) (indices_of indices.now) prefs.now asked u) }
+    ensures ok { IfOk result (λ found. (asked : Read.ReadRequest)
+        × IsRequested arch.now (Some text.now) (records_of (map (λ r. r.now) start.now)) (indices_of indices.now) prefs.now asked found.universe
+        × (found.asks_all_versions ≡ asked.asks_all_versions)) }
     ensures err { IfErr result (λ f. OrMemory
         (IsRequestFault arch.now (Some text.now) (records_of (map (λ r. r.now) start.now)) (indices_of indices.now) prefs.now) f) }
     ensures known { IfErr result (λ f. f ≢ fault.Read) }
 {
     let request = request_in(alloc, text, arch)?;
+    let asks_all_versions = request.asks_all_versions();
     let universe = built(alloc, start, indices, prefs, request)?;
-    Ok(universe)
+    Ok(Requested {
+        universe,
+        asks_all_versions,
+    })
 }
 
 // The universe that the request with this text is answered from, over what the texts before it are read as.
@@ -105,16 +119,17 @@ fn universe_over<'p, 'a>(
     indices: &'p [Index<'a>],
     prefs: &Prefs,
     text: &[u8],
-) -> Result<Universe<'p, 'a>, Refusal>
+) -> Result<Requested<'p, 'a>, Refusal>
     ensures ok { (at : Shelved) → at.request ≡ Some text.now
         → AreRead (texts_of settings.now at) (slot_records database.now.slots) (indices_of indices.now) prefs.now
-        → IfOk result (λ u. Denotes (texts_of settings.now at) u (slot_records database.now.slots)) }
-    ensures built { IfOk result (λ u. IsBuiltOn (slot_records database.now.slots) u) }
-    ensures universe { IfOk result (λ u. (request : RequestOf)
-        × IsUniverse (inputs_of (slot_records database.now.slots) (indices_of indices.now) prefs.now request) u) }
+        → IfOk result (λ found.
+        DenotesAsked (texts_of settings.now at) found.universe (slot_records database.now.slots) found.asks_all_versions) }
+    ensures built { IfOk result (λ found. IsBuiltOn (slot_records database.now.slots) found.universe) }
+    ensures universe { IfOk result (λ found. (request : RequestOf)
+        × IsUniverse (inputs_of (slot_records database.now.slots) (indices_of indices.now) prefs.now request) found.universe) }
     ensures start { IfOk result (λ _. HasDistinctNames (slot_records database.now.slots)) }
-    ensures few { IfOk result (λ u. length u.pairs < 2 ^ 32) }
-    ensures distinct { IfOk result (λ u. HaveDistinctNames u.starts) }
+    ensures few { IfOk result (λ found. length found.universe.pairs < 2 ^ 32) }
+    ensures distinct { IfOk result (λ found. HaveDistinctNames found.universe.starts) }
     ensures refused { (at : Shelved) → at.request ≡ Some text.now
         → AreRead (texts_of settings.now at) (slot_records database.now.slots) (indices_of indices.now) prefs.now
         → IfErr result (λ refused. IsRefusal (texts_of settings.now at) refused) }
@@ -131,9 +146,38 @@ fn universe_over<'p, 'a>(
         text,
         settings.arch,
     ) {
-        Ok(universe) => Ok(universe),
+        Ok(found) => Ok(found),
         Err(fault) => Err(refused_at(Input::Request, fault)),
     }
+}
+
+/// The universe that the request is answered from, over what the texts before it are read as, and whether it asks for all versions.
+pub fn read_requested<'p, 'a, S: Shelf>(
+    alloc: Global,
+    shelf: &mut S,
+    settings: &Settings<'_>,
+    database: &Database<'a>,
+    indices: &'p [Index<'a>],
+    prefs: &Prefs,
+) -> Result<Requested<'p, 'a>, Refusal>
+    ensures ok { (at : Shelved) → S.found shelf.old ≡ Some at
+        → AreRead (texts_of settings.now at) (slot_records database.now.slots) (indices_of indices.now) prefs.now
+        → IfOk result (λ found.
+        DenotesAsked (texts_of settings.now at) found.universe (slot_records database.now.slots) found.asks_all_versions) }
+    ensures built { IfOk result (λ found. IsBuiltOn (slot_records database.now.slots) found.universe) }
+    ensures universe { IfOk result (λ found. (request : RequestOf)
+        × IsUniverse (inputs_of (slot_records database.now.slots) (indices_of indices.now) prefs.now request) found.universe) }
+    ensures start { IfOk result (λ _. HasDistinctNames (slot_records database.now.slots)) }
+    ensures few { IfOk result (λ found. length found.universe.pairs < 2 ^ 32) }
+    ensures distinct { IfOk result (λ found. HaveDistinctNames found.universe.starts) }
+    ensures refused { (at : Shelved) → S.found shelf.old ≡ Some at
+        → AreRead (texts_of settings.now at) (slot_records database.now.slots) (indices_of indices.now) prefs.now
+        → IfErr result (λ refused. IsRefusal (texts_of settings.now at) refused) }
+    ensures same { S.found shelf.new ≡ S.found shelf.old }
+    ensures count { CountsRead result (S.faults shelf.old) (S.faults shelf.new) }
+{
+    let text = read_part(alloc, shelf, Part::Request, Input::Request)?;
+    universe_over(alloc, settings, database, indices, prefs, text.as_slice())
 }
 
 /// The universe that the request is answered from, over what the texts before it are read as.
@@ -160,6 +204,8 @@ pub fn read_universe<'p, 'a, S: Shelf>(
     ensures same { S.found shelf.new ≡ S.found shelf.old }
     ensures count { CountsRead result (S.faults shelf.old) (S.faults shelf.new) }
 {
-    let text = read_part(alloc, shelf, Part::Request, Input::Request)?;
-    universe_over(alloc, settings, database, indices, prefs, text.as_slice())
+    let Requested { universe, .. } = read_requested(
+        alloc, shelf, settings, database, indices, prefs,
+    )?;
+    Ok(universe)
 }
