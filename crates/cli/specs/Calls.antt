@@ -23,7 +23,7 @@ use Rattle.inputs.specs.declared.refusal.Refusal.{Refusal}
 use Rattle.refutecheck.specs.declared.verdict.Verdict.{Verdict as Refuted}
 use Rattle.rules.specs.Version.{version_cmp}
 use Rattle.rules.specs.declared.step.Verdict.{Verdict}
-use Rattle.solver.specs.declared.solved.Solved.{Solved}
+use Rattle.cli_engine.specs.declared.solve.Answered.{Answered}
 
 -- the texts that the files have for these arguments
 abbrev pub texts_at : Files → Arguments → Texts
@@ -49,7 +49,7 @@ IsOutcomeOfName files arguments name found = (said : Result (Option Offer) Refus
 
 -- the outcome is that of what is said of the request by the files
 abbrev pub IsOutcomeOfRequest : Files → Arguments → ℕ → Outcome → Type 0
-IsOutcomeOfRequest files arguments limit found = (said : Result Solved Refusal)
+IsOutcomeOfRequest files arguments limit found = (said : Result Answered Refusal)
     × IsSaidOfRequest (texts_at files arguments) limit said × IsOutcomeOfSolved said found
 
 -- the outcome is that of what is said of the plan by the files

@@ -23,7 +23,8 @@ pub use answer::{
 pub use apply::apply;
 pub use apply_engine::{Applied, ApplyRefusal, CarriedOut, JournalFault};
 pub use cli_engine::{
-    Candidate, Comparison, Fault, Input, Refusal, RefutationVerdict, Settings, Solved, Undecided,
+    Answered, Candidate, Comparison, Fault, Input, Refusal, RefutationVerdict, Settings, Solved,
+    Undecided,
 };
 pub use exit::{
     Exit, exit_of_apply_refusal, exit_of_candidate, exit_of_comparison, exit_of_refusal,

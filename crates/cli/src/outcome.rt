@@ -19,7 +19,7 @@ use apply::BeginError;
 use apply_engine::{ApplyRefusal, JournalFault};
 use clap::Error;
 use clap::error::ErrorKind;
-use cli_engine::{Candidate, Refusal, RefutationVerdict, Solved};
+use cli_engine::{Answered, Candidate, Refusal, RefutationVerdict};
 use journal::{CreateError, OpenError};
 use rules::{Items, Verdict};
 use std::alloc::{AllocError, Global};
@@ -71,14 +71,14 @@ pub fn outcome_of_refutation(
 /// can fail.
 pub fn outcome_of_solved(
     alloc: Global,
-    answer: &Result<Solved, Refusal>,
+    answer: &Result<Answered, Refusal>,
 ) -> Result<Outcome, AllocError>
     ensures { IfOk result (λ outcome. IsOutcomeOfSolved answer.now outcome) }
 {
     match answer {
-        Ok(solved) => {
-            let text = Items::new(solved_text(alloc, solved)?);
-            Ok(Outcome::Answer(text, exit_of_solved(solved)))
+        Ok(found) => {
+            let text = Items::new(solved_text(alloc, found)?);
+            Ok(Outcome::Answer(text, exit_of_solved(&found.solved)))
         }
         Err(refusal) => outcome_of_refusal(alloc, refusal),
     }
