@@ -17,7 +17,8 @@ const VERSION_AND_TOOLCHAIN: &str = "0.1.0\ntoolchain: rattle-kit-13f logic dac8
 const ANSWERS: &str =
     "A refutation shows that no choice among the admitted versions fulfils the request.
 Admitted are, of each package, the installed version, the candidate, and each version that a goal
-names, as in install hello (= 2.10-3); of a held package, the installed version alone.
+names, as in install hello (= 2.10-3); where the request has a line all-versions, each version that
+may become the candidate; of a held package, the installed version alone.
 
 Exit status:
   0  yes, a plan, a candidate, a plan carried out, or help
