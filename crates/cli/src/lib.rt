@@ -4,8 +4,8 @@
 #![tactic(auto)]
 
 mod answer;
-mod apply;
 mod arguments;
+mod carry_out;
 mod declare;
 mod exit;
 mod files;
@@ -20,8 +20,8 @@ mod solve;
 pub use answer::{
     applied_line, candidate_line, comparison_line, refutation_line, solved_text, verdict_line,
 };
-pub use apply::apply;
 pub use apply_engine::{Applied, ApplyRefusal, CarriedOut, JournalFault};
+pub use carry_out::apply;
 pub use cli_engine::{
     Answered, Candidate, Comparison, Fault, Input, Refusal, RefutationVerdict, Settings, Solved,
     Undecided,

@@ -6,8 +6,8 @@ ghost use Rattle.cli.specs.Files.{Files};
 ghost use Rattle.cli.specs.Outcome.{IsWritten};
 ghost use Rattle.cli.specs.declared.outcome.Outcome.{Outcome as Found};
 
-use crate::apply::apply;
 use crate::arguments::{Arguments, Call, CompareArguments, Places, call_of, mistake, texts_of};
+use crate::carry_out::apply;
 use crate::exit::Exit;
 use crate::files::HostShelf;
 use crate::find::find_candidate;

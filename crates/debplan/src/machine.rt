@@ -3,7 +3,7 @@ ghost use Rattle.std.specs.Prelude.{◌≡◌, ◌≤◌, IfOk, length};
 ghost use Rattle.inputs.specs.Counting.{one_more};
 ghost use Rattle.inputs.specs.declared.shelf.ReadError.TheVariants as ReadError;
 
-use crate::journal::JournalFile;
+use crate::journal_file::JournalFile;
 use crate::output::put_text;
 use cli::{Host, PutError, ReadError, ReadFailed, Source};
 use rules::TEXT_BYTES;

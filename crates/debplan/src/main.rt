@@ -1,7 +1,7 @@
 //! The program `debplan`: `cli::run` over the machine's own files, with its words and its streams.
 #![tactic(auto)]
 
-mod journal;
+mod journal_file;
 mod machine;
 mod output;
 mod words;
