@@ -1,5 +1,5 @@
 -- The limit of a search, as a word of the command line.
-use Rattle.std.specs.Prelude.{◌==◌, ◌&&◌, ◌^◌, ℕ, Bool, List, [], ◌∷◌, Option, Some, None, false, length, nat_lt, if◌then◌else◌}
+use Rattle.std.specs.Prelude.{◌==◌, ◌&&◌, ◌^◌, ℕ, Bool, [], ◌∷◌, Option, Some, None, false, length, nat_lt, if◌then◌else◌}
 use Rattle.std.specs.Char.{is_ascii_digit}
 use Rattle.std.specs.List.{list_all}
 use Rattle.std.specs.Str.Parse.{digits_value}

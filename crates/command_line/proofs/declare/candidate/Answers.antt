@@ -1,4 +1,4 @@
-use Rattle.std.proofs.Common.{◌++◌, [], ◌∷◌, codes}
+use Rattle.std.proofs.Common.{codes}
 use Rattle.command_line.specs.Program.{options, word}
 use Rattle.command_line.proofs.DeclareLemmas.{more}
 use Rattle.command_line.proofs.declare.candidate.Goals as goal

@@ -1,4 +1,3 @@
-use Rattle.std.proofs.Common.{codes}
 use Rattle.command_line.specs.Program.{apply_command, candidate_command, check_plan_command, check_refutation_command, compare_command, debplan_app, solve_command}
 use Rattle.command_line.proofs.DeclareLemmas.{also, begun}
 use Rattle.command_line.proofs.declare.program.Goals as goal

@@ -1,4 +1,4 @@
-use Rattle.std.proofs.Common.{◌++◌, [], ◌∷◌, codes}
+use Rattle.std.proofs.Common.{[], ◌∷◌, codes}
 use Rattle.command_line.specs.Program.{option, optional}
 use Rattle.command_line.proofs.DeclareLemmas.{more}
 use Rattle.command_line.proofs.declare.with_options.Goals as goal

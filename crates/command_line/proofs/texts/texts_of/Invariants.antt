@@ -1,4 +1,4 @@
-use Rattle.std.proofs.Common.{◌≡◌, ◌++◌, List, drop, map}
+use Rattle.std.proofs.Common.{◌≡◌, ◌++◌, drop, map}
 use Rattle.std.specs.List.{All}
 use Rattle.std.specs.Prelude.{IsUtf8}
 use Rattle.command_line.proofs.texts.texts_of.Given as goal
