@@ -6,7 +6,6 @@
 mod answer;
 mod apply;
 mod arguments;
-mod declare;
 mod exit;
 mod files;
 mod find;
