@@ -4,3 +4,4 @@ pub mod Calls
 pub mod Exit
 pub mod Files
 pub mod Outcome
+pub mod Words

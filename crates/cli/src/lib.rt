@@ -6,7 +6,6 @@
 mod answer;
 mod arguments;
 mod carry_out;
-mod declare;
 mod exit;
 mod files;
 mod find;

@@ -1,5 +1,7 @@
 // What the program prints, and on which stream.
-ghost use Rattle.std.specs.Prelude.{◌≡◌, ℕ, IfOk, List};
+ghost use Rattle.std.specs.Prelude.{◌≡◌, ◌≢◌, ℕ, IfOk, List};
+ghost use Rattle.clap.specs.Values.{kind_of};
+ghost use Rattle.cli.specs.Words.{IsOutcomeOfKind};
 ghost use Rattle.cli.specs.Answer.{applied_line};
 ghost use Rattle.cli.specs.declared.exit.Exit.TheVariants as exit;
 ghost use Rattle.cli.specs.Applied.{IsUnwritten};
@@ -10,7 +12,6 @@ ghost use Rattle.cli.specs.Outcome.{IsComplaint, IsOutcomeOf, IsOutcomeOfCandida
 use crate::answer::{
     applied_line, candidate_line, comparison_line, refutation_line, solved_text, verdict_line,
 };
-use crate::declare::COMMANDS;
 use crate::exit::{
     Exit, exit_of_apply_refusal, exit_of_candidate, exit_of_comparison, exit_of_refusal,
     exit_of_refutation, exit_of_solved, exit_of_verdict,
@@ -20,6 +21,7 @@ use apply_engine::{ApplyRefusal, JournalFault};
 use clap::Error;
 use clap::error::ErrorKind;
 use cli_engine::{Answered, Candidate, Refusal, RefutationVerdict};
+use command_line::COMMANDS;
 use journal::{CreateError, OpenError};
 use rules::{Items, Verdict};
 use std::alloc::{AllocError, Global};
@@ -182,23 +184,23 @@ fn is_for_memory(refusal: &ApplyRefusal) -> bool {
 }
 
 /// What is printed of words that ask for help or are wrong. Memory alone can fail.
-pub(crate) fn outcome_of_usage(alloc: Global, error: &Error) -> Result<Outcome, AllocError> {
-    if error.kind() == ErrorKind::OutOfMemory {
-        return Err(AllocError);
-    }
-    let text = Items::new(usage_text(alloc, error)?.into_bytes());
-    if error.use_stderr() {
-        Ok(Outcome::Complaint(text, Exit::Usage))
-    } else {
-        Ok(Outcome::Answer(text, Exit::Success))
+pub(crate) fn outcome_of_usage(alloc: Global, error: &Error) -> Result<Outcome, AllocError>
+    ensures { IfOk result (λ outcome. (kind_of error.now ≢ ErrorKind.OutOfMemory) × IsOutcomeOfKind (kind_of error.now) outcome) }
+{
+    match error.kind() {
+        ErrorKind::OutOfMemory => Err(AllocError),
+        ErrorKind::DisplayHelp | ErrorKind::DisplayVersion => {
+            Ok(Outcome::Answer(usage_text(alloc, error)?, Exit::Success))
+        }
+        _ => Ok(Outcome::Complaint(usage_text(alloc, error)?, Exit::Usage)),
     }
 }
 
 // The text of this error, and the commands where one is named that there is none of.
-fn usage_text(alloc: Global, error: &Error) -> Result<String, AllocError> {
+fn usage_text(alloc: Global, error: &Error) -> Result<Items<u8>, AllocError> {
     let mut text = error.to_string(alloc)?;
     if error.kind() == ErrorKind::InvalidSubcommand {
         text.push_str(COMMANDS)?;
     }
-    Ok(text)
+    Ok(Items::new(text.into_bytes()))
 }

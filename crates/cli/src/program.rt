@@ -1,12 +1,13 @@
 // The whole program over a host.
-ghost use Rattle.std.specs.Prelude.{◌≡◌, IfOk, Some};
+ghost use Rattle.std.specs.Prelude.{◌≡◌, ◌⊎◌, IfOk, Some, map};
 ghost use Rattle.cli.specs.Applied.{IsOutcomeOfDone, IsSaidOfApplied};
 ghost use Rattle.cli.specs.Calls.{IsOutcomeOfCall, IsOutcomeOfLines, IsOutcomeOfName, IsOutcomeOfPlan, IsOutcomeOfPlanTaken, IsOutcomeOfRequest, IsOutcomeOfVersions, IsSaidOfVersions, texts_at};
 ghost use Rattle.cli.specs.Files.{Files};
 ghost use Rattle.cli.specs.Outcome.{IsWritten};
+ghost use Rattle.cli.specs.Words.{IsOutcomeOfMemory, IsOutcomeOfWords};
 ghost use Rattle.cli.specs.declared.outcome.Outcome.{Outcome as Found};
 
-use crate::arguments::{Arguments, Call, CompareArguments, Places, call_of, mistake, texts_of};
+use crate::arguments::{Arguments, Call, CompareArguments, Places, call_by};
 use crate::carry_out::apply;
 use crate::exit::Exit;
 use crate::files::HostShelf;
@@ -22,6 +23,7 @@ use crate::print::{complain, print};
 use crate::solve::solve_request;
 use apply_engine::{Applied, ApplyRefusal, CarriedOut};
 use cli_engine::{Refusal, compare};
+use command_line::{call_of, joined, mistake, texts_of};
 use std::alloc::{AllocError, Global};
 use std::io::Write;
 
@@ -34,7 +36,8 @@ pub fn run<H: Host, W: Write, E: Write>(
     out: &mut W,
     err: &mut E,
 ) -> u8
-    ensures { (found : Found) × IsWritten found (W.contents out.old) (W.contents out.new) result }
+    ensures { (found : Found) × (IsOutcomeOfWords (H.files host.old) (H.files host.new) (map (λ word. word.items) words.now) found
+        ⊎ IsOutcomeOfMemory found) × IsWritten found (W.contents out.old) (W.contents out.new) result }
 {
     match outcome_of_words(alloc, words, host) {
         Ok(outcome) => print(&outcome, out, err),
@@ -54,12 +57,15 @@ fn outcome_of_words<H: Host>(
     alloc: Global,
     words: &[Vec<u8>],
     host: &mut H,
-) -> Result<Outcome, AllocError> {
+) -> Result<Outcome, AllocError>
+    ensures { IfOk result (IsOutcomeOfWords (H.files host.old) (H.files host.new) (map (λ word. word.items) words.now)) }
+{
     let Some(texts) = texts_of(alloc, words)? else {
         return outcome_of_usage(alloc, &mistake(alloc, "an argument isn't UTF-8"));
     };
-    match call_of(alloc, texts.as_slice()) {
-        Ok(call) => outcome_of_call(alloc, &call, host),
+    let words = joined(alloc, texts.as_slice())?;
+    match call_of(alloc, words.as_slice()) {
+        Ok(asked) => outcome_of_call(alloc, &call_by(&asked), host),
         Err(error) => outcome_of_usage(alloc, &error),
     }
 }
