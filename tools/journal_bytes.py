@@ -97,18 +97,22 @@ def value_in(stanza, name):
     return None
 
 
-def payloads_of(plan, indices):
+def stanzas_by_pair(indices, arch):
+    """Of each name and version the earliest stanza of an index that counts for an architecture."""
+    found = {}
+    for stanza in (it for text in indices for it in stanzas_in(text)):
+        if value_in(stanza, b"Architecture") in (b"all", arch):
+            found.setdefault((value_in(stanza, b"Package"), value_in(stanza, b"Version")), stanza)
+    return found
+
+
+def payloads_of(plan, indices, arch=b"amd64"):
     """The payloads of a plan's steps, where each version is spelled as in the indices: the line of the step, and behind that of
-    an unpacking the earliest stanza of an index with the name and the version."""
-    stanzas = {}
-    for text in indices:
-        for stanza in stanzas_in(text):
-            stanzas.setdefault((value_in(stanza, b"Package"), value_in(stanza, b"Version")), stanza)
-    payloads = []
+    an unpacking its stanza."""
+    stanzas, payloads = stanzas_by_pair(indices, arch), []
     for line in plan.split(b"\n")[1:-1]:
         action, *words = line.split(b" ")
-        stanza = stanzas.get(tuple(words), b"") if action == b"unpack" else b""
-        payloads.append(line + b"\n" + stanza)
+        payloads.append(line + b"\n" + (stanzas.get(tuple(words), b"") if action == b"unpack" else b""))
     return payloads
 
 
