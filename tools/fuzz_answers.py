@@ -40,21 +40,21 @@ FORMS = {status: re.compile(rb"debplan: (?:%s)\n" % b"|".join(forms)) for status
 OF_A_LINE = re.compile(rb"debplan: (status|sources|preferences|request|plan|refutation): E[0-9]+ [A-Za-z]+ ([0-9]+)(?: |\n)")
 
 
-def faults_of(printed, texts, kind, words_are_known):
+def faults_of(printed, texts, kind, is_call):
     """What is wrong with what was printed, over these texts, by a command of this kind; its words may be ones that the program
-    refuses."""
+    refuses or has help for."""
     if printed.status is None:
         return ["it had not ended in time"]
     if printed.status < 0:
         return [f"it was ended by signal {-printed.status}"]
     if printed.status in FORMS:
         return faults_of_refusal(printed, texts)
-    if printed.status == 4 and not words_are_known:
+    if printed.status == 4 and not is_call:
         return [] if printed.err and not printed.out else ["a usage that isn't on standard error alone"]
     if printed.status not in (0, 1, 2):
         return [f"its exit status is {printed.status}"]
     faults = ["there is something on standard error"] if printed.err else []
-    form = ANSWERS.get(kind, {}).get(printed.status) if words_are_known else rb"(?s:.*)"
+    form = ANSWERS.get(kind, {}).get(printed.status) if is_call else rb"(?s:.*)"
     if form is None or not re.fullmatch(form, printed.out):
         faults.append(f"it is no answer of {kind} with status {printed.status}")
     return faults

@@ -16,14 +16,16 @@ PROVIDES = re.compile(rb"^Provides:(.*)$", re.MULTILINE)
 
 @dataclass
 class Base:
-    """A call: where it is from, the texts of its files by their names, the kind of the command, and its options and the words
-    behind them. Of a call that has no options in this form its words stand alone."""
+    """A call: where it is from, the texts of its files by their names, the kind of the command, its options and the words behind
+    them, and whether its words are none that the program refuses or has help for. Of a call that has no options in this form its
+    words stand alone."""
 
     label: str
     texts: dict
     kind: str
     options: list = field(default_factory=list)
     rest: list = field(default_factory=list)
+    is_call: bool = True
 
     def words(self):
         """The words of its command line."""
@@ -50,7 +52,7 @@ def base_of(label, scenario, command):
         texts[command.file()] = command.text
     if command.kind in ("run", "compare"):
         kind, *rest = command.words(scenario) or [""]
-        return Base(label, texts, kind, [], rest)
+        return Base(label, texts, kind, [], rest, command.wanted.form not in ("usage", "help"))
     rest = [] if command.kind in HEADS else command.rest.split()
     return Base(label, texts, command.kind, scenario.option_words(), rest)
 
