@@ -36,8 +36,8 @@ class Subject:
         self.steps = 0
 
     def words(self, command, *rest):
-        request = ["--request", str(self.folder / "request")]
-        return [self.program, command, "--arch", "amd64", *self.options, *request, *rest, *([] if command == "solve" else [str(self.folder / "plan")])]
+        request, plan = ["--request", str(self.folder / "request")], [] if command == "solve" else [str(self.folder / "plan")]
+        return [self.program, command, "--arch", "amd64", *self.options, *request, *rest, *plan]
 
     def ask(self, names):
         """Has a request for these names solved, and keeps the plan."""
@@ -127,7 +127,8 @@ def main():
             os.chdir("/")
     factors = {name: taken[-1] / taken[0] for name, taken in times.items()}
     most = MOST * options.steps[-1] / options.steps[0] / 2
-    print("; ".join(f"{name}: {factor:.2f} times as long for {options.steps[-1] / options.steps[0]:g} times the steps" for name, factor in factors.items()))
+    for name, factor in factors.items():
+        print(f"{name}: {factor:.2f} times as long for {options.steps[-1] / options.steps[0]:g} times the steps")
     sys.exit(1 if max(factors.values()) > most else 0)
 
 

@@ -71,8 +71,10 @@ static long made(const char *name, long number, long a, long b, long c, long d, 
 }
 
 ssize_t write(int fd, const void *bytes, size_t size) { return made("write", SYS_write, fd, (long)bytes, (long)size, 0, 1); }
-ssize_t pwrite(int fd, const void *bytes, size_t size, off_t at) { return made("pwrite", SYS_pwrite64, fd, (long)bytes, (long)size, at, 1); }
-ssize_t pwrite64(int fd, const void *bytes, size_t size, off64_t at) { return made("pwrite", SYS_pwrite64, fd, (long)bytes, (long)size, at, 1); }
+ssize_t pwrite64(int fd, const void *bytes, size_t size, off64_t at) {
+    return made("pwrite", SYS_pwrite64, fd, (long)bytes, (long)size, at, 1);
+}
+ssize_t pwrite(int fd, const void *bytes, size_t size, off_t at) { return pwrite64(fd, bytes, size, at); }
 int ftruncate(int fd, off_t length) { return (int)made("ftruncate", SYS_ftruncate, fd, length, 0, 0, 0); }
 int ftruncate64(int fd, off64_t length) { return (int)made("ftruncate", SYS_ftruncate, fd, length, 0, 0, 0); }
 int fsync(int fd) { return (int)made("fsync", SYS_fsync, fd, 0, 0, 0, 0); }

@@ -8,7 +8,7 @@ import sys
 
 sys.dont_write_bytecode = True
 sys.path.insert(0, str(pathlib.Path(__file__).resolve().parent.parent / "tools"))
-from journal_bytes import payloads_of, stanzas_in  # noqa: E402
+from journal_bytes import payloads_of  # noqa: E402
 
 LEFT_OUT = ("Filename", "Size", "SHA256")
 
@@ -18,7 +18,8 @@ def stanza_of(number):
     fields = [("Package", f"p{number:05}"), ("Version", f"1.{number}"), ("Architecture", "all")]
     if number % 3:
         fields.append(("Depends", f"p{number - 1:05} (>= 1)"))
-    return [*fields, ("Filename", f"pool/p{number:05}.deb"), ("Size", "10"), ("SHA256", "0" * 64), ("Description", "made\n to be installed")]
+    file = [("Filename", f"pool/p{number:05}.deb"), ("Size", "10"), ("SHA256", "0" * 64)]
+    return [*fields, *file, ("Description", "made\n to be installed")]
 
 
 def spelled(fields):
@@ -73,6 +74,3 @@ class World:
         """The status file at the end: the packages in the order of their unpacking."""
         names = [payload.split(b" ")[1].decode() for payload in self.payloads() if payload.startswith(b"unpack ")]
         return "".join(self.installed[name] for name in names).encode()
-
-    def stanzas(self):
-        return stanzas_in((self.folder / "index").read_bytes())

@@ -9,7 +9,7 @@ or whole, and a run that isn't stopped then ends with the output that a run with
   calls    the same world, where one call on the journal or the output fails, the first, the second and so on
   devices  a journal and an output on devices that are full, read-only, missing, or no files
 
-  --packages N   of the world of `kills`, 1000 where it isn't given
+  --packages N   of the world; 1000 for `kills`, 12 for `crashes`, 6 for `calls` and 60 for `devices` where it isn't given
   --stops N      how often it is stopped, 100 where it isn't given
   --seed N       of what is drawn by chance, 1 where it isn't given
   --room DIR     where the files lie, /var/tmp where it isn't given
@@ -101,6 +101,10 @@ class Stops:
         self.need(payloads == self.payloads[:len(payloads)], what, "the journal shows other steps than the plan's first")
         return len(payloads)
 
+    def see_steps(self, steps, acknowledged, what):
+        """Each acknowledged step stands, and at most one more."""
+        self.need(acknowledged <= steps <= acknowledged + 1, what, steps, "steps stand, and", acknowledged, "are acknowledged")
+
     def see_output(self, old, what):
         """The output is as it was, or whole."""
         left = self.output.read_bytes() if self.output.exists() else None
@@ -161,7 +165,7 @@ class Stops:
         if not created and (not data or self.is_refused(data)):
             return 0, False
         steps = self.steps_in(data, what)
-        self.need(stood + gates <= steps <= stood + gates + 1, what, steps, "steps stand, of", stood, "and", gates, "acknowledged")
+        self.see_steps(steps, stood + gates, what)
         return steps, created
 
     @staticmethod
@@ -185,7 +189,8 @@ class Stops:
             calls = self.watched(None)
             if calls and not self.is_refused(left):
                 second += len(self.after_crashes(left, calls, f"a run from what crash {number} left,"))
-        self.row(f"{len(first)} files that a crash in a run of {count} calls may leave", f"{self.world.size} packages, {len(self.payloads)} steps",
+        self.row(f"{len(first)} files that a crash in a run of {count} calls may leave",
+                 f"{self.world.size} packages, {len(self.payloads)} steps",
                  f"and {second} that one in {len(again)} runs that went on from such may leave")
 
     def after_crashes(self, file, calls, what):
@@ -204,7 +209,7 @@ class Stops:
         self.begin(left)
         if created:
             steps = self.steps_in(left, what)
-            self.need(stood + gates <= steps <= stood + gates + 1, what, steps, "steps stand, of", stood, "and", gates, "acknowledged")
+            self.see_steps(steps, stood + gates, what)
         self.see_end(what, created)
 
     # Calls that fail
@@ -251,8 +256,8 @@ class Stops:
         """Which call failed, and how the run ended."""
         log = self.world.folder / "failed"
         log.unlink(missing_ok=True)
-        told = {"LD_PRELOAD": str(shim), "FAIL_BELOW": f"{self.world.folder}/", "FAIL_CALL": str(number), "FAIL_HOW": how, "FAIL_LOG": str(log)}
-        ended = self.run(env=told)
+        told = {"FAIL_BELOW": f"{self.world.folder}/", "FAIL_CALL": str(number), "FAIL_HOW": how, "FAIL_LOG": str(log)}
+        ended = self.run(env={**os.environ, **told, "LD_PRELOAD": str(shim)})
         return log.read_text(encoding="utf-8").split() if log.exists() else None, ended
 
     def see_failed(self, said, how, ended, old, what):
@@ -280,20 +285,20 @@ class Stops:
 def main():
     parser = argparse.ArgumentParser(description=__doc__, formatter_class=argparse.RawDescriptionHelpFormatter)
     parser.add_argument("program")
-    parser.add_argument("--packages", type=int, default=1000)
+    parser.add_argument("--packages", type=int)
     parser.add_argument("--stops", type=int, default=100)
     parser.add_argument("--seed", type=int, default=1)
     parser.add_argument("--room", default="/var/tmp")
     parser.add_argument("parts", nargs="*", metavar="PART")
     options = parser.parse_intermixed_args()
-    parts = {"kills": options.packages, "crashes": 12, "calls": 6, "devices": 60}
+    parts = {"kills": 1000, "crashes": 12, "calls": 6, "devices": 60}
     if not set(options.parts) <= set(parts):
         parser.error(f"the parts are {', '.join(parts)}")
     faults = 0
     print("| Part | Stops | World | Met |\n|---|---|---|---|")
     for part in options.parts or parts:
         with tempfile.TemporaryDirectory(prefix="debplan-stops-", dir=options.room) as folder:
-            stops = Stops(options, World(options.program, folder, parts[part]), part)
+            stops = Stops(options, World(options.program, folder, options.packages or parts[part]), part)
             getattr(stops, part)()
             faults += stops.faults
     sys.exit(1 if faults else 0)

@@ -156,8 +156,9 @@ def status_of(chance, standing, names):
 def request_of(chance, goals, names, standing):
     """A request that asks for these packages, and perhaps for changes of others."""
     lines = [b"install " + name for name in goals]
-    lines += [b"%s %s" % (chance.choice((b"install", b"remove", b"purge", b"upgrade")), chance.choice(chance.choice((names, standing or names))))
-              for _ in range(chance.choice((0, 0, 1, 3)))]
+    for _ in range(chance.choice((0, 0, 1, 3))):
+        action, name = chance.choice((b"install", b"remove", b"purge", b"upgrade")), chance.choice(chance.choice((names, standing or names)))
+        lines.append(action + b" " + name)
     lines += [line for line in (b"upgrade-all", b"no-remove") if chance.randrange(6) == 0]
     return b"".join(line + b"\n" for line in lines)
 
