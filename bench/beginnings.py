@@ -101,6 +101,7 @@ def verdict_on_plan(steps):
 
 # Refutations (docs/FORMATS.md, section 10)
 
+# What stands behind the word of a premise: pairs (p), other numbers (n) or a name (N).
 FORMS = {"same": "pp", "predepends": "pn", "depends": "pn", "conflicts": "pp", "breaks": "pp", "hold": "p", "essential": "N", "keep": "N"}
 
 
@@ -160,20 +161,21 @@ def stanza(name, version, *fields):
     return "\n".join([f"Package: {name}", f"Version: {version}", "Architecture: all", *fields]) + "\n\n"
 
 
-PLAN, REFUTATION = ("plan 1", "plan: E18 BadPlan", step_of), ("refutation 1", "refutation: E19 BadRefutation", refutation_line_of)
+AGAINST = {"goal 1": {1}, "goal 2": {2}, "conflicts 1 2": {-1, -2}, "conflicts 2 1": {-1, -2}}
+NEEDING = {"goal 1": {1}, "depends 1 1": {-1, 2, 3}, "depends 2 1": {-2, 3}, "depends 3 1": {-3, 2}, "conflicts 2 3": {-2, -3}}
 SUBJECTS = [
     Subject("a plan of four steps", "plan 1\nunpack bar 1.0\nunpack foo 1.0\nconfigure bar\nconfigure foo\n",
             stanza("bar", "1.0") + stanza("foo", "1.0", "Depends: bar"), "install foo\n", ("check-plan", "apply"), "plan: E18 BadPlan",
             step_of, verdict_on_plan),
     Subject("a refutation of four lines", "refutation 1\ngoal 1\ngoal 2\nconflicts 1 2\nderive : 1 2 3\n",
-            stanza("a", "1", "Provides: v", "Conflicts: v") + stanza("b", "1", "Provides: v", "Conflicts: v"), "install a\ninstall b\n",
-            ("check-refutation",), "refutation: E19 BadRefutation", refutation_line_of,
-            verdict_on_refutation({"goal 1": {1}, "goal 2": {2}, "conflicts 1 2": {-1, -2}, "conflicts 2 1": {-1, -2}})),
+            stanza("a", "1", "Provides: v", "Conflicts: v") + stanza("b", "1", "Provides: v", "Conflicts: v"),
+            "install a\ninstall b\n", ("check-refutation",), "refutation: E19 BadRefutation", refutation_line_of,
+            verdict_on_refutation(AGAINST)),
     Subject("a refutation of seven lines",
             "refutation 1\ngoal 1\ndepends 1 1\ndepends 2 1\nconflicts 2 3\ndepends 3 1\nderive -2 : 3 4\nderive : 1 6 2 5\n",
-            stanza("a", "1", "Depends: p | q") + stanza("p", "1", "Depends: q", "Conflicts: q") + stanza("q", "1", "Depends: p"), "install a\n",
-            ("check-refutation",), "refutation: E19 BadRefutation", refutation_line_of,
-            verdict_on_refutation({"goal 1": {1}, "depends 1 1": {-1, 2, 3}, "depends 2 1": {-2, 3}, "depends 3 1": {-3, 2}, "conflicts 2 3": {-2, -3}})),
+            stanza("a", "1", "Depends: p | q") + stanza("p", "1", "Depends: q", "Conflicts: q") + stanza("q", "1", "Depends: p"),
+            "install a\n", ("check-refutation",), "refutation: E19 BadRefutation", refutation_line_of,
+            verdict_on_refutation(NEEDING)),
 ]
 
 
@@ -228,8 +230,8 @@ def kind_of(answer):
 
 def judged(program, subject):
     """What isn't as wanted of a subject, and its row."""
-    texts = [beginning + ending for end in range(len(subject.text)) for beginning in (subject.text[:end],) for ending in ("", "\n")
-             if beginning + ending != subject.text]
+    beginnings = [subject.text[:end] + ending for end in range(len(subject.text)) for ending in ("", "\n")]
+    texts = [text for text in dict.fromkeys(beginnings) if text != subject.text]
     with tempfile.TemporaryDirectory() as folder, concurrent.futures.ThreadPoolExecutor(os.cpu_count()) as pool:
         it = Judging(program, subject, folder)
         answers = list(pool.map(it.faults_of, *zip(*enumerate(texts))))

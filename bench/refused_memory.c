@@ -1,7 +1,7 @@
-// Refuses requests for memory, for bench/refused_memory.py: it is put before the C library by LD_PRELOAD. Counted from 1 are the calls
-// of malloc, calloc, realloc, reallocarray, posix_memalign, aligned_alloc, memalign and mmap from the beginning of `main` on, so what
-// the C library asks for before isn't. Call number REFUSE_CALL is refused, and where REFUSE_HOW is `on` so are all behind it. Of the
-// first that is refused `NAME BYTES` is written to the file REFUSE_LOG. What is refused takes no memory.
+// Refuses requests for memory, for bench/refused_memory.py: it is put before the C library by LD_PRELOAD. Counted from 1 are the
+// calls of malloc, calloc, realloc, reallocarray, posix_memalign, aligned_alloc, memalign and mmap from the beginning of `main` on:
+// what the C library asks for before isn't. Call number REFUSE_CALL is refused, and where REFUSE_HOW is `on` so are all behind it.
+// Of the first that is refused `NAME BYTES` is written to the file REFUSE_LOG. What is refused takes no memory.
 #define _GNU_SOURCE
 #include <dlfcn.h>
 #include <errno.h>
@@ -81,8 +81,10 @@ static int counted_main(int count, char **words, char **environment) {
     return main_of_program(count, words, environment);
 }
 
-int __libc_start_main(Main *first, int count, char **words, void (*init)(void), void (*fini)(void), void (*end)(void), void *stack) {
-    int (*start)(Main *, int, char **, void (*)(void), void (*)(void), void (*)(void), void *) = dlsym(RTLD_NEXT, "__libc_start_main");
+typedef void Hook(void);
+
+int __libc_start_main(Main *first, int count, char **words, Hook *init, Hook *fini, Hook *end, void *stack) {
+    int (*start)(Main *, int, char **, Hook *, Hook *, Hook *, void *) = dlsym(RTLD_NEXT, "__libc_start_main");
     main_of_program = first;
     return start(counted_main, count, words, init, fini, end, stack);
 }

@@ -44,8 +44,8 @@ SECONDS = 120
 def stanza(package, *fields, status=""):
     """A stanza with an empty line behind it, of a package such as `foo 1`, and with a status one of a status file."""
     name, version = package.split(" ")
-    lines = [f"Package: {name}", *([f"Status: install ok {status}"] if status else []), f"Version: {version}", "Architecture: all", *fields]
-    return "\n".join(lines) + "\n\n"
+    state = [f"Status: install ok {status}"] if status else []
+    return "\n".join([f"Package: {name}", *state, f"Version: {version}", "Architecture: all", *fields]) + "\n\n"
 
 
 def text(head, *lines):
@@ -56,15 +56,18 @@ NEEDED = World("", stanza("bar 1.0") + stanza("foo 1.0", "Depends: bar"), "insta
 AGAINST = World("", "".join(stanza(f"{name} 1", "Provides: v", "Conflicts: v") for name in "ab"), "install a\ninstall b\n")
 BROKEN = World("".join(stanza(f"{name} 1", status="installed") for name in "pq"),
                stanza("p 2", "Breaks: q (<< 2)") + stanza("q 2"), "upgrade p\n")
-DERIVED = World("", stanza("a 1", "Depends: p | q") + stanza("p 1", "Depends: q", "Conflicts: q") + stanza("q 1", "Depends: p"), "install a\n")
+DERIVED = World("", stanza("a 1", "Depends: p | q") + stanza("p 1", "Depends: q", "Conflicts: q") + stanza("q 1", "Depends: p"),
+                "install a\n")
 FOREIGN = World(stanza("x 1", status="installed").replace("Architecture: all", "Architecture: i386"), "", "")
 
 NEEDED_PLAN = text("plan 1", "unpack bar 1.0", "unpack foo 1.0", "configure bar", "configure foo")
 BROKEN_PLAN = text("plan 1", "deconfigure q", "unpack p 2", "unpack q 2", "configure p", "configure q")
 NO_STEP = text("plan 1")
+BAD_PLAN = text("plan 1", "configure b a")
 FIRST_GOAL = text("refutation 1", "goal 1")
 AGAINST_REFUTATION = text("refutation 1", "goal 1", "goal 2", "conflicts 1 2", "derive : 1 2 3")
-DERIVED_REFUTATION = text("refutation 1", "goal 1", "depends 1 1", "depends 2 1", "conflicts 2 3", "depends 3 1", "derive -2 : 3 4", "derive : 1 6 2 5")
+DERIVED_REFUTATION = text("refutation 1", "goal 1", "depends 1 1", "depends 2 1", "conflicts 2 3", "depends 3 1", "derive -2 : 3 4",
+                          "derive : 1 6 2 5")
 
 # What the journal records of a step is its line, and of an unpacking the stanza behind it (docs/FORMATS.md, "Bytes").
 NEEDED_STEPS = ["unpack bar 1.0\n" + stanza("bar 1.0")[:-1], "unpack foo 1.0\n" + stanza("foo 1.0", "Depends: bar")[:-1],
@@ -91,12 +94,18 @@ def said(out, status=0):
     return Ended(status, out.encode() + b"\n", b"")
 
 
+def refused(line):
+    """The refusal of an input."""
+    return Ended(3, b"", f"debplan: {line}\n".encode())
+
+
 NO_END = said("no end F11 Goal 1", 1)
 
 
 def runs_over(world, name, solved, package, candidate, plan, judged, refutation, checked):
     """The runs that are made over each world, but for `apply`."""
-    return [Run(f"solve, {name}", world, "solve", [], None, solved), Run(f"candidate, {name}", world, "candidate", [package], None, said(candidate)),
+    return [Run(f"solve, {name}", world, "solve", [], None, solved),
+            Run(f"candidate, {name}", world, "candidate", [package], None, said(candidate)),
             Run(f"check-plan, {name}", world, "check-plan", [], plan, judged),
             Run(f"check-refutation, {name}", world, "check-refutation", [], refutation, checked)]
 
@@ -114,7 +123,8 @@ def not_applied(world, name):
 
 
 RUNS = [
-    *runs_over(NEEDED, "what a package needs", "plan", "foo", "foo 1.0 500", NEEDED_PLAN, said("yes"), FIRST_GOAL, said("no line 2", 1)),
+    *runs_over(NEEDED, "what a package needs", "plan", "foo", "foo 1.0 500", NEEDED_PLAN, said("yes"),
+               FIRST_GOAL, said("no line 2", 1)),
     *applied(NEEDED, "what a package needs", NEEDED_PLAN, NEEDED_STEPS, NEEDED_OUTPUT),
     *runs_over(AGAINST, "two in conflict", "refutation", "a", "a 1 500", NO_STEP, NO_END, AGAINST_REFUTATION, said("yes")),
     not_applied(AGAINST, "two in conflict"),
@@ -123,10 +133,10 @@ RUNS = [
     *runs_over(DERIVED, "a derived line", "refutation", "p", "p 1 500", NO_STEP, NO_END, DERIVED_REFUTATION, said("yes")),
     Run("solve without a conflict, a derived line", DERIVED, "solve", ["--limit", "0"], None, said("undecided limit 0", 2)),
     not_applied(DERIVED, "a derived line"),
-    Run("check-plan, a refused status file", FOREIGN, "check-plan", [], NO_STEP, Ended(3, b"", b"debplan: status: E14 ForeignArchitecture x\n")),
-    Run("check-plan, a refused plan", NEEDED, "check-plan", [], text("plan 1", "configure b a"), Ended(3, b"", b"debplan: plan: E18 BadPlan 2\n")),
+    Run("check-plan, a refused status file", FOREIGN, "check-plan", [], NO_STEP, refused("status: E14 ForeignArchitecture x")),
+    Run("check-plan, a refused plan", NEEDED, "check-plan", [], BAD_PLAN, refused("plan: E18 BadPlan 2")),
     Run("compare", None, "compare", ["1.0~rc1-1", "lt", "1.0-1"], None, said("yes")),
-    Run("compare, a refused version", None, "compare", ["1", "eq", "1.0-"], None, Ended(3, b"", b"debplan: version 2: E6 BadVersion EmptyRevision\n")),
+    Run("compare, a refused version", None, "compare", ["1", "eq", "1.0-"], None, refused("version 2: E6 BadVersion EmptyRevision")),
     Run("help", None, "--help", [], None, "help"),
     Run("wrong words", None, "solve", ["--limit"], None, "usage"),
 ]
@@ -139,8 +149,8 @@ class Refusing:
     """A run in its folder, and what doesn't hold of it."""
 
     def __init__(self, program, library, run, folder, most):
-        self.program, self.library, self.made, self.folder, self.most = os.path.abspath(program), library, run, pathlib.Path(folder), most
-        self.faults = []
+        self.program, self.library, self.made, self.most = os.path.abspath(program), library, run, most
+        self.folder, self.faults = pathlib.Path(folder), []
         files = {"sources": "File: index\n", **({} if run.world is None else run.world._asdict())}
         for name, its in {**files, "answer": run.text or ""}.items():
             self.path(name).write_text(its, encoding="utf-8")
@@ -167,7 +177,8 @@ class Refusing:
     def call(self, words, **environment):
         """How a process ended, without a status where it doesn't end in time."""
         try:
-            ended = subprocess.run(words, cwd=self.folder, env=environment, stdin=subprocess.DEVNULL, capture_output=True, timeout=SECONDS, check=False)
+            ended = subprocess.run(words, cwd=self.folder, env=environment, stdin=subprocess.DEVNULL, capture_output=True,
+                                   timeout=SECONDS, check=False)
         except subprocess.TimeoutExpired:
             return Ended(None, b"", b"")
         return Ended(ended.returncode, ended.stdout, ended.stderr)
@@ -223,7 +234,8 @@ class Refusing:
         self.need(ended == own, what, "the next run ended with", ended)
         if left.output is not None:
             whole = (journal(left, len(left.payloads)), left.output.encode())
-            self.need((self.left("journal"), self.left("output")) == whole, what, "the next run left", self.left("journal"), self.left("output"))
+            found = self.left("journal"), self.left("output")
+            self.need(found == whole, what, "the next run left", *found)
 
     # All requests
 
@@ -278,7 +290,8 @@ def main():
     options = parser.parse_intermixed_args()
     runs = [run for run in RUNS if not options.parts or any(part in run.name for part in options.parts)]
     failed = not runs
-    print("| Run | Requests, each refused once | Said | Same answer | Requests, all refused from it on | Said | Same answer |\n|---|---|---|---|---|---|---|")
+    heads = " | ".join(f"Requests, refused {how} | E1 | The same answer" for how in ("once", "with all behind"))
+    print(f"| Run | {heads} |\n|---|---|---|---|---|---|---|")
     with tempfile.TemporaryDirectory() as folder, concurrent.futures.ThreadPoolExecutor(options.jobs) as pool:
         library = built(folder)
         for faults, line in pool.map(lambda run: row(options.program, library, run, options.most), runs):
