@@ -1,8 +1,8 @@
 #!/usr/bin/python3
-"""hostile.py PROGRAM [--most SECONDS] [--rounds N] [--size N] [--stack KIB] [FAMILY..]: has inputs solved that are made to be slow, each family in
-growing sizes, and each answer judged. PROGRAM is debplan; FAMILY is a part of the name of a family, and without one all are
-run. It prints a row for each size: the answer, the time of `solve`, that of the judge on its answer, and the greater peak
-memory, which below some 25 MiB is that of this program. Some families hand a plan or a refutation to the judge alone.
+"""hostile.py PROGRAM [--most SECONDS] [--rounds N] [--size N] [--stack KIB] [FAMILY..]: has inputs solved that are made to be
+slow, each family in growing sizes, and each answer judged. PROGRAM is debplan; FAMILY is a part of the name of a family, and
+without one all are run. It prints a row for each size: the answer, the time of `solve`, that of the judge on its answer, and the
+greater peak memory, which below some 25 MiB is that of this program. Some families hand a plan or a refutation to the judge alone.
 
   --most SECONDS   a process is ended after so many, 60 where it isn't given; larger sizes of its family are left out
   --rounds N       the times are medians of N runs, 1 where it isn't given
@@ -412,7 +412,7 @@ class Hostile:
         if kind in JUDGES:
             said, seconds, most = self.judged(answer)
             said, judging, peak = said.strip(), f"{seconds:.2f} s", max(peak, most)
-        is_fault = said not in ("yes", "") or not kind.startswith(wanted) or not kind
+        is_fault = kind in JUDGES and said != "yes" or not kind.startswith(wanted) or not kind
         self.faults += is_fault
         told = f"{kind}, {said}" if is_fault else kind
         print(f"| {name} | {size:,} | {told} | {solving} | {judging} | {peak:.0f} MiB |", flush=True)

@@ -8,8 +8,8 @@ as much room on the disk.
   --room DIR       where the files lie, /var/tmp where it isn't given
   --list           says what is wanted of each case, and runs none
 
-A row is printed for each case: the answer, the time and the peak memory. Exit status: 0, 1 where an answer is another one, 2 for
-wrong words."""
+A row is printed for each case: the answer, the time and the peak memory, which below some 250 MiB is that of this program. Exit
+status: 0, 1 where an answer is another one, 2 for wrong words."""
 
 import argparse
 import collections

@@ -94,7 +94,7 @@ def said(out, status=0):
     return Ended(status, out.encode() + b"\n", b"")
 
 
-def refused(line):
+def refusal(line):
     """The refusal of an input."""
     return Ended(3, b"", f"debplan: {line}\n".encode())
 
@@ -133,10 +133,10 @@ RUNS = [
     *runs_over(DERIVED, "a derived line", "refutation", "p", "p 1 500", NO_STEP, NO_END, DERIVED_REFUTATION, said("yes")),
     Run("solve without a conflict, a derived line", DERIVED, "solve", ["--limit", "0"], None, said("undecided limit 0", 2)),
     not_applied(DERIVED, "a derived line"),
-    Run("check-plan, a refused status file", FOREIGN, "check-plan", [], NO_STEP, refused("status: E14 ForeignArchitecture x")),
-    Run("check-plan, a refused plan", NEEDED, "check-plan", [], BAD_PLAN, refused("plan: E18 BadPlan 2")),
+    Run("check-plan, a refused status file", FOREIGN, "check-plan", [], NO_STEP, refusal("status: E14 ForeignArchitecture x")),
+    Run("check-plan, a refused plan", NEEDED, "check-plan", [], BAD_PLAN, refusal("plan: E18 BadPlan 2")),
     Run("compare", None, "compare", ["1.0~rc1-1", "lt", "1.0-1"], None, said("yes")),
-    Run("compare, a refused version", None, "compare", ["1", "eq", "1.0-"], None, refused("version 2: E6 BadVersion EmptyRevision")),
+    Run("compare, a refused version", None, "compare", ["1", "eq", "1.0-"], None, refusal("version 2: E6 BadVersion EmptyRevision")),
     Run("help", None, "--help", [], None, "help"),
     Run("wrong words", None, "solve", ["--limit"], None, "usage"),
 ]
@@ -240,7 +240,7 @@ class Refusing:
     # All requests
 
     def refuse(self, how, number, own):
-        """Refuses a request. Whether one was refused, and whether the answer said so."""
+        """Refuses a request. What was refused, if anything, and how the run ended."""
         self.begin()
         ended, met = self.refused(how, number)
         what = f"request {number} ({met}) refused {how}:"
@@ -250,18 +250,19 @@ class Refusing:
                 self.need(self.left("output") == (self.made.rest.output and self.made.rest.output.encode()), what, "the output isn't whole")
             self.see_left(self.made.rest, what)
             self.see_end(self.made.rest, own, what)
-        return met, ended == REFUSED
+        return met, ended
 
     def refuse_each(self, how, own):
-        """Refuses the first request, the second and so on. How many there are, and how many of these runs said so."""
-        told = 0
+        """Refuses the first request, the second and so on. How many there are, how many of these runs said so, and how many
+        gave the answer all the same."""
+        told = same = 0
         for number in range(1, self.most + 1):
-            met, is_told = self.refuse(how, number, own)
+            met, ended = self.refuse(how, number, own)
             if not met:
                 self.need(number > 1, "no request for memory was met: the program isn't linked dynamically")
-                return number - 1, told
-            told += is_told
-        return self.most, told
+                return number - 1, told, same
+            told, same = told + (ended == REFUSED), same + (ended == own)
+        return self.most, told, same
 
 
 def row(program, library, run, most):
@@ -270,8 +271,8 @@ def row(program, library, run, most):
         it = Refusing(program, library, run, folder, most)
         own = it.own_answer()
         counts = [it.refuse_each(how, own) for how in HOW] if not it.faults else []
-    told = [f"{count:,} | {refused:,} | {count - refused:,}" for count, refused in counts]
-    return it.faults, f"| {run.name} | " + " | ".join(told or ["", ""]) + " |"
+    cells = [f"{cell:,}" for count in counts for cell in count] or [""] * 6
+    return it.faults, f"| {run.name} | " + " | ".join(cells) + " |"
 
 
 def built(folder):
