@@ -15,5 +15,5 @@ returns-in_ok-all_ended-in-Ok-clause-fetched g c at known =
       opened.0,
       opened.1,
       subst (λ (texts : List (List ℕ)). AllZip (IsEnded c.args.arch.now (items_in opened.0)) wanted texts) (sym c.in_ok-all_ended-in-Ok.ensures)
-      (are_ended c.args.arch.now (items_in opened.0) wanted c.in-Ok.texts.items fetched),
+          (are_ended c.args.arch.now (items_in opened.0) wanted c.in-Ok.texts.items fetched),
     )
