@@ -15,4 +15,5 @@ mod packages;
 mod steps;
 #[cfg(test)]
 mod universes;
+#[cfg(test)]
 mod versions;
