@@ -1,11 +1,13 @@
 #!/usr/bin/python3
-"""hostile.py PROGRAM [--most SECONDS] [--rounds N] [FAMILY..]: has inputs solved that are made to be slow, each family in
-growing sizes, and each answer judged. PROGRAM is debplan; FAMILY is a part of the name of a family, and without one all are
-run. It prints a row for each size: the answer, the time of `solve`, that of the judge on its answer, and the greater peak
-memory, which below some 25 MiB is that of this program. Some families hand a plan or a refutation to the judge alone.
+"""hostile.py PROGRAM [--most SECONDS] [--rounds N] [--size N] [--stack KIB] [FAMILY..]: has inputs solved that are made to be
+slow, each family in growing sizes, and each answer judged. PROGRAM is debplan; FAMILY is a part of the name of a family, and
+without one all are run. It prints a row for each size: the answer, the time of `solve`, that of the judge on its answer, and the
+greater peak memory, which below some 25 MiB is that of this program. Some families hand a plan or a refutation to the judge alone.
 
   --most SECONDS   a process is ended after so many, 60 where it isn't given; larger sizes of its family are left out
   --rounds N       the times are medians of N runs, 1 where it isn't given
+  --size N         each family has this size alone, not its own
+  --stack KIB      a process has a stack of so many KiB: one whose recursion grows with its input doesn't end in it
 
 Along a chain or a ring names ascend where it is "in order", descend where it is "reversed", and are in an order drawn by
 chance, the same in each run, where it is "shuffled". Exit status: 0, 1 where a judge doesn't say yes, where an answer isn't of
@@ -14,6 +16,7 @@ the kind that the family has, or where a process fails, 2 for wrong words."""
 import argparse
 import os
 import random
+import resource
 import statistics
 import subprocess
 import sys
@@ -91,6 +94,24 @@ def removed(order, is_ring=False):
         status = joined(stanza(name, state="installed", Depends=after) for name, after in linked(names, is_ring))
         return World(status, "", f"remove {names[-1]}\n", None)
     return world
+
+
+def lacking(order):
+    """None is there, the first is asked for, which needs the next, and so on, and what the last needs isn't there."""
+    def world(size):
+        names = names_of(size, order)
+        index = joined(stanza(name, Depends=after or "none") for name, after in linked(names, False))
+        return World("", index, f"install {names[0]}\n", None)
+    return world
+
+
+def derived_one_by_one(size):
+    """The same in order, and a refutation in which each derived line needs the one before."""
+    world = lacking("in order")(size)
+    premises = "goal 1\n" + joined(f"depends {number} 1\n" for number in range(1, size + 1))
+    before = [1, *range(size + 2, 2 * size + 1)]
+    derived = joined(f"derive {number} : {line} {number}\n" for number, line in zip(range(2, size + 1), before))
+    return world._replace(answer=f"refutation 1\n{premises}{derived}derive : {before[-1]} {size + 1}\n")
 
 
 def unpacked(order):
@@ -290,6 +311,9 @@ FAMILIES = {
     "chain removed, in order": Family(removed("in order"), (*DOUBLED, 3200), "plan"),
     "chain removed, reversed": Family(removed("reversed"), DOUBLED, "plan"),
     "ring removed, shuffled": Family(removed("shuffled", True), DOUBLED, "plan"),
+    "chain that lacks its end, in order": Family(lacking("in order"), DOUBLED, "refutation"),
+    "chain that lacks its end, shuffled": Family(lacking("shuffled"), DOUBLED, "refutation"),
+    "chain of derived lines, judged": Family(derived_one_by_one, LONGER, "refutation"),
     "unpacked chain, shuffled": Family(unpacked("shuffled"), DOUBLED, "plan"),
     "ring configured, in order, judged": Family(configured_ring("in order"), (400, 800, 1600, 2000), "plan"),
     "ring configured, shuffled, judged": Family(configured_ring("shuffled"), (400, 800, 1600, 2000), "plan"),
@@ -343,11 +367,16 @@ class Hostile:
             with open(self.path(name), "w", encoding="utf-8") as file:
                 file.write(text)
 
+    def narrow(self):
+        """Gives the process that is started the stack that was asked for."""
+        if self.options.stack:
+            resource.setrlimit(resource.RLIMIT_STACK, (self.options.stack * 1024,) * 2)
+
     def once(self, command):
         """What a process prints on standard output, its time in seconds and its peak memory in MiB."""
         with tempfile.TemporaryFile() as out:
             start = time.perf_counter()
-            process = subprocess.Popen(command, stdout=out)
+            process = subprocess.Popen(command, stdout=out, preexec_fn=self.narrow)
             clock = threading.Timer(self.options.most, process.kill)
             clock.start()
             _, status, usage = os.wait4(process.pid, 0)
@@ -383,14 +412,14 @@ class Hostile:
         if kind in JUDGES:
             said, seconds, most = self.judged(answer)
             said, judging, peak = said.strip(), f"{seconds:.2f} s", max(peak, most)
-        is_fault = said not in ("yes", "") or not kind.startswith(wanted) or not kind
+        is_fault = kind in JUDGES and said != "yes" or not kind.startswith(wanted) or not kind
         self.faults += is_fault
         told = f"{kind}, {said}" if is_fault else kind
         print(f"| {name} | {size:,} | {told} | {solving} | {judging} | {peak:.0f} MiB |", flush=True)
 
     def family(self, name):
         family = FAMILIES[name]
-        for size in family.sizes:
+        for size in (self.options.size,) if self.options.size else family.sizes:
             try:
                 self.row(name, size, family.world(size), family.answer)
             except Ended:
@@ -403,6 +432,8 @@ def main():
     parser.add_argument("program")
     parser.add_argument("--most", type=float, default=60)
     parser.add_argument("--rounds", type=int, default=1)
+    parser.add_argument("--size", type=int)
+    parser.add_argument("--stack", type=int)
     parser.add_argument("families", nargs="*", metavar="FAMILY")
     options = parser.parse_intermixed_args()
     with tempfile.TemporaryDirectory() as room:

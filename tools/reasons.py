@@ -10,6 +10,7 @@ RELATION = {"predepends": "Pre-Depends", "depends": "Depends", "conflicts": "Con
 SAYS = {"predepends": "pre-depends on", "depends": "depends on", "conflicts": "conflicts with", "breaks": "breaks"}
 KEYS = {"a": ("Archive", "Suite"), "n": ("Codename",), "v": ("Version",), "c": ("Component",), "o": ("Origin",), "l": ("Label",)}
 IS_STATUS = "status"
+ALL_VERSIONS = "all-versions"
 
 
 # Priorities and candidates
@@ -98,32 +99,41 @@ class Offered:
             self.standing[fields["Package"]] = fields
             self.add(fields, {IS_STATUS: "yes"})
 
-    def candidate(self, name):
-        """The key of the candidate of a name, or None."""
+    def eligible(self, name):
+        """The versions of a name that may be chosen by themselves: the priority and the key of each."""
         stands = common.version_key(self.standing[name]["Version"]) if name in self.standing else None
-        best = None
         for key, (fields, places) in self.versions[name].items():
             priority = self.preferences.priority(name, fields["Version"], places)
-            if priority > 0 and (stands is None or key >= stands or priority >= 1000) and (best is None or (priority, key) > best):
-                best = priority, key
+            if priority > 0 and (stands is None or key >= stands or priority >= 1000):
+                yield priority, key
+
+    def candidate(self, name):
+        """The key of the candidate of a name, or None."""
+        best = max(self.eligible(name), default=None)
         return best[1] if best else None
 
-    def admitted(self, name, wanted):
+    def admitted(self, name, wanted, all_versions):
         """The pairs of a name that a request admits, by version; wanted are the keys that its goals name with `=`."""
         keys = {common.version_key(self.standing[name]["Version"])} if name in self.standing else set()
         if name not in self.held:
             keys.update(key for key in wanted if key in self.versions[name])
             candidate = self.candidate(name)
             keys.update([candidate] if candidate else [])
+            keys.update(key for _, key in self.eligible(name) if all_versions)
         return [Pair(name, fields["Version"], fields) for key in sorted(keys) for fields in [self.versions[name][key][0]]]
 
 
 # Requests and their universe
 
 
-def goals_of(request):
-    """The goals of a request, each as its text."""
+def lines_of(request):
+    """The lines of a request that ask for something, each with one space between its words."""
     return [" ".join(line.split()) for line in request.splitlines() if line.strip() and not line.startswith("#")]
+
+
+def goals_of(lines):
+    """The goals among the lines of a request: the mark for all versions is none."""
+    return [line for line in lines if line != ALL_VERSIONS]
 
 
 def atom_of(goal):
@@ -162,13 +172,14 @@ class Universe:
 def universe_of(inputs):
     """The universe of the request of a folder of inputs."""
     offered, wanted = Offered(inputs), collections.defaultdict(set)
-    goals = goals_of(inputs.path("request").read_text(encoding="utf-8", errors="surrogateescape"))
+    lines = lines_of(inputs.path("request").read_text(encoding="utf-8", errors="surrogateescape"))
+    goals, all_versions = goals_of(lines), ALL_VERSIONS in lines
     for goal in goals:
         atom = atom_of(goal) if goal.startswith("install ") else None
         if atom and atom.operator == "=":
             wanted[atom.name].add(common.version_key(atom.version))
     names = sorted(offered.versions, key=lambda name: name.encode("utf-8", "surrogateescape"))
-    pairs = [pair for name in names for pair in offered.admitted(name, wanted[name])]
+    pairs = [pair for name in names for pair in offered.admitted(name, wanted[name], all_versions)]
     return Universe(pairs, goals, offered.held, inputs.arch)
 
 

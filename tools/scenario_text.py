@@ -13,13 +13,15 @@ FLAGS = ("ok", "reinstreq")
 STATES = ("not-installed", "config-files", "half-installed", "unpacked", "half-configured", "triggers-awaited", "triggers-pending",
           "installed")
 FILE = re.compile(r"status|sources|preferences|request|plan|index[0-9]+")
+# The files that the command `apply` writes, beside the one that it reads.
+WRITTEN = ("journal", "output")
 # The commands with the words that may stand behind each, and of those that have a text of their own its first line.
 COMMANDS = {"compare": r"[^ ]* [^ ]* [^ ]*", "candidate": r"[^ ]+", "check-plan": "", "check-refutation": "", "solve": r"|--limit [^ ]+",
-            "run": r".*"}
-HEADS = {"check-plan": b"plan 1\n", "check-refutation": b"refutation 1\n", "run": b"plan 1\n"}
+            "apply": "", "run": r".*"}
+HEADS = {"check-plan": b"plan 1\n", "check-refutation": b"refutation 1\n", "apply": b"plan 1\n", "run": b"plan 1\n"}
 # What may stand behind `wants`: its place in their order, and the commands that it belongs to.
 BEHIND = {"leaves": (1, ("check-plan",)), "dpkg": (2, ("check-plan",)), "dpkg leaves": (3, ("check-plan",)),
-          "apt": (2, ("candidate",)), "decision": (4, ("check-plan", "candidate"))}
+          "apt": (2, ("candidate",)), "decision": (4, ("check-plan", "candidate")), "output": (1, ("apply",)), "journal": (2, ("apply",))}
 
 
 class Fault(Exception):
@@ -67,7 +69,8 @@ class Wanted:
 @dataclass
 class Command:
     """A command: the number of its line, its kind with the words behind that, the text of its plan or refutation, what is
-    wanted of it, and what is said behind that, by the words that it begins with."""
+    wanted of it, what is said behind that, by the words that it begins with, and what the files have then that it writes: None
+    stands for no file, and without a word a file is as it was."""
 
     line: int
     kind: str
@@ -75,6 +78,7 @@ class Command:
     text: bytes = None
     wanted: Wanted = None
     behind: dict = field(default_factory=dict)
+    written: dict = field(default_factory=dict)
 
     def file(self):
         """The file that such a command may have itself."""
@@ -87,6 +91,8 @@ class Command:
         words = [self.kind, *(scenario.option_words() if self.kind != "compare" else [])]
         if self.kind not in ("compare", "candidate"):
             words += ["--request", "request"]
+        if self.kind == "apply":
+            words += ["--journal", "journal", "--output", "output"]
         last = self.file() if self.kind in HEADS else self.rest
         return words + (last.split(" ") if last else [])
 
@@ -232,7 +238,7 @@ def cut_status(line):
     return [f"Status: {selection} {state}"], rest
 
 
-FORMS = {"status": stanza, "index": stanza, "preferences": record, "request": plain_line, "sources": whole_line}
+FORMS = {"status": stanza, "index": stanza, "preferences": record, "request": plain_line, "sources": whole_line, "journal": whole_line}
 
 
 def text_of(scenario, block, form, head=b""):
@@ -338,8 +344,15 @@ def add_behind(scenario, item):
     if word not in BEHIND or not scenario.commands:
         return False
     command, (turn, kinds) = scenario.commands[-1], BEHIND[word]
+    if word in WRITTEN and command.kind not in kinds:
+        return False
     need(command.kind in kinds, f"`{item.word}` behind another command")
     need(all(BEHIND[earlier][0] < turn for earlier in command.behind), f"`{item.word}` a second time, or behind what it stands before")
+    if word in WRITTEN:
+        command.behind[word] = ""
+        command.written[word] = written_of(scenario, item)
+        need(command.wanted, f"`{item.word}` before `wants`")
+        return True
     need(item.rest, f"nothing behind `{item.word}`")
     need(not item.block, f"a block below `{item.word}`")
     command.behind[word] = ""
@@ -347,6 +360,13 @@ def add_behind(scenario, item):
     command.behind[word] = rest
     need(command.wanted, f"`{item.word}` before `wants`")
     return True
+
+
+def written_of(scenario, item):
+    """The text that a file has behind a command, or nothing where there is none then."""
+    need(item.rest in ("", "none"), f"an unknown word behind `{item.word}`")
+    need(bool(item.block) != bool(item.rest), f"neither a text nor none of `{item.word}`, or both")
+    return None if item.rest else text_of(scenario, item.block, whole_line)
 
 
 def check_behind(word, rest):

@@ -7,13 +7,12 @@ use Rattle.std.proofs.lemmas.List.{map-append}
 use Rattle.std.proofs.lemmas.List.Elements.{Contains-append_cases, Contains-append_left, Contains-append_right}
 use Rattle.pins.specs.Origin.{release_origin}
 use Rattle.pins.specs.Prefs.{Preferences}
-use Rattle.rules.specs.Available.{Index, all_listed, counting_package, index_package, is_of, standing_record}
+use Rattle.rules.specs.Available.{Index, Request, all_listed, counting_package, index_package, is_of, standing_record}
 use Rattle.rules.specs.Database.{HasDistinctNames, Record, pkg_of}
 use Rattle.rules.specs.ElementLaws.{Any-elim, Any-from_list_any, Contains-cons, Contains-filter, Contains-filter_intro, Contains-head, Contains-map, Contains-map_intro, Contains-nil, Contains-rest, list_any-from_contains}
 use Rattle.rules.specs.Package.{Pkg}
 use Rattle.rules.specs.Priority.{Origin, index_origin, indices_with, origins_of, status_origin}
 use Rattle.rules.specs.Step.{IndexPackage, is_named}
-use Rattle.rules.specs.declared.goal.Goal.{Goal}
 use Rattle.universe.proofs.Finding.{find-some}
 use Rattle.candidates.specs.Inputs.{inputs_of}
 use Rattle.candidates.specs.Place.{Place, place_at, places_in, places_of, stanzas_of, with_version}
@@ -46,10 +45,10 @@ standing_version-record db distinct name version = at (standing_record db name v
         standing_version-from db name version found (found_record db distinct name found there.0 there.1) there.2 there.3
 
 -- what is kept of a version is the text of the package that counts
-pub kept_version-counting : (db : List Record) (indices : List Index) (prefs : Preferences) (goals : List Goal) → HasDistinctNames db
+pub kept_version-counting : (db : List Record) (indices : List Index) (prefs : Preferences) (request : Request) → HasDistinctNames db
     → (name version : List ℕ) → kept_version db (all_listed indices) name version
-    ≡ option_map (λ (pkg : Pkg). pkg.version) (counting_package (inputs_of db indices prefs goals) name version)
-kept_version-counting db indices prefs goals distinct name version =
+    ≡ option_map (λ (pkg : Pkg). pkg.version) (counting_package (inputs_of db indices prefs request) name version)
+kept_version-counting db indices prefs request distinct name version =
     ap (λ (o : Option (List ℕ)). option_or o (option_map (λ (found : IndexPackage). found.pkg.version) (stanza_of (all_listed indices) name version)))
     (standing_version-record db distinct name version)
     ∙ at (standing_record db name version) (index_package indices name version)
@@ -141,10 +140,10 @@ abbrev status_origins : Bool → List Origin
 status_origins stood = if stood then status_origin ∷ [] else []
 
 -- the origins of a version are those that are computed
-pub origins_of-same : (db : List Record) (indices : List Index) (prefs : Preferences) (goals : List Goal) → HasDistinctNames db
+pub origins_of-same : (db : List Record) (indices : List Index) (prefs : Preferences) (request : Request) → HasDistinctNames db
     → (name version : List ℕ)
-    → HaveSame (origins_among db (places_of indices) name version) (origins_of (inputs_of db indices prefs goals) name version)
-origins_of-same db indices prefs goals distinct name version = record {
+    → HaveSame (origins_among db (places_of indices) name version) (origins_of (inputs_of db indices prefs request) name version)
+origins_of-same db indices prefs request distinct name version = record {
   to = λ origin within. elim (Contains-append_cases (status_origins (is_some (standing_version db name version)))
       (map place_origin (with_version name version (places_of indices))) origin within) [
         | inl status ↦ Contains-append_left (status_origins (is_some (standing_record db name version)))

@@ -6,7 +6,7 @@ use Rattle.std.specs.Cmp.{tied_itself}
 use Rattle.std.specs.Cmp.Lexicographic.{nat_list_cmp_total}
 use Rattle.std.specs.declared.cmp.Ordering.TheVariants.{Equal}
 use Rattle.pins.specs.Prefs.{Preferences}
-use Rattle.rules.specs.Available.{Index, Inputs}
+use Rattle.rules.specs.Available.{Index, Inputs, Request}
 use Rattle.rules.specs.Database.{HasDistinctNames, Record}
 use Rattle.rules.specs.ElementLaws.{Any-elim, Any-intro, Contains-filter, Contains-filter_intro}
 use Rattle.rules.specs.Name.{name_cmp}
@@ -14,7 +14,6 @@ use Rattle.rules.specs.Priority.{IsCandidate, IsEligible, IsUpTo}
 use Rattle.rules.specs.Universe.{IsKeptText}
 use Rattle.rules.specs.Version.{SameVersion}
 use Rattle.rules.specs.VersionOrderLaws.{SameVersion-refl}
-use Rattle.rules.specs.declared.goal.Goal.{Goal}
 use Rattle.rules.specs.NamedLaws.{bytes_eq-same, bytes_eq-true}
 use Rattle.universe.proofs.Finding.{find-none, find-some, sorted-one}
 use Rattle.candidates.specs.Candidates.{AreCandidates, IsCandidateOf}
@@ -39,11 +38,11 @@ one_of_name : (best : List Offer) → IsStrictlySortedBy offer_name_cmp best →
 one_of_name best ascending offer other one two named = sorted-one offer_name_cmp_total best ascending offer other one two
     (subst (λ (n : List ℕ). name_cmp offer.name n ≡ Equal) named (tied_itself nat_list_cmp_total offer.name))
 
-module _ (db : List Record) (indices : List Index) (prefs : Preferences) (goals : List Goal) (distinct : HasDistinctNames db)
+module _ (db : List Record) (indices : List Index) (prefs : Preferences) (request : Request) (distinct : HasDistinctNames db)
     (offers : List Offer) (rated : AreRated (IsKept db (places_of indices)) prefs db (places_of indices) offers)
     (best : List Offer) (are : AreBest (eligible db offers) best) where
   abbrev inputs : Inputs
-  inputs = inputs_of db indices prefs goals
+  inputs = inputs_of db indices prefs request
 
   -- the best offer of a name is to be chosen before all others
   best_first : (offer : Offer) → Contains best offer → (other : Offer) → Contains (eligible db offers) other → other.name ≡ offer.name
@@ -60,7 +59,7 @@ module _ (db : List Record) (indices : List Index) (prefs : Preferences) (goals 
   offered_eligible : (name version : List ℕ) (priority : ℤ) → IsEligible inputs name version priority
       → (offer : Offer) × Contains (eligible db offers) offer × IsFor name version offer × (offer.priority ≡ priority)
   offered_eligible name version priority may =
-      let by = IsEligible-is db indices prefs goals distinct offers rated name version priority may in
+      let by = IsEligible-is db indices prefs request distinct (IsKept db (places_of indices)) offers rated name version (λ kept. kept) priority may in
       (by.0, Contains-filter_intro (is_eligible db) offers by.0 by.1 by.4, by.2, by.3)
 
   -- the best offer is the candidate
@@ -69,7 +68,7 @@ module _ (db : List Record) (indices : List Index) (prefs : Preferences) (goals 
   candidate_of_best offer within name version of =
       let from = Contains-filter (is_eligible db) offers offer (are.drawn offer within) in
       record {
-        eligible = IsEligible-from db indices prefs goals distinct offers rated name version offer from.0 of from.1;
+        eligible = IsEligible-from db indices prefs request distinct (IsKept db (places_of indices)) offers rated name version offer from.0 of from.1;
         greatest = λ other other_priority may.
             let given = offered_eligible name other other_priority may in
             subst (λ (z : ℤ). IsUpTo other z version offer.priority) given.3
@@ -94,7 +93,7 @@ module _ (db : List Record) (indices : List Index) (prefs : Preferences) (goals 
   AreCandidates-from = record {
     ascending = are.ascending;
     drawn = λ offer within name version of. candidate_of_best offer within name version of;
-    kept = λ offer within. IsKeptText-from db indices prefs goals distinct offer
+    kept = λ offer within. IsKeptText-from db indices prefs request distinct offer
         (rated.drawn offer (Contains-filter (is_eligible db) offers offer (are.drawn offer within)).0);
     covered = best_of_candidate;
   }

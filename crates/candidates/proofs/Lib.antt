@@ -1,4 +1,5 @@
 pub mod RecordNames
+pub mod AllVersions
 pub mod Alone
 pub mod Available
 pub mod Best
@@ -8,6 +9,7 @@ pub mod Given
 pub mod Kept
 pub mod Listing
 pub mod Named
+pub mod OfName
 pub mod Ordered
 pub mod Origins
 pub mod Priorities
@@ -15,4 +17,5 @@ pub mod RecordOrder
 pub mod Runs
 pub mod Searching
 pub mod StanzaOrder
+pub mod VersionOrder
 pub mod Prefixes

@@ -11,7 +11,7 @@ use Rattle.std.proofs.lemmas.Cmp.{int_ranked}
 use Rattle.std.proofs.lemmas.Int.{ints}
 use Rattle.std.proofs.lemmas.Option.{same_Some}
 use Rattle.pins.specs.Prefs.{Preferences}
-use Rattle.rules.specs.Available.{Index, Inputs, all_listed, counting_package}
+use Rattle.rules.specs.Available.{Index, Inputs, Request, all_listed, counting_package}
 use Rattle.rules.specs.Database.{HasDistinctNames, Record}
 use Rattle.rules.specs.ElementLaws.{Any-elim}
 use Rattle.rules.specs.Package.{Pkg}
@@ -20,7 +20,6 @@ use Rattle.rules.specs.Step.{IndexPackage}
 use Rattle.rules.specs.Universe.{IsKeptText}
 use Rattle.rules.specs.Version.{SameVersion, version_cmp}
 use Rattle.rules.specs.VersionOrderLaws.{version_cmp-antisymm, version_cmp-same_left, version_cmp-same_right}
-use Rattle.rules.specs.declared.goal.Goal.{Goal}
 use Rattle.candidates.specs.Inputs.{inputs_of}
 use Rattle.candidates.specs.Offer.{IsFor, Offer, is_eligible}
 use Rattle.candidates.specs.Place.{Place, places_of, stanzas_of}
@@ -80,9 +79,9 @@ eligible-from db offer above kept = and_from (int_lt (pos 0) offer.priority)
     at false beyond = refl
     at true below = ap not (kept (lt-is offer.priority (pos 1000) below))
 
-module _ (db : List Record) (indices : List Index) (prefs : Preferences) (goals : List Goal) (distinct : HasDistinctNames db) where
+module _ (db : List Record) (indices : List Index) (prefs : Preferences) (request : Request) (distinct : HasDistinctNames db) where
   abbrev inputs : Inputs
-  inputs = inputs_of db indices prefs goals
+  inputs = inputs_of db indices prefs request
 
   abbrev places : List Place
   places = places_of indices
@@ -95,7 +94,7 @@ module _ (db : List Record) (indices : List Index) (prefs : Preferences) (goals 
   counting_kept : (name version text : List ℕ) → kept_version db (stanzas_of places) name version ≡ Some text
       → (pkg : Pkg) × (counting_package inputs name version ≡ Some pkg) × (pkg.version ≡ text)
   counting_kept name version text kept = at (counting_package inputs name version) refl
-      (sym (kept_version-counting db indices prefs goals distinct name version) ∙ sym (kept_all name version) ∙ kept)
+      (sym (kept_version-counting db indices prefs request distinct name version) ∙ sym (kept_all name version) ∙ kept)
     where
       at : (o : Option Pkg) → counting_package inputs name version ≡ o → option_map (λ (pkg : Pkg). pkg.version) o ≡ Some text
           → (pkg : Pkg) × (counting_package inputs name version ≡ Some pkg) × (pkg.version ≡ text)
@@ -127,7 +126,7 @@ module _ (db : List Record) (indices : List Index) (prefs : Preferences) (goals 
       of.0 rated.given in
       let has : HasPriorityAs inputs name offer.version offer.priority =
       HasPriorityAmong-same prefs.preferences prefs.target name offer.version (origins_among db places name offer.version)
-      (origins_of inputs name offer.version) (origins_of-same db indices prefs goals distinct name offer.version) offer.priority given in
+      (origins_of inputs name offer.version) (origins_of-same db indices prefs request distinct name offer.version) offer.priority given in
       subst (PriorityBy name offer.priority) (sym counts.1)
       (subst (λ (v : List ℕ). HasPriorityAs inputs name v offer.priority) (sym counts.2) has)
 
@@ -144,18 +143,24 @@ module _ (db : List Record) (indices : List Index) (prefs : Preferences) (goals 
   HasPriority-kept : (name version : List ℕ) (priority : ℤ) → HasPriority inputs name version priority → IsKept db places name version
   unfolding HasPriority
   HasPriority-kept name version priority has = subst IsSome
-      (sym (kept_all name version ∙ kept_version-counting db indices prefs goals distinct name version))
+      (sym (kept_all name version ∙ kept_version-counting db indices prefs request distinct name version))
       (at (counting_package inputs name version) has)
     where
       at : (o : Option Pkg) → PriorityBy name priority o → IsSome (option_map (λ (pkg : Pkg). pkg.version) o)
       at None has = absurd has
       at (Some pkg) has = refl
 
-  module _ (offers : List Offer) (rated : AreRated (IsKept db places) prefs db places offers) where
+  -- a version that may be chosen has one priority
+  pub IsEligible-one : (name version : List ℕ) (x y : ℤ) → IsEligible inputs name version x → IsEligible inputs name version y → x ≡ y
+  unfolding IsEligible
+  IsEligible-one name version x y one other = HasPriority-one name version x y one.0 other.0
+
+  module _ (Is : List ℕ → List ℕ → Type 0) (offers : List Offer) (rated : AreRated Is prefs db places offers) where
     -- a version with a priority is offered with it
-    HasPriority-is : (name version : List ℕ) (priority : ℤ) → HasPriority inputs name version priority
+    HasPriority-is : (name version : List ℕ) → (IsKept db places name version → Is name version) → (priority : ℤ)
+        → HasPriority inputs name version priority
         → (offer : Offer) × Contains offers offer × IsFor name version offer × (offer.priority ≡ priority)
-    HasPriority-is name version priority has = Any-elim (IsFor name version) offers
+    HasPriority-is name version is priority has = Any-elim (IsFor name version) offers
         ((offer : Offer) × Contains offers offer × IsFor name version offer × (offer.priority ≡ priority))
         (λ offer within of. (
           offer,
@@ -163,7 +168,7 @@ module _ (db : List Record) (indices : List Index) (prefs : Preferences) (goals 
           of,
           HasPriority-one name version offer.priority priority (HasPriority-from name version offer (rated.drawn offer within) of) has,
         ))
-        (rated.covered name version (HasPriority-kept name version priority has))
+        (rated.covered name version (is (HasPriority-kept name version priority has)))
 
     -- offers of one version are lower alike
     downgrade_for : (name version : List ℕ) (offer : Offer) → IsFor name version offer
@@ -184,11 +189,12 @@ module _ (db : List Record) (indices : List Index) (prefs : Preferences) (goals 
         )
 
     -- a version that may be chosen is that of an eligible offer
-    pub IsEligible-is : (name version : List ℕ) (priority : ℤ) → IsEligible inputs name version priority
+    pub IsEligible-is : (name version : List ℕ) → (IsKept db places name version → Is name version) → (priority : ℤ)
+        → IsEligible inputs name version priority
         → (offer : Offer) × Contains offers offer × IsFor name version offer × (offer.priority ≡ priority) × (is_eligible db offer ≡ true)
     unfolding IsEligible IsDowngrade
-    IsEligible-is name version priority eligible =
-        let by = HasPriority-is name version priority eligible.0 in
+    IsEligible-is name version offered priority eligible =
+        let by = HasPriority-is name version offered priority eligible.0 in
         let back : priority ≡ by.0.priority = sym by.3 in (
           by.0,
           by.1,

@@ -1,6 +1,6 @@
 -- The order of stanzas ties just those of one name and version, a stable sort keeps those of a version as they were, and a
 -- list that is sorted and freed of repetitions has the earliest of equal stanzas.
-use Rattle.std.proofs.Common.{◌≡◌, ℕ, ◌+◌, Bool, true, not, ◌&&◌, List, [], None, get_or, length, refl, sym, ap, subst, ◌∙◌, arith, bytes_eq}
+use Rattle.std.proofs.Common.{◌≡◌, ℕ, ◌+◌, Bool, true, not, ◌&&◌, List, get_or, length, refl, sym, ap, subst, ◌∙◌, arith, bytes_eq}
 use Rattle.std.specs.Cmp.{Equal-is}
 use Rattle.std.specs.List.{dedup}
 use Rattle.std.specs.List.Sorted.{IsSorted, IsStable, ties}

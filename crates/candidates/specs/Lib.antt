@@ -1,4 +1,5 @@
 pub mod Candidates
+pub mod Eligible
 pub mod Inputs
 pub mod Offer
 pub mod OfferLaws

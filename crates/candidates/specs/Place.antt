@@ -1,5 +1,5 @@
 -- The places that stanzas come from.
-use Rattle.std.specs.Prelude.{◌≡◌, ℕ, Bool, List, ◌∷◌, map, take}
+use Rattle.std.specs.Prelude.{◌≡◌, ℕ, Bool, List, ◌∷◌, map, take, bytes_eq}
 use Rattle.std.specs.List.{filter, flat_map, prefix_len}
 use Rattle.std.specs.List.Sorted.{IsSorted}
 use Rattle.std.specs.Ordering.{on}
@@ -29,6 +29,10 @@ places_of indices = flat_map places_in indices
 -- the stanzas alone
 abbrev pub stanzas_of : List Place → List IndexPackage
 stanzas_of places = map (λ place. place.listed) places
+
+-- the stanza of the place has the name
+abbrev pub has_place_name : List ℕ → Place → Bool
+has_place_name name place = bytes_eq place.listed.pkg.name name
 
 -- the places of this version of the name
 abbrev pub with_version : List ℕ → List ℕ → List Place → List Place

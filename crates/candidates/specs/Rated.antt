@@ -8,6 +8,7 @@ use Rattle.rules.specs.Database.{Record, stands}
 use Rattle.rules.specs.Priority.{HasPriorityAmong, Origin, status_origin}
 use Rattle.rules.specs.Step.{IndexPackage}
 use Rattle.rules.specs.Universe.{IsOf}
+use Rattle.candidates.specs.Eligible.{AreByVersion}
 use Rattle.candidates.specs.Offer.{AreBest, IsFor, Offer, eligible}
 use Rattle.candidates.specs.Place.{Place, stanzas_of, with_version}
 use Rattle.candidates.specs.Recorded.{standing_version}
@@ -73,8 +74,21 @@ StandsAlone db places name version =
 abbrev pub IsKept : List Record → List Place → List ℕ → List ℕ → Type 0
 IsKept db places name version = IsSome (kept_version db (stanzas_of places) name version)
 
--- the best of all rated offers that may be chosen
-pub record AreChosen (prefs : Preferences) (db : List Record) (places : List Place) (best : List Offer) : Type 0 where
+-- of all rated offers those that may be chosen
+pub record AreEligible (prefs : Preferences) (db : List Record) (places : List Place) (chosen : List Offer) : Type 0 where
   pub offers : List Offer
   pub rated : AreRated (IsKept db places) prefs db places offers
-  pub first : AreBest (eligible db offers) best
+  pub kept : chosen ≡ eligible db offers
+
+-- the best of the offers that may be chosen, and where all versions are asked for each of them
+pub record AreChosen (all : Bool) (prefs : Preferences) (db : List Record) (places : List Place) (best each : List Offer) : Type 0 where
+  pub offers : List Offer
+  pub may : AreEligible prefs db places offers
+  pub first : AreBest offers best
+  pub every : each ≡ (if all then offers else [])
+
+-- the offers that may be chosen, of each version one, in the order of versions
+pub record AreInOrder (prefs : Preferences) (db : List Record) (places : List Place) (ordered : List Offer) : Type 0 where
+  pub offers : List Offer
+  pub may : AreEligible prefs db places offers
+  pub order : AreByVersion offers ordered

@@ -13,7 +13,7 @@ mod rated;
 mod recorded;
 
 pub use known::{Known, is_held, is_recorded, stands_as};
-pub use of_name::candidate;
+pub use of_name::{candidate, eligible};
 pub use offer::Offer;
 pub use offered::Offered;
 pub use order::{Found, has_name, stanza_of};

@@ -1,15 +1,25 @@
-// The candidate of one name.
+// The candidate of one name, and its versions that may be chosen.
 
-ghost use Rattle.std.specs.Prelude.{◌≡◌, [], IfOk, bytes_eq, map};
-ghost use Rattle.std.specs.List.{find};
+ghost use Rattle.std.specs.Prelude.{◌≡◌, IfOk, bytes_eq, map};
+ghost use Rattle.std.specs.List.{filter, find};
+ghost use Rattle.std.specs.List.Sorted.{IsSorted};
+ghost use Rattle.rules.specs.Available.{Request};
 ghost use Rattle.rules.specs.Database.{HasDistinctNames};
 ghost use Rattle.rules.specs.FileRecord.{records_of};
+ghost use Rattle.rules.specs.Step.{is_named};
 ghost use Rattle.candidates.specs.Candidates.{IsCandidateOf};
+ghost use Rattle.candidates.specs.Eligible.{AreEligibleOf};
 ghost use Rattle.candidates.specs.Inputs.{indices_of, inputs_of};
+ghost use Rattle.candidates.specs.Place.{place_cmp};
+ghost use Rattle.candidates.specs.Rated.{AreInOrder};
 
-use crate::offer::Offer;
+use crate::known::Known;
+use crate::offer::{Offer, by_version};
 use crate::offered::Offered;
-use crate::recorded::records_in;
+use crate::order::in_order;
+use crate::place::{Place, sorted_named_places};
+use crate::rated::eligible_offers;
+use crate::recorded::{Recorded, records_in};
 use index::Index;
 use pins::Prefs;
 use status_record::FileRecord;
@@ -31,10 +41,57 @@ pub fn candidate<'a>(
     name: &[u8],
 ) -> Result<Option<Offer<'a>>, AllocError>
     requires { HasDistinctNames (records_of (map (λ r. r.now) start.now)) }
-    ensures { IfOk result (λ found. IsCandidateOf
-        (inputs_of (records_of (map (λ r. r.now) start.now)) (indices_of indices.now) prefs.now []) name.now found) }
+    ensures { (request : Request) → IfOk result (λ found. IsCandidateOf
+        (inputs_of (records_of (map (λ r. r.now) start.now)) (indices_of indices.now) prefs.now request) name.now found) }
 {
     let recorded = records_in(alloc, start)?;
-    let offered = Offered::find(alloc, recorded, indices, prefs)?;
+    let offered = Offered::find(alloc, recorded, indices, prefs, false)?;
     Ok(named(offered.candidates, name))
+}
+
+// The records of the name.
+fn records_named<'s, 'a>(recorded: Vec<Recorded<'s, 'a>>, name: &[u8]) -> Vec<Recorded<'s, 'a>>
+    ensures { result.items ≡ filter (is_named name.now) recorded.entry.items }
+{
+    let mut named = recorded;
+    named.retain(|found| found.name() == name);
+    named
+}
+
+// The offers of the versions that may be chosen, ascending by version, over records and places of one name.
+fn eligible_at<'a>(
+    alloc: Global,
+    prefs: &Prefs,
+    known: &Known<'_, 'a>,
+    places: &[Place<'_, 'a>],
+) -> Result<Vec<Offer<'a>>, AllocError>
+    requires { IsSorted place_cmp places.now }
+    ensures { IfOk result (λ ordered. AreInOrder prefs.now known.now places.now ordered.items) }
+{
+    let ordered = in_order(alloc, places)?;
+    let offers = eligible_offers(alloc, prefs, known, places, ordered.as_slice())?;
+    by_version(offers)
+}
+
+/// The versions of the name that may be chosen by themselves, ascending and each once, with their priorities, over these
+/// records of the start, whose names are distinct, and these indices: those with a priority above 0 that aren't lower than
+/// the one that stands with a priority below 1000 (apt_preferences(5)). Linear in the records and the stanzas, of which the
+/// names alone are looked at, and for the n stanzas of the name about n log n comparisons, and for each of its versions what
+/// `Prefs::priority` costs. Memory alone can fail.
+pub fn eligible<'a>(
+    alloc: Global,
+    start: &[&FileRecord<'a>],
+    indices: &[Index<'a>],
+    prefs: &Prefs,
+    name: &[u8],
+) -> Result<Vec<Offer<'a>>, AllocError>
+    requires { HasDistinctNames (records_of (map (λ r. r.now) start.now)) }
+    ensures { (request : Request) → IfOk result (λ offers. AreEligibleOf
+        (inputs_of (records_of (map (λ r. r.now) start.now)) (indices_of indices.now) prefs.now request) name.now offers.items) }
+{
+    let named = records_named(records_in(alloc, start)?, name);
+    let known = Known::new(alloc, named)?;
+    let places = sorted_named_places(alloc, indices, name)?;
+    let ordered = eligible_at(alloc, prefs, &known, places.as_slice())?;
+    Ok(ordered)
 }

@@ -1,14 +1,15 @@
 // The versions of names with their priorities, and which one is to be chosen first (apt_preferences(5)).
 
-ghost use Rattle.std.specs.Prelude.{◌≡◌, IfOk, refl};
+ghost use Rattle.std.specs.Prelude.{◌≡◌, [], IfOk, if◌then◌else◌, refl};
 ghost use Rattle.std.specs.Cmp.{eq_by_cmp_equiv, partial_equiv_from_equiv, po};
 ghost use Rattle.std.specs.Ordering.{as_partial_cmp, eq_by_cmp};
+ghost use Rattle.candidates.specs.Eligible.{AreByVersion};
 ghost use Rattle.candidates.specs.Offer.{AreBest, choice_cmp, eligible, is_eligible, offer_cmp};
 ghost use Rattle.candidates.specs.OfferLaws.{offer_cmp_total};
 
 use crate::known::{Known, is_downgrade};
 use debversion::Version;
-use std::alloc::AllocError;
+use std::alloc::{AllocError, Global};
 use std::cmp::Ordering;
 use std::marker::Model;
 
@@ -62,6 +63,17 @@ impl<'a> Offer<'a> {
         self.priority
     }
 
+    // The same offer once more.
+    fn again(&self) -> Offer<'a>
+        ensures { result ≡ self.now }
+    {
+        Offer {
+            name: self.name,
+            version: self.version.again(),
+            priority: self.priority,
+        }
+    }
+
     // The order of offers of one name: the one to choose first is less.
     fn choice_cmp(&self, other: &Offer<'_>) -> Ordering
         ensures { result ≡ choice_cmp self.now other.now }
@@ -88,6 +100,32 @@ pub fn eligible<'a>(known: &Known<'_, '_>, offers: Vec<Offer<'a>>) -> Vec<Offer<
     let mut kept = offers;
     kept.retain(|offer| is_eligible(known, offer));
     kept
+}
+
+/// The offers once more, where this says so, and else none.
+pub fn again_if<'a>(
+    alloc: Global,
+    wanted: bool,
+    offers: &[Offer<'a>],
+) -> Result<Vec<Offer<'a>>, AllocError>
+    ensures { IfOk result (λ copies. copies.items ≡ (if wanted then offers.now else [])) }
+{
+    if wanted {
+        offers.iter().map(|offer| offer.again()).collect(alloc)
+    } else {
+        Ok(Vec::new(alloc))
+    }
+}
+
+/// The offers of one name in the order of their versions, of those of one version one. About n log n comparisons of n offers.
+pub fn by_version<'a>(offers: Vec<Offer<'a>>) -> Result<Vec<Offer<'a>>, AllocError>
+    ensures { IfOk result (λ ordered. AreByVersion offers.entry.items ordered.items) }
+{
+    let mut ordered = offers;
+    ordered.sort_by_key(|offer| offer.version().again())?;
+    // No two are of one version, so nothing is dropped: that each is before the next is seen from this call alone.
+    ordered.dedup_by(|later, kept| later.version() == kept.version());
+    Ok(ordered)
 }
 
 /// The offer of each name that is to be chosen first, in the order of names. About n log n comparisons of n offers, and about

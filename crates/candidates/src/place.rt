@@ -2,12 +2,12 @@
 
 ghost use Rattle.std.specs.Prelude.{◌≡◌, ◌+◌, ◌≤◌, [], IfOk, IfSome, MatchOption, drop, length, refl};
 ghost use Rattle.std.specs.Cmp.{eq_by_cmp_equiv, partial_equiv_from_equiv, po};
-ghost use Rattle.std.specs.List.{prefix_len};
+ghost use Rattle.std.specs.List.{filter, prefix_len};
 ghost use Rattle.std.specs.Ordering.{as_partial_cmp, eq_by_cmp};
 ghost use Rattle.rules.specs.Name.{name_cmp};
 ghost use Rattle.pins.specs.Origin.{release_origin};
 ghost use Rattle.candidates.specs.Inputs.{indices_of};
-ghost use Rattle.candidates.specs.Place.{AreSorted, IsNextRun, is_like, place_at, place_cmp, places_in, places_of};
+ghost use Rattle.candidates.specs.Place.{AreSorted, IsNextRun, has_place_name, is_like, place_at, place_cmp, places_in, places_of};
 ghost use Rattle.candidates.specs.StanzaLaws.{place_cmp_total};
 
 use crate::prefix::{order_of, prefix_of};
@@ -127,6 +127,53 @@ pub fn sorted_places<'p, 'a>(
     ensures { IfOk result (λ sorted. AreSorted (places_of (indices_of indices.now)) sorted.items) }
 {
     let mut places = places_of(alloc, indices)?;
+    // The sort is stable, so of equal stanzas the earliest stays in front.
+    places.sort()?;
+    Ok(places)
+}
+
+// The stanzas of an index that have the name.
+fn named_in<'p, 'a>(
+    alloc: Global,
+    index: &'p Index<'a>,
+    name: &[u8],
+) -> Result<Vec<Place<'p, 'a>>, AllocError>
+    ensures { IfOk result (λ places. places.items ≡ filter (has_place_name name.now) (places_in index.now.index)) }
+{
+    let mut places = Vec::new(alloc);
+    for entry in index.packages() {
+        if entry.name() == name {
+            places.push(place_at(index.release(), entry))?;
+        }
+    }
+    Ok(places)
+}
+
+fn named_places<'p, 'a>(
+    alloc: Global,
+    indices: &'p [Index<'a>],
+    name: &[u8],
+) -> Result<Vec<Place<'p, 'a>>, AllocError>
+    ensures { IfOk result (λ places. places.items ≡ filter (has_place_name name.now) (places_of (indices_of indices.now))) }
+{
+    let mut places = Vec::new(alloc);
+    for index in indices {
+        let mut further = named_in(alloc, index, name)?;
+        places.append(&mut further)?;
+    }
+    Ok(places)
+}
+
+/// The stanzas of the indices that have the name, in their order, with the release keys of their indices. One comparison of
+/// the name with that of each stanza, and about n log n comparisons of the n that have it.
+pub fn sorted_named_places<'p, 'a>(
+    alloc: Global,
+    indices: &'p [Index<'a>],
+    name: &[u8],
+) -> Result<Vec<Place<'p, 'a>>, AllocError>
+    ensures { IfOk result (λ sorted. AreSorted (filter (has_place_name name.now) (places_of (indices_of indices.now))) sorted.items) }
+{
+    let mut places = named_places(alloc, indices, name)?;
     // The sort is stable, so of equal stanzas the earliest stays in front.
     places.sort()?;
     Ok(places)

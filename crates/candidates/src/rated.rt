@@ -5,12 +5,12 @@ ghost use Rattle.std.specs.List.Sorted.{IsSorted, IsStrictlySortedBy};
 ghost use Rattle.std.specs.Option.{option_or};
 ghost use Rattle.rules.specs.Priority.{status_origin};
 ghost use Rattle.candidates.specs.Place.{place_cmp, stanzas_of};
-ghost use Rattle.candidates.specs.Rated.{AreChosen, AreRated, HasPlace, IsFrom, IsKept, IsOfRun, StandsAlone, origins_with, standing_alone};
+ghost use Rattle.candidates.specs.Rated.{AreChosen, AreEligible, AreRated, HasPlace, IsFrom, IsKept, IsOfRun, StandsAlone, origins_with, standing_alone};
 ghost use Rattle.candidates.specs.Recorded.{record_cmp};
 ghost use Rattle.candidates.specs.Stanza.{IsOrdered, listed_cmp};
 
 use crate::known::{Known, standing_version};
-use crate::offer::{Offer, best_of, eligible};
+use crate::offer::{Offer, again_if, best_of, eligible};
 use crate::order::{Found, stanza_of};
 use crate::place::{Place, run_from};
 use crate::recorded::Recorded;
@@ -159,9 +159,9 @@ fn rated_offers<'a>(
     Ok(offers)
 }
 
-/// The offer of each name that is to be chosen first of those that may be, in the order of names. About n log n
-/// comparisons of n versions, and for each what `Prefs::priority` costs.
-pub fn chosen_offers<'a>(
+/// The offers of the versions that may be chosen. Linear in the places and the records but for their look-ups among the
+/// stanzas in order, and for each version what `Prefs::priority` costs.
+pub fn eligible_offers<'a>(
     alloc: Global,
     prefs: &Prefs,
     known: &Known<'_, 'a>,
@@ -170,9 +170,28 @@ pub fn chosen_offers<'a>(
 ) -> Result<Vec<Offer<'a>>, AllocError>
     requires places { IsSorted place_cmp places.now }
     requires ordered { IsOrdered (stanzas_of places.now) ordered.now }
-    ensures { IfOk result (λ best. AreChosen prefs.now known.now places.now best.items) }
+    ensures { IfOk result (λ offers. AreEligible prefs.now known.now places.now offers.items) }
 {
     let offers = rated_offers(alloc, prefs, known, places, ordered)?;
-    let best = best_of(eligible(known, offers))?;
-    Ok(best)
+    Ok(eligible(known, offers))
+}
+
+/// The offer of each name that is to be chosen first of those that may be, in the order of names, and each that may be, where
+/// all versions are asked for. About n log n comparisons of n versions, and for each what `Prefs::priority` costs.
+pub fn chosen_offers<'a>(
+    alloc: Global,
+    prefs: &Prefs,
+    known: &Known<'_, 'a>,
+    places: &[Place<'_, 'a>],
+    ordered: &[Found<'_, 'a>],
+    asks_all_versions: bool,
+) -> Result<(Vec<Offer<'a>>, Vec<Offer<'a>>), AllocError>
+    requires places { IsSorted place_cmp places.now }
+    requires ordered { IsOrdered (stanzas_of places.now) ordered.now }
+    ensures { IfOk result (λ chosen. AreChosen asks_all_versions prefs.now known.now places.now chosen.0.items chosen.1.items) }
+{
+    let offers = eligible_offers(alloc, prefs, known, places, ordered)?;
+    let all_versions = again_if(alloc, asks_all_versions, offers.as_slice())?;
+    let best = best_of(offers)?;
+    Ok((best, all_versions))
 }

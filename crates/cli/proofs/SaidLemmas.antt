@@ -12,7 +12,7 @@ use Rattle.inputs.specs.Texts.{Found, Texts}
 use Rattle.inputs.specs.declared.refusal.Refusal.{Refusal}
 use Rattle.refutecheck.specs.declared.verdict.Verdict.{Verdict as Refuted}
 use Rattle.rules.specs.declared.step.Verdict.{Verdict}
-use Rattle.solver.specs.declared.solved.Solved.{Solved}
+use Rattle.cli_engine.specs.declared.solve.Answered.{Answered}
 
 -- what holds of a value holds of it in a result
 pub if_ok : {A E : Type 0} (r : Result A E) (P Q : A → Type 0) → ((a : A) → P a → Q a) → IfOk r P → IfOk r Q
@@ -30,9 +30,9 @@ pub said_of_lines : (texts : Texts) (lines : Found) (r : Result Refuted Refusal)
 said_of_lines texts lines (Ok verdict) answer refused = answer
 said_of_lines texts lines (Err e) answer refused = refused
 
-pub said_of_request : (texts : Texts) (limit : ℕ) (r : Result Solved Refusal)
-    → IfOk r (λ solved. IsSolution texts limit solved) → IfErr r (λ refused. IsRefusal texts refused) → IsSaidOfRequest texts limit r
-said_of_request texts limit (Ok solved) answer refused = answer
+pub said_of_request : (texts : Texts) (limit : ℕ) (r : Result Answered Refusal)
+    → IfOk r (λ found. IsSolution texts limit found) → IfErr r (λ refused. IsRefusal texts refused) → IsSaidOfRequest texts limit r
+said_of_request texts limit (Ok found) answer refused = answer
 said_of_request texts limit (Err e) answer refused = refused
 
 pub said_of_name : (texts : Texts) (name : List ℕ) (r : Result (Option Offer) Refusal)

@@ -2,9 +2,10 @@
 use Rattle.std.specs.Prelude.{ℕ, Bool, List, ◌++◌, Option, Some, None, codes, decimal, if◌then◌else◌}
 use Rattle.std.specs.Fmt.{signed_decimal}
 use Rattle.candidates.specs.Offer.{Offer}
+use Rattle.cli_engine.specs.declared.solve.Answered.{Answered}
 use Rattle.refutecheck.specs.declared.verdict.Verdict.{Verdict as Refuted}
 use Rattle.refutecheck.specs.declared.verdict.Verdict.TheVariants as refuted
-use Rattle.plantext.specs.Plan.{plan_text}
+use Rattle.plantext.specs.Plan.{plan_text, plan_text_2}
 use Rattle.refutation_text.specs.Text.{refutation_text}
 use Rattle.rules.specs.declared.step.Reason.{Reason}
 use Rattle.rules.specs.declared.step.Reason.TheVariants as reason
@@ -24,11 +25,16 @@ undecided_line undecided.Start = codes "undecided blocked start\n"
 undecided_line (undecided.Stuck steps) = codes "undecided blocked stuck\n"
 undecided_line undecided.Unchecked = codes "undecided unchecked\n"
 
--- the answer to a request: a plan, a refutation, or why it is undecided
-abbrev pub solved_text : Solved → List ℕ
-solved_text (solved.Plan steps) = plan_text steps.items
-solved_text (solved.Refuted lines) = refutation_text lines
-solved_text (solved.Undecided why) = undecided_line why
+-- the answer to a request that asks for all versions, or doesn't: a plan, whose text is of version 2 where it does; a refutation; or
+-- why it is undecided
+abbrev pub text_for : Bool → Solved → List ℕ
+text_for asks_all_versions (solved.Plan steps) = if asks_all_versions then plan_text_2 steps.items else plan_text steps.items
+text_for asks_all_versions (solved.Refuted lines) = refutation_text lines
+text_for asks_all_versions (solved.Undecided why) = undecided_line why
+
+-- the text of what is answered to a request
+abbrev pub solved_text : Answered → List ℕ
+solved_text found = text_for found.asks_all_versions found.solved
 
 -- a rule: its code and its name
 abbrev pub rule_words : Rule → List ℕ
@@ -62,6 +68,10 @@ verdict_words (verdict.End found) = codes "no end F11 " ++ reason_words found
 -- the line that is printed of a verdict
 abbrev pub verdict_line : Verdict → List ℕ
 verdict_line answer = verdict_words answer ++ codes "\n"
+
+-- the line that is printed of a plan that was carried out: the number of its steps
+abbrev pub applied_line : ℕ → List ℕ
+applied_line steps = codes "applied " ++ (decimal steps ++ codes "\n")
 
 -- the line that is printed of the verdict on a refutation: yes, or no with the number of its first bad line
 abbrev pub refutation_line : Refuted → List ℕ

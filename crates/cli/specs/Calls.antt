@@ -1,12 +1,16 @@
 -- What the program answers to a call over known files.
 use Rattle.std.specs.Prelude.{◌≡◌, ℕ, Bool, List, Option, Result, Ok, Err, None, Some}
 use Rattle.candidates.specs.Offer.{Offer}
+use Rattle.apply_engine.specs.declared.applied.Applied.{Applied}
+use Rattle.apply_engine.specs.declared.refusal.ApplyRefusal.{ApplyRefusal}
+use Rattle.cli.specs.Applied.{IsOutcomeOfApplied, IsSaidOfApplied}
 use Rattle.cli.specs.Files.{Files, shelved_at}
 use Rattle.cli.specs.Outcome.{IsOutcomeOf, IsOutcomeOfCandidate, IsOutcomeOfComparison, IsOutcomeOfRefutation, IsOutcomeOfSolved}
 use Rattle.cli.specs.declared.arguments.Arguments.{Arguments}
 use Rattle.cli.specs.declared.arguments.Call.{Call}
 use Rattle.cli.specs.declared.arguments.Call.TheVariants as call
 use Rattle.cli.specs.declared.arguments.CompareArguments.{CompareArguments}
+use Rattle.cli.specs.declared.arguments.Places.{Places}
 use Rattle.cli.specs.declared.outcome.Outcome.{Outcome}
 use Rattle.cli_engine.specs.Answer.{IsCandidateAnswer}
 use Rattle.cli_engine.specs.Comparison.{comparison_refusal, holds}
@@ -19,7 +23,7 @@ use Rattle.inputs.specs.declared.refusal.Refusal.{Refusal}
 use Rattle.refutecheck.specs.declared.verdict.Verdict.{Verdict as Refuted}
 use Rattle.rules.specs.Version.{version_cmp}
 use Rattle.rules.specs.declared.step.Verdict.{Verdict}
-use Rattle.solver.specs.declared.solved.Solved.{Solved}
+use Rattle.cli_engine.specs.declared.solve.Answered.{Answered}
 
 -- the texts that the files have for these arguments
 abbrev pub texts_at : Files → Arguments → Texts
@@ -45,7 +49,7 @@ IsOutcomeOfName files arguments name found = (said : Result (Option Offer) Refus
 
 -- the outcome is that of what is said of the request by the files
 abbrev pub IsOutcomeOfRequest : Files → Arguments → ℕ → Outcome → Type 0
-IsOutcomeOfRequest files arguments limit found = (said : Result Solved Refusal)
+IsOutcomeOfRequest files arguments limit found = (said : Result Answered Refusal)
     × IsSaidOfRequest (texts_at files arguments) limit said × IsOutcomeOfSolved said found
 
 -- the outcome is that of what is said of the plan by the files
@@ -63,10 +67,17 @@ abbrev pub IsOutcomeOfVersions : CompareArguments → Outcome → Type 0
 IsOutcomeOfVersions arguments found =
     (said : Result Bool Refusal) × IsSaidOfVersions arguments said × IsOutcomeOfComparison said found
 
--- the outcome is that of what is said in answer to the call
-abbrev pub IsOutcomeOfCall : Files → Call → Outcome → Type 0
-IsOutcomeOfCall files (call.Compare arguments) found = IsOutcomeOfVersions arguments found
-IsOutcomeOfCall files (call.Candidate arguments name) found = IsOutcomeOfName files arguments name.now found
-IsOutcomeOfCall files (call.Solve arguments limit) found = IsOutcomeOfRequest files arguments limit found
-IsOutcomeOfCall files (call.CheckPlan arguments) found = IsOutcomeOfPlan files arguments found
-IsOutcomeOfCall files (call.CheckRefutation arguments) found = IsOutcomeOfLines files arguments found
+-- the outcome is that of what is said of the plan that is to be carried out, and so is what the files are then
+abbrev pub IsOutcomeOfPlanTaken : Files → Option Files → Arguments → Places → Outcome → Type 0
+IsOutcomeOfPlanTaken files after arguments places found = (said : Result Applied ApplyRefusal)
+    × IsSaidOfApplied (texts_at files arguments) (files arguments.paths.judged.now) said
+    × IsOutcomeOfApplied places.output.now files after said found
+
+-- the outcome is that of what is said in answer to the call, by the files before it and after it
+abbrev pub IsOutcomeOfCall : Files → Option Files → Call → Outcome → Type 0
+IsOutcomeOfCall files after (call.Compare arguments) found = IsOutcomeOfVersions arguments found
+IsOutcomeOfCall files after (call.Candidate arguments name) found = IsOutcomeOfName files arguments name.now found
+IsOutcomeOfCall files after (call.Solve arguments limit) found = IsOutcomeOfRequest files arguments limit found
+IsOutcomeOfCall files after (call.CheckPlan arguments) found = IsOutcomeOfPlan files arguments found
+IsOutcomeOfCall files after (call.CheckRefutation arguments) found = IsOutcomeOfLines files arguments found
+IsOutcomeOfCall files after (call.Apply arguments places) found = IsOutcomeOfPlanTaken files after arguments places found

@@ -1,9 +1,18 @@
 -- With which status the program ends: 0 yes, 1 no, 2 undecided, 3 refused, 4 wrong words, 5 device or memory (this project's own).
 use Rattle.std.specs.Prelude.{ℕ, Bool, Option, Some, None, if◌then◌else◌}
+use Rattle.apply.specs.declared.error.BeginError.TheVariants.{NotCreated, NotOpened}
+use Rattle.apply_engine.specs.declared.refusal.ApplyRefusal.{ApplyRefusal}
+use Rattle.apply_engine.specs.declared.refusal.ApplyRefusal.TheVariants as refused
+use Rattle.apply_engine.specs.declared.refusal.JournalFault.{JournalFault}
+use Rattle.apply_engine.specs.declared.refusal.JournalFault.TheVariants as journal
 use Rattle.cli.specs.declared.exit.Exit.{Exit}
 use Rattle.cli.specs.declared.exit.Exit.TheVariants as exit
 use Rattle.inputs.specs.declared.refusal.Fault.{Fault}
 use Rattle.inputs.specs.declared.refusal.Fault.TheVariants as fault
+use Rattle.journal.specs.declared.error.CreateError.{CreateError}
+use Rattle.journal.specs.declared.error.CreateError.TheVariants as creating
+use Rattle.journal.specs.declared.error.OpenError.{OpenError}
+use Rattle.journal.specs.declared.error.OpenError.TheVariants as opening
 use Rattle.refutecheck.specs.declared.verdict.Verdict.{Verdict as Refuted}
 use Rattle.refutecheck.specs.declared.verdict.Verdict.TheVariants as refuted
 use Rattle.rules.specs.declared.step.Verdict.{Verdict}
@@ -62,3 +71,34 @@ exit_of_fault (fault.Plan refused) = exit.Refused
 exit_of_fault (fault.Refutation refused) = exit.Refused
 exit_of_fault fault.TooLarge = exit.Refused
 exit_of_fault fault.Changed = exit.Refused
+
+-- so it is of a journal that isn't made: the device's for want of memory (E1) and a call of its file that failed (E20)
+abbrev pub exit_of_create_error : CreateError → Exit
+exit_of_create_error creating.OutOfMemory = exit.Device
+exit_of_create_error creating.TooLarge = exit.Refused
+exit_of_create_error creating.Disk = exit.Device
+exit_of_create_error creating.BadStart = exit.Refused
+
+-- so it is of one that isn't opened
+abbrev pub exit_of_open_error : OpenError → Exit
+exit_of_open_error opening.OutOfMemory = exit.Device
+exit_of_open_error opening.Disk = exit.Device
+exit_of_open_error opening.NotAJournal = exit.Refused
+exit_of_open_error (opening.Damaged offset) = exit.Refused
+exit_of_open_error opening.OtherArchitecture = exit.Refused
+
+-- so it is of one by which a plan isn't carried out
+abbrev pub exit_of_journal_fault : JournalFault → Exit
+exit_of_journal_fault (journal.NotBegun (NotCreated e)) = exit_of_create_error e
+exit_of_journal_fault (journal.NotBegun (NotOpened e)) = exit_of_open_error e
+exit_of_journal_fault journal.OutOfMemory = exit.Device
+exit_of_journal_fault journal.TooLarge = exit.Refused
+exit_of_journal_fault journal.Disk = exit.Device
+exit_of_journal_fault journal.Reopen = exit.Refused
+exit_of_journal_fault (journal.NotApplicable name) = exit.Refused
+exit_of_journal_fault journal.Mismatch = exit.Refused
+
+-- how the program ends where a plan is neither judged a bad one nor carried out
+abbrev pub exit_of_apply_refusal : ApplyRefusal → Exit
+exit_of_apply_refusal (refused.Text refusal) = exit_of_fault refusal.fault
+exit_of_apply_refusal (refused.Journal fault) = exit_of_journal_fault fault

@@ -1,5 +1,5 @@
 -- The files of a host, and what is found of them at the paths of a command line.
-use Rattle.std.specs.Prelude.{ℕ, List, Option}
+use Rattle.std.specs.Prelude.{◌≡◌, ◌≢◌, ℕ, List, Option, Some, Result, Ok, Err, ⊤}
 use Rattle.std.specs.Option.{option_copied, option_map}
 use Rattle.cli.specs.declared.files.Paths.{Paths}
 use Rattle.inputs.specs.Texts.{Shelved}
@@ -18,3 +18,13 @@ shelved_at files paths = record {
   request = files paths.request.now;
   judged = files paths.judged.now;
 }
+
+-- the files have this text at this path, and at each other path what there was
+pub record HasPut (path text : List ℕ) (old new : Files) : Type 0 where
+  pub put : new path ≡ Some text
+  pub others : (other : List ℕ) → other ≢ path → new other ≡ old other
+
+-- a text is put at a path all of it, or not at all
+abbrev pub Puts : {A E : Type 0} → List ℕ → List ℕ → Files → Result A E → Option Files → Type 0
+Puts path text old (Ok done) new = (after : Files) × (new ≡ Some after) × HasPut path text old after
+Puts path text old (Err e) new = new ≡ Some old

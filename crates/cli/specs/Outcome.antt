@@ -10,7 +10,7 @@ use Rattle.cli.specs.declared.outcome.Outcome.TheVariants as outcome
 use Rattle.inputs.specs.declared.refusal.Refusal.{Refusal}
 use Rattle.refutecheck.specs.declared.verdict.Verdict.{Verdict as Refuted}
 use Rattle.rules.specs.declared.step.Verdict.{Verdict}
-use Rattle.solver.specs.declared.solved.Solved.{Solved}
+use Rattle.cli_engine.specs.declared.solve.Answered.{Answered}
 
 -- the line names the program first
 abbrev pub IsComplaint : List ℕ → Type 0
@@ -32,8 +32,8 @@ IsOutcomeOfRefutation (Ok verdict) found = found ≡ outcome.Answer (refutation_
 IsOutcomeOfRefutation (Err refusal) found = IsOutcomeOfRefusal refusal found
 
 -- the outcome is that of the answer to a request: its text on standard output, a refusal's on standard error
-abbrev pub IsOutcomeOfSolved : Result Solved Refusal → Outcome → Type 0
-IsOutcomeOfSolved (Ok solved) found = found ≡ outcome.Answer (solved_text solved) (exit_of_solved solved)
+abbrev pub IsOutcomeOfSolved : Result Answered Refusal → Outcome → Type 0
+IsOutcomeOfSolved (Ok answered) found = found ≡ outcome.Answer (solved_text answered) (exit_of_solved answered.solved)
 IsOutcomeOfSolved (Err refusal) found = IsOutcomeOfRefusal refusal found
 
 -- the outcome is that of the comparison: its line on standard output, a refusal's on standard error

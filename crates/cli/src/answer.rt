@@ -5,8 +5,8 @@ ghost use Rattle.std.specs.Fmt.{signed_decimal};
 ghost use Rattle.std.specs.Option.{option_copied};
 ghost use Rattle.cli.specs.Answer as Spec;
 
-use cli_engine::{Candidate, RefutationVerdict, Solved, Undecided};
-use plantext::write_plan;
+use cli_engine::{Answered, Candidate, RefutationVerdict, Solved, Undecided};
+use plantext::{write_plan, write_plan_2};
 use refutation_text::write_refutation;
 use rules::{Reason, Rule, Text, Verdict};
 use std::alloc::{AllocError, Global};
@@ -34,12 +34,13 @@ pub fn refutation_line(alloc: Global, verdict: &RefutationVerdict) -> Result<Vec
     }
 }
 
-/// The text that is printed of the answer to a request: a plan, a refutation, or `undecided` with what it is undecided for. Memory
-/// alone can fail.
-pub fn solved_text(alloc: Global, solved: &Solved) -> Result<Vec<u8>, AllocError>
-    ensures { IfOk result (λ text. text.items ≡ Spec.solved_text solved.now) }
+/// The text that is printed of the answer to a request: a plan, in version 2 where the request asks for all versions, a refutation, or
+/// `undecided` with what it is undecided for. Memory alone can fail.
+pub fn solved_text(alloc: Global, found: &Answered) -> Result<Vec<u8>, AllocError>
+    ensures { IfOk result (λ text. text.items ≡ Spec.solved_text found.now) }
 {
-    match solved {
+    match &found.solved {
+        Solved::Plan(steps) if found.asks_all_versions => write_plan_2(alloc, steps.as_slice()),
         Solved::Plan(steps) => {
             let text = write_plan(alloc, steps.as_slice())?;
             Ok(text)
@@ -62,6 +63,13 @@ fn undecided_line(alloc: Global, why: &Undecided) -> Result<Vec<u8>, AllocError>
         Undecided::Stuck(_) => b"undecided blocked stuck\n".to_vec(alloc),
         Undecided::Unchecked => b"undecided unchecked\n".to_vec(alloc),
     }
+}
+
+/// The line that is printed of a plan that was carried out: `applied NUMBER`, with the number of its steps. Memory alone can fail.
+pub fn applied_line(alloc: Global, steps: usize) -> Result<Vec<u8>, AllocError>
+    ensures { IfOk result (λ line. line.items ≡ Spec.applied_line steps) }
+{
+    Ok(format!(in alloc; "applied {steps}\n")?.into_bytes())
 }
 
 /// The line that is printed of a comparison: `yes` or `no`. Memory alone can fail.

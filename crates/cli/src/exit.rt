@@ -3,7 +3,10 @@ ghost use Rattle.std.specs.Prelude.{◌≡◌};
 ghost use Rattle.std.specs.Option.{option_copied};
 ghost use Rattle.cli.specs.Exit as Spec;
 
+use apply::BeginError;
+use apply_engine::{ApplyRefusal, JournalFault};
 use cli_engine::{Candidate, Fault, Refusal, RefutationVerdict, Solved};
+use journal::{CreateError, OpenError};
 use rules::Verdict;
 
 /// How the program ends.
@@ -93,6 +96,47 @@ pub fn exit_of_refusal(refusal: &Refusal) -> Exit
 {
     match refusal.fault {
         Fault::OutOfMemory | Fault::Read => Exit::Device,
+        _ => Exit::Refused,
+    }
+}
+
+/// How the program ends with this refusal of a plan that is to be carried out: files, the journal's device and memory (E1, E5,
+/// E20) have a status of their own.
+pub fn exit_of_apply_refusal(refusal: &ApplyRefusal) -> Exit
+    ensures { result ≡ Spec.exit_of_apply_refusal refusal.now }
+{
+    match refusal {
+        ApplyRefusal::Text(refusal) => exit_of_refusal(refusal),
+        ApplyRefusal::Journal(fault) => exit_of_journal_fault(fault),
+    }
+}
+
+// How the program ends with this fault of the journal.
+fn exit_of_journal_fault(fault: &JournalFault) -> Exit
+    ensures { result ≡ Spec.exit_of_journal_fault fault.now }
+{
+    match fault {
+        JournalFault::NotBegun(BeginError::NotCreated(e)) => exit_of_create_error(*e),
+        JournalFault::NotBegun(BeginError::NotOpened(e)) => exit_of_open_error(*e),
+        JournalFault::OutOfMemory | JournalFault::Disk => Exit::Device,
+        _ => Exit::Refused,
+    }
+}
+
+fn exit_of_create_error(e: CreateError) -> Exit
+    ensures { result ≡ Spec.exit_of_create_error e }
+{
+    match e {
+        CreateError::OutOfMemory | CreateError::Disk => Exit::Device,
+        CreateError::TooLarge | CreateError::BadStart => Exit::Refused,
+    }
+}
+
+fn exit_of_open_error(e: OpenError) -> Exit
+    ensures { result ≡ Spec.exit_of_open_error e }
+{
+    match e {
+        OpenError::OutOfMemory | OpenError::Disk => Exit::Device,
         _ => Exit::Refused,
     }
 }

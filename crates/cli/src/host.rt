@@ -1,16 +1,29 @@
 // What the program asks of the machine that it runs on.
 ghost use Rattle.std.specs.Prelude.{◌≡◌, ◌+◌, ◌-◌, ◌^◌, ℕ, IfErr, IfOk, List, None, Option, Some, min};
-ghost use Rattle.cli.specs.Files.{Files};
+ghost use Rattle.cli.specs.Files.{Files, Puts};
 ghost use Rattle.inputs.specs.Counting.{Counts};
 
+use disk::Disk;
 use inputs::{ReadError, Source};
-use std::alloc::Global;
+use std::alloc::{AllocError, Global};
 
-/// Where files are read. A path is bytes: one that the machine can't open, as one that is no UTF-8 where paths have to be, is
-/// unreadable.
+/// Why a text wasn't put in a file's place.
+#[derive(Clone, Copy, Debug, PartialEq, Eq)]
+pub enum PutError {
+    /// The file couldn't be written.
+    Unwritten,
+    /// A growth was refused.
+    OutOfMemory,
+}
+
+/// Where files are read, and where the file of a journal and the output are. A path is bytes: one that the machine can't open,
+/// as one that is no UTF-8 where paths have to be, is unreadable.
 pub trait Host {
     /// The text of a file that was opened, to be read from its beginning.
     type Text: Source + Drop;
+
+    /// The file of a journal.
+    type Journal: Disk + Drop;
 
     // The files, where they are known.
     ghost files: { Self → Option Files } = { λ _. None };
@@ -44,11 +57,24 @@ pub trait Host {
     fn close(&mut self, text: Self::Text)
         ensures same { files self.new ≡ files self.old }
         ensures count { faults self.new ≡ min (faults self.old + Self.Text.faults text) (2 ^ 64 - 1) };
+
+    /// The file at the path as that of a journal. It isn't opened before the first call of it, which makes one where there is
+    /// none; a file that can't be opened or made is one whose calls fail. Memory alone can fail.
+    fn journal(&mut self, alloc: Global, path: &[u8]) -> Result<Self::Journal, AllocError>
+        ensures same { files self.new ≡ files self.old }
+        ensures count { faults self.new ≡ faults self.old };
+
+    /// Puts the text in the place of what the file at the path has, or makes the file: all of it or, at an error, none.
+    fn put(&mut self, alloc: Global, path: &[u8], text: &[u8]) -> Result<(), PutError>
+        ensures put { (at : Files) → files self.old ≡ Some at → Puts path.now text.now at result (files self.new) }
+        ensures count { faults self.new ≡ faults self.old };
 }
 
 /// A host that is lent.
 impl<H: Host> Host for &mut H {
     type Text = H::Text;
+
+    type Journal = H::Journal;
 
     ghost files = { λ host. H.files host.now };
 
@@ -68,5 +94,13 @@ impl<H: Host> Host for &mut H {
 
     fn close(&mut self, text: H::Text) {
         Host::close(&mut **self, text)
+    }
+
+    fn journal(&mut self, alloc: Global, path: &[u8]) -> Result<H::Journal, AllocError> {
+        Host::journal(&mut **self, alloc, path)
+    }
+
+    fn put(&mut self, alloc: Global, path: &[u8], text: &[u8]) -> Result<(), PutError> {
+        Host::put(&mut **self, alloc, path, text)
     }
 }

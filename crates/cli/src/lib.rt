@@ -1,10 +1,11 @@
 //! The program `debplan` over a host: from the words of its command line to what it prints and its exit status.
-//! It stands on `cli_engine`, which judges texts and finds candidates in them. The main call is `run`.
+//! It stands on `cli_engine`, which judges texts and finds candidates in them, and on `apply_engine`, which carries a plan out. The
+//! main call is `run`.
 #![tactic(auto)]
 
 mod answer;
 mod arguments;
-mod declare;
+mod carry_out;
 mod exit;
 mod files;
 mod find;
@@ -15,17 +16,22 @@ mod print;
 mod program;
 mod solve;
 
-pub use answer::{candidate_line, comparison_line, refutation_line, solved_text, verdict_line};
+pub use answer::{
+    applied_line, candidate_line, comparison_line, refutation_line, solved_text, verdict_line,
+};
+pub use apply_engine::{Applied, ApplyRefusal, CarriedOut, JournalFault};
+pub use carry_out::apply;
 pub use cli_engine::{
-    Candidate, Comparison, Fault, Input, Refusal, RefutationVerdict, Settings, Solved, Undecided,
+    Answered, Candidate, Comparison, Fault, Input, Refusal, RefutationVerdict, Settings, Solved,
+    Undecided,
 };
 pub use exit::{
-    Exit, exit_of_candidate, exit_of_comparison, exit_of_refusal, exit_of_refutation,
-    exit_of_solved, exit_of_verdict,
+    Exit, exit_of_apply_refusal, exit_of_candidate, exit_of_comparison, exit_of_refusal,
+    exit_of_refutation, exit_of_solved, exit_of_verdict,
 };
 pub use files::{HostShelf, Paths};
 pub use find::find_candidate;
-pub use host::Host;
+pub use host::{Host, PutError};
 pub use inputs::{ReadError, ReadFailed, Source};
 pub use judge::{check_plan, check_refutation};
 pub use outcome::{

@@ -1,16 +1,28 @@
 // What the program prints, and on which stream.
-ghost use Rattle.std.specs.Prelude.{◌≡◌, IfOk};
+ghost use Rattle.std.specs.Prelude.{◌≡◌, ◌≢◌, ℕ, IfOk, List};
+ghost use Rattle.clap.specs.Values.{kind_of};
+ghost use Rattle.cli.specs.Words.{IsOutcomeOfKind};
+ghost use Rattle.cli.specs.Answer.{applied_line};
+ghost use Rattle.cli.specs.declared.exit.Exit.TheVariants as exit;
+ghost use Rattle.cli.specs.Applied.{IsUnwritten};
+ghost use Rattle.cli.specs.Exit.{exit_of_apply_refusal};
+ghost use Rattle.cli.specs.declared.outcome.Outcome.TheVariants as found;
 ghost use Rattle.cli.specs.Outcome.{IsComplaint, IsOutcomeOf, IsOutcomeOfCandidate, IsOutcomeOfComparison, IsOutcomeOfRefusal, IsOutcomeOfRefutation, IsOutcomeOfSolved};
 
-use crate::answer::{candidate_line, comparison_line, refutation_line, solved_text, verdict_line};
-use crate::declare::COMMANDS;
-use crate::exit::{
-    Exit, exit_of_candidate, exit_of_comparison, exit_of_refusal, exit_of_refutation,
-    exit_of_solved, exit_of_verdict,
+use crate::answer::{
+    applied_line, candidate_line, comparison_line, refutation_line, solved_text, verdict_line,
 };
+use crate::exit::{
+    Exit, exit_of_apply_refusal, exit_of_candidate, exit_of_comparison, exit_of_refusal,
+    exit_of_refutation, exit_of_solved, exit_of_verdict,
+};
+use apply::BeginError;
+use apply_engine::{ApplyRefusal, JournalFault};
 use clap::Error;
 use clap::error::ErrorKind;
-use cli_engine::{Candidate, Refusal, RefutationVerdict, Solved};
+use cli_engine::{Answered, Candidate, Refusal, RefutationVerdict};
+use command_line::COMMANDS;
+use journal::{CreateError, OpenError};
 use rules::{Items, Verdict};
 use std::alloc::{AllocError, Global};
 
@@ -61,14 +73,14 @@ pub fn outcome_of_refutation(
 /// can fail.
 pub fn outcome_of_solved(
     alloc: Global,
-    answer: &Result<Solved, Refusal>,
+    answer: &Result<Answered, Refusal>,
 ) -> Result<Outcome, AllocError>
     ensures { IfOk result (λ outcome. IsOutcomeOfSolved answer.now outcome) }
 {
     match answer {
-        Ok(solved) => {
-            let text = Items::new(solved_text(alloc, solved)?);
-            Ok(Outcome::Answer(text, exit_of_solved(solved)))
+        Ok(found) => {
+            let text = Items::new(solved_text(alloc, found)?);
+            Ok(Outcome::Answer(text, exit_of_solved(&found.solved)))
         }
         Err(refusal) => outcome_of_refusal(alloc, refusal),
     }
@@ -125,24 +137,70 @@ fn refusal_line(alloc: Global, refusal: &Refusal) -> Result<Vec<u8>, AllocError>
     Ok(format!(in alloc; "debplan: {refusal}\n")?.into_bytes())
 }
 
-/// What is printed of words that ask for help or are wrong. Memory alone can fail.
-pub(crate) fn outcome_of_usage(alloc: Global, error: &Error) -> Result<Outcome, AllocError> {
-    if error.kind() == ErrorKind::OutOfMemory {
+/// What is printed of a plan that is neither judged a bad one nor carried out. Memory alone can fail.
+pub(crate) fn outcome_of_apply_refusal(
+    alloc: Global,
+    refusal: &ApplyRefusal,
+) -> Result<Outcome, AllocError>
+    ensures { IfOk result (λ outcome. (line : List ℕ)
+        × (outcome ≡ found.Complaint line (exit_of_apply_refusal refusal.now)) × IsComplaint line) }
+{
+    if is_for_memory(refusal) {
         return Err(AllocError);
     }
-    let text = Items::new(usage_text(alloc, error)?.into_bytes());
-    if error.use_stderr() {
-        Ok(Outcome::Complaint(text, Exit::Usage))
-    } else {
-        Ok(Outcome::Answer(text, Exit::Success))
+    let refused = refusal.to_string(alloc)?;
+    let line = Items::new(format!(in alloc; "debplan: {refused}\n")?.into_bytes());
+    Ok(Outcome::Complaint(line, exit_of_apply_refusal(refusal)))
+}
+
+/// What is printed of an output that couldn't be written. Memory alone can fail.
+pub(crate) fn outcome_of_unwritten(alloc: Global) -> Result<Outcome, AllocError>
+    ensures { IfOk result IsUnwritten }
+{
+    let line = Items::new(b"debplan: output: E26 Write\n".to_vec(alloc)?);
+    Ok(Outcome::Complaint(line, Exit::Device))
+}
+
+/// What is printed of a plan of so many steps that was carried out. Memory alone can fail.
+pub(crate) fn outcome_of_steps(alloc: Global, steps: usize) -> Result<Outcome, AllocError>
+    ensures { IfOk result (λ outcome. outcome ≡ found.Answer (applied_line steps) exit.Success) }
+{
+    let line = Items::new(applied_line(alloc, steps)?);
+    Ok(Outcome::Answer(line, Exit::Success))
+}
+
+// Whether memory was wanting for the journal: then no text is refused.
+fn is_for_memory(refusal: &ApplyRefusal) -> bool {
+    match refusal {
+        ApplyRefusal::Journal(JournalFault::OutOfMemory) => true,
+        ApplyRefusal::Journal(JournalFault::NotBegun(BeginError::NotCreated(e))) => {
+            *e == CreateError::OutOfMemory
+        }
+        ApplyRefusal::Journal(JournalFault::NotBegun(BeginError::NotOpened(e))) => {
+            *e == OpenError::OutOfMemory
+        }
+        _ => false,
+    }
+}
+
+/// What is printed of words that ask for help or are wrong. Memory alone can fail.
+pub(crate) fn outcome_of_usage(alloc: Global, error: &Error) -> Result<Outcome, AllocError>
+    ensures { IfOk result (λ outcome. (kind_of error.now ≢ ErrorKind.OutOfMemory) × IsOutcomeOfKind (kind_of error.now) outcome) }
+{
+    match error.kind() {
+        ErrorKind::OutOfMemory => Err(AllocError),
+        ErrorKind::DisplayHelp | ErrorKind::DisplayVersion => {
+            Ok(Outcome::Answer(usage_text(alloc, error)?, Exit::Success))
+        }
+        _ => Ok(Outcome::Complaint(usage_text(alloc, error)?, Exit::Usage)),
     }
 }
 
 // The text of this error, and the commands where one is named that there is none of.
-fn usage_text(alloc: Global, error: &Error) -> Result<String, AllocError> {
+fn usage_text(alloc: Global, error: &Error) -> Result<Items<u8>, AllocError> {
     let mut text = error.to_string(alloc)?;
     if error.kind() == ErrorKind::InvalidSubcommand {
         text.push_str(COMMANDS)?;
     }
-    Ok(text)
+    Ok(Items::new(text.into_bytes()))
 }

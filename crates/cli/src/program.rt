@@ -1,23 +1,29 @@
 // The whole program over a host.
-ghost use Rattle.std.specs.Prelude.{◌≡◌, IfOk, Some};
-ghost use Rattle.cli.specs.Calls.{IsOutcomeOfCall, IsOutcomeOfLines, IsOutcomeOfName, IsOutcomeOfPlan, IsOutcomeOfRequest, IsOutcomeOfVersions, IsSaidOfVersions};
+ghost use Rattle.std.specs.Prelude.{◌≡◌, ◌⊎◌, IfOk, Some, map};
+ghost use Rattle.cli.specs.Applied.{IsOutcomeOfDone, IsSaidOfApplied};
+ghost use Rattle.cli.specs.Calls.{IsOutcomeOfCall, IsOutcomeOfLines, IsOutcomeOfName, IsOutcomeOfPlan, IsOutcomeOfPlanTaken, IsOutcomeOfRequest, IsOutcomeOfVersions, IsSaidOfVersions, texts_at};
 ghost use Rattle.cli.specs.Files.{Files};
 ghost use Rattle.cli.specs.Outcome.{IsWritten};
+ghost use Rattle.cli.specs.Words.{IsOutcomeOfMemory, IsOutcomeOfWords};
 ghost use Rattle.cli.specs.declared.outcome.Outcome.{Outcome as Found};
 
-use crate::arguments::{Arguments, Call, CompareArguments, call_of, mistake, texts_of};
+use crate::arguments::{Arguments, Call, CompareArguments, Places, call_by};
+use crate::carry_out::apply;
 use crate::exit::Exit;
 use crate::files::HostShelf;
 use crate::find::find_candidate;
-use crate::host::Host;
+use crate::host::{Host, PutError};
 use crate::judge::{check_plan, check_refutation};
 use crate::outcome::{
-    Outcome, outcome_of_answer, outcome_of_candidate, outcome_of_comparison, outcome_of_refutation,
-    outcome_of_solved, outcome_of_usage,
+    Outcome, outcome_of_answer, outcome_of_apply_refusal, outcome_of_candidate,
+    outcome_of_comparison, outcome_of_refutation, outcome_of_solved, outcome_of_steps,
+    outcome_of_unwritten, outcome_of_usage,
 };
 use crate::print::{complain, print};
 use crate::solve::solve_request;
+use apply_engine::{Applied, ApplyRefusal, CarriedOut};
 use cli_engine::{Refusal, compare};
+use command_line::{call_of, joined, mistake, texts_of};
 use std::alloc::{AllocError, Global};
 use std::io::Write;
 
@@ -30,7 +36,8 @@ pub fn run<H: Host, W: Write, E: Write>(
     out: &mut W,
     err: &mut E,
 ) -> u8
-    ensures { (found : Found) × IsWritten found (W.contents out.old) (W.contents out.new) result }
+    ensures { (found : Found) × (IsOutcomeOfWords (H.files host.old) (H.files host.new) (map (λ word. word.items) words.now) found
+        ⊎ IsOutcomeOfMemory found) × IsWritten found (W.contents out.old) (W.contents out.new) result }
 {
     match outcome_of_words(alloc, words, host) {
         Ok(outcome) => print(&outcome, out, err),
@@ -50,12 +57,15 @@ fn outcome_of_words<H: Host>(
     alloc: Global,
     words: &[Vec<u8>],
     host: &mut H,
-) -> Result<Outcome, AllocError> {
+) -> Result<Outcome, AllocError>
+    ensures { IfOk result (IsOutcomeOfWords (H.files host.old) (H.files host.new) (map (λ word. word.items) words.now)) }
+{
     let Some(texts) = texts_of(alloc, words)? else {
         return outcome_of_usage(alloc, &mistake(alloc, "an argument isn't UTF-8"));
     };
-    match call_of(alloc, texts.as_slice()) {
-        Ok(call) => outcome_of_call(alloc, &call, host),
+    let words = joined(alloc, texts.as_slice())?;
+    match call_of(alloc, words.as_slice()) {
+        Ok(asked) => outcome_of_call(alloc, &call_by(&asked), host),
         Err(error) => outcome_of_usage(alloc, &error),
     }
 }
@@ -66,7 +76,8 @@ fn outcome_of_call<H: Host>(
     call: &Call<'_>,
     host: &mut H,
 ) -> Result<Outcome, AllocError>
-    ensures { (at : Files) → H.files host.old ≡ Some at → IfOk result (λ outcome. IsOutcomeOfCall at call.now outcome) }
+    ensures { (at : Files) → H.files host.old ≡ Some at
+        → IfOk result (λ outcome. IsOutcomeOfCall at (H.files host.new) call.now outcome) }
 {
     match call {
         Call::Compare(arguments) => outcome_of_versions(alloc, arguments),
@@ -76,6 +87,7 @@ fn outcome_of_call<H: Host>(
         Call::Solve(arguments, limit) => outcome_of_request(alloc, host, arguments, *limit),
         Call::CheckPlan(arguments) => outcome_of_plan(alloc, host, arguments),
         Call::CheckRefutation(arguments) => outcome_of_lines(alloc, host, arguments),
+        Call::Apply(arguments, places) => outcome_of_applied(alloc, host, arguments, places),
     }
 }
 
@@ -135,6 +147,57 @@ fn outcome_of_lines<H: Host>(
     let mut shelf = HostShelf { host, paths };
     let answer = check_refutation(alloc, &mut shelf, &settings);
     outcome_of_refutation(alloc, &answer)
+}
+
+// What is printed of the plan that is to be carried out.
+fn outcome_of_applied<H: Host>(
+    alloc: Global,
+    host: &mut H,
+    arguments: &Arguments<'_>,
+    places: &Places<'_>,
+) -> Result<Outcome, AllocError>
+    ensures { (at : Files) → H.files host.old ≡ Some at
+        → IfOk result (λ outcome. IsOutcomeOfPlanTaken at (H.files host.new) arguments.now places.now outcome) }
+{
+    match answer_of_plan(alloc, host, arguments, places.journal)? {
+        Ok(Applied::Judged(verdict)) => outcome_of_answer(alloc, &Ok(verdict)),
+        Ok(Applied::Done(done)) => outcome_of_done(alloc, host, places.output, &done),
+        Err(refusal) => outcome_of_apply_refusal(alloc, &refusal),
+    }
+}
+
+// What came of the plan, by the journal at this path. Memory alone can fail.
+fn answer_of_plan<H: Host>(
+    alloc: Global,
+    host: &mut H,
+    arguments: &Arguments<'_>,
+    journal: &str,
+) -> Result<Result<Applied, ApplyRefusal>, AllocError>
+    ensures said { (at : Files) → H.files host.old ≡ Some at
+        → IfOk result (IsSaidOfApplied (texts_at at arguments.now) (at arguments.now.paths.judged.now)) }
+    ensures same { H.files host.new ≡ H.files host.old }
+{
+    let mut disk = host.journal(alloc, journal.as_bytes())?;
+    let Arguments { settings, paths } = *arguments;
+    let mut shelf = HostShelf { host, paths };
+    Ok(apply(alloc, &mut shelf, &settings, &mut disk))
+}
+
+// What is printed of a plan that was carried out, once its status file stands in the place of the output.
+fn outcome_of_done<H: Host>(
+    alloc: Global,
+    host: &mut H,
+    output: &str,
+    done: &CarriedOut,
+) -> Result<Outcome, AllocError>
+    ensures { (at : Files) → H.files host.old ≡ Some at → IfOk result (λ outcome.
+        IsOutcomeOfDone done.now.steps done.now.status.items output.now at (H.files host.new) outcome) }
+{
+    match host.put(alloc, output.as_bytes(), done.status.as_slice()) {
+        Ok(()) => outcome_of_steps(alloc, done.steps),
+        Err(PutError::Unwritten) => outcome_of_unwritten(alloc),
+        Err(PutError::OutOfMemory) => Err(AllocError),
+    }
 }
 
 // What is printed of the answer to the comparison.

@@ -8,7 +8,7 @@ ghost use Rattle.inputs.specs.Texts.{texts_of};
 
 use crate::files::HostShelf;
 use crate::host::Host;
-use cli_engine::{Refusal, Settings, Solved, solve_from};
+use cli_engine::{Answered, Refusal, Settings, solve_from};
 use std::alloc::Global;
 
 /// Solves the request by the files of a host, with at most so many conflicts of the search. The files are opened in the order
@@ -18,9 +18,9 @@ pub fn solve_request<H: Host>(
     shelf: &mut HostShelf<'_, H>,
     settings: &Settings<'_>,
     limit: u32,
-) -> Result<Solved, Refusal>
+) -> Result<Answered, Refusal>
     ensures answer { (at : Files) → H.files shelf.old.host ≡ Some at
-        → IfOk result (λ solved. IsSolution (texts_of settings.now (shelved_at at shelf.old.paths)) limit solved) }
+        → IfOk result (λ found. IsSolution (texts_of settings.now (shelved_at at shelf.old.paths)) limit found) }
     ensures refused { (at : Files) → H.files shelf.old.host ≡ Some at
         → IfErr result (λ refused. IsRefusal (texts_of settings.now (shelved_at at shelf.old.paths)) refused) }
     ensures count { CountsRead result (H.faults shelf.old.host) (H.faults shelf.new.host) }

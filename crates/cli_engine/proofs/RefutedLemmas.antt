@@ -9,8 +9,7 @@ use Rattle.rules.specs.Universe.{Universe}
 use Rattle.refutecheck.specs.Answer.{IsVerdict}
 use Rattle.refutecheck.specs.declared.verdict.Verdict.{Verdict}
 use Rattle.refutecheck.specs.declared.verdict.Verdict.TheVariants as verdict
-use Rattle.universe_build.specs.Build.{goals_of}
-use Rattle.inputs.specs.Meaning.{Denotes}
+use Rattle.inputs.specs.Meaning.{Denotes, asked_of}
 use Rattle.inputs.specs.Reading.{out_of_memory}
 use Rattle.inputs.specs.Texts.{Found, Texts}
 use Rattle.inputs.specs.declared.refusal.Refusal.{Refusal}
@@ -26,12 +25,12 @@ use mathlib.Core.Logic.{inl, inr}
 
 -- the pairs of the universe that texts denote ascend, and those that must be selected are there
 pub needed-pairs : (texts : Texts) (u : Universe) (start : List Record) → Denotes texts u start → HasAscendingPairs u × HasNeededPairs u
-needed-pairs texts u start is = universe_has_needed_pairs (inputs_of start is.indices is.prefs (goals_of is.lines)) u
+needed-pairs texts u start is = universe_has_needed_pairs (inputs_of start is.indices is.prefs (asked_of is.asked)) u
     (distinct_start texts start is.read.listed.started) is.requested.built.universe
 
 -- the universe that texts denote is counted by their start
 pub counted-by-start : (texts : Texts) (u : Universe) (start : List Record) → Denotes texts u start → IsCounted start u
-counted-by-start texts u start is = universe_is_counted (inputs_of start is.indices is.prefs (goals_of is.lines)) u
+counted-by-start texts u start is = universe_is_counted (inputs_of start is.indices is.prefs (asked_of is.asked)) u
     (distinct_start texts start is.read.listed.started) is.requested.built.universe
 
 pub yes-refutes : YesRefutes

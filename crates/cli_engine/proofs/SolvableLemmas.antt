@@ -15,7 +15,7 @@ use Rattle.rules.specs.Verdict.{IsBuiltOn}
 use Rattle.rules.proofs.VerdictLemmas.{universe_is_built}
 use Rattle.universe.specs.Universe.{HaveDistinctNames}
 use Rattle.universe_build.proofs.StartsApart.{starts_apart}
-use Rattle.universe_build.specs.Build.{goals_of}
+use Rattle.inputs.specs.Meaning.{asked_of}
 use Rattle.inputs.specs.Before.{HasIndices, HasStart}
 use Rattle.inputs.specs.Indices.{index_in, index_of, index_then, indices_from, read_indices, with_indices}
 use Rattle.inputs.specs.Texts.{Found, Texts}
@@ -83,12 +83,12 @@ meaning_is_solvable texts u start is = record {
   needed = (needed-pairs texts u start is).1;
   start_names = records_named texts start is.read.listed.started;
   pair_names = All-intro (λ (pair : Pair). IsTrue (is_name pair.pkg.name)) u.pairs (λ pair within.
-      package_named (inputs_of start is.indices is.prefs (goals_of is.lines)) pair.pkg.name pair.pkg.version pair.pkg
+      package_named (inputs_of start is.indices is.prefs (asked_of is.asked)) pair.pkg.name pair.pkg.version pair.pkg
       (records_named texts start is.read.listed.started) (stanzas_are_named texts is.indices is.read.listed.indexed)
-      (All-contains (λ (p : Pair). counting_package (inputs_of start is.indices is.prefs (goals_of is.lines)) p.pkg.name p.pkg.version ≡ Some p.pkg)
+      (All-contains (λ (p : Pair). counting_package (inputs_of start is.indices is.prefs (asked_of is.asked)) p.pkg.name p.pkg.version ≡ Some p.pkg)
       u.pairs pair is.requested.built.universe.counting within));
 }
   where
     built : IsBuiltOn start u
-    built = universe_is_built (inputs_of start is.indices is.prefs (goals_of is.lines)) u
+    built = universe_is_built (inputs_of start is.indices is.prefs (asked_of is.asked)) u
         (distinct_start texts start is.read.listed.started) is.requested.built.universe

@@ -1,5 +1,5 @@
 -- What is answered of a plan and of a name, and which refusal comes first.
-use Rattle.std.specs.Prelude.{◌≡◌, ◌⊎◌, ℕ, List, [], Option, Result, Ok, Err}
+use Rattle.std.specs.Prelude.{◌≡◌, ◌⊎◌, ℕ, List, Option, Result, Ok, Err}
 use Rattle.candidates.specs.Candidates.{IsCandidateOf}
 use Rattle.candidates.specs.Inputs.{inputs_of}
 use Rattle.candidates.specs.Offer.{Offer}
@@ -14,7 +14,7 @@ use Rattle.inputs.specs.declared.refusal.Input.TheVariants as place
 use Rattle.inputs.specs.declared.refusal.Refusal.{Refusal}
 use Rattle.pins.specs.Prefs.{Preferences}
 use Rattle.plantext.specs.Plan.{read_plan}
-use Rattle.rules.specs.Available.{Index}
+use Rattle.rules.specs.Available.{Index, Request}
 use Rattle.rules.specs.Database.{Record}
 use Rattle.rules.specs.Universe.{Universe}
 use Rattle.rules.specs.Verdict.{IsVerdict}
@@ -46,10 +46,10 @@ pub record IsAnswer (texts : Texts) (plan : Found) (verdict : Verdict) : Type 0 
   pub read : plan_of plan ≡ Ok steps
   pub holds : IsVerdict universe start steps verdict
 
--- it is the candidate of the name, if the name has one, by what the texts before the request are read as
+-- it is the candidate of the name, if the name has one, by what the texts before the request are read as, whatever is asked for
 pub record IsCandidateAnswer (texts : Texts) (name : List ℕ) (found : Option Offer) : Type 0 where
   pub start : List Record
   pub indices : List Index
   pub prefs : Preferences
   pub read : AreRead texts start indices prefs
-  pub holds : IsCandidateOf (inputs_of start indices prefs []) name found
+  pub holds : (request : Request) → IsCandidateOf (inputs_of start indices prefs request) name found

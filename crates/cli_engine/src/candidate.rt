@@ -1,7 +1,8 @@
 //! The candidate of a name by texts (apt_preferences(5)).
-ghost use Rattle.std.specs.Prelude.{◌≡◌, [], IfErr, IfOk, None, Some};
+ghost use Rattle.std.specs.Prelude.{◌≡◌, IfErr, IfOk, None, Some};
 ghost use Rattle.candidates.specs.Candidates.{IsCandidateOf};
 ghost use Rattle.candidates.specs.Inputs.{indices_of, inputs_of};
+ghost use Rattle.rules.specs.Available.{Request};
 ghost use Rattle.inputs.specs.Before.{IsRefusalBefore};
 ghost use Rattle.inputs.specs.Counting.{CountsRead};
 ghost use Rattle.inputs.specs.Inputs.{shelved};
@@ -28,8 +29,8 @@ fn candidate_over(
     prefs: &Prefs,
     name: &[u8],
 ) -> Result<Option<Candidate>, AllocError>
-    ensures { IfOk result (λ found. IsCandidateOf
-        (inputs_of (slot_records database.now.slots) (indices_of indices.now) prefs.now []) name.now found) }
+    ensures { (request : Request) → IfOk result (λ found. IsCandidateOf
+        (inputs_of (slot_records database.now.slots) (indices_of indices.now) prefs.now request) name.now found) }
 {
     let _names = database.names();
     let records = database.records(alloc)?;

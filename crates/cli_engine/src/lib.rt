@@ -27,5 +27,5 @@ pub use offered::Candidate;
 pub use plan::read_steps;
 pub use refutecheck::Verdict as RefutationVerdict;
 pub use rules::{Reason, Rule, Verdict};
-pub use solve::{solve_bytes, solve_from};
+pub use solve::{Answered, solve_bytes, solve_from};
 pub use solver::{Solved, Undecided};

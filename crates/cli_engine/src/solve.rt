@@ -15,8 +15,8 @@ ghost use Rattle.cli_engine.specs.Solution.{IsSolution};
 use fixed_order::{has_names, has_pair_names};
 use index::KeptIndex;
 use inputs::{
-    Inputs, MemoryShelf, Refusal, Settings, Shelf, lend_indices, read_database, read_listed,
-    read_preferences, read_status, read_universe,
+    Inputs, MemoryShelf, Refusal, Requested, Settings, Shelf, lend_indices, read_database,
+    read_listed, read_preferences, read_requested, read_status,
 };
 use rules::Release;
 use solver::{Solved, solve};
@@ -24,6 +24,15 @@ use status_store::Database;
 use status_view::{parse_packages, view};
 use std::alloc::{AllocError, Global};
 use universe::Universe;
+
+/// What is answered to a request.
+#[derive(Drop)]
+pub struct Answered {
+    /// A plan, a refutation, or why it is undecided.
+    pub solved: Solved,
+    /// Whether the request asks for all versions.
+    pub asks_all_versions: bool,
+}
 
 // Solves the request of the universe from this database on. What is read has package names alone, and of a shelf that doesn't
 // say what is found on it no contract says so: names are looked at once more, and one that is none is as want of memory.
@@ -56,11 +65,11 @@ fn solve_by<'k, 'a: 'k, S: Shelf>(
     kept: &'k [KeptIndex],
     releases: Vec<Release>,
     limit: u32,
-) -> Result<Solved, Refusal>
+) -> Result<Answered, Refusal>
     requires { length kept.now ≡ length releases.items }
     ensures answer { (at : Shelved) → S.found shelf.old ≡ Some at → HasStart (texts_of settings.now at) (slot_records database.now.slots)
         → HasIndices (texts_of settings.now at) (released releases.items kept.now)
-        → IfOk result (λ solved. IsSolution (texts_of settings.now at) limit solved) }
+        → IfOk result (λ found. IsSolution (texts_of settings.now at) limit found) }
     ensures refused { (at : Shelved) → S.found shelf.old ≡ Some at → HasStart (texts_of settings.now at) (slot_records database.now.slots)
         → HasIndices (texts_of settings.now at) (released releases.items kept.now)
         → IfErr result (λ refused. IsRefusal (texts_of settings.now at) refused) }
@@ -69,23 +78,29 @@ fn solve_by<'k, 'a: 'k, S: Shelf>(
 {
     let indices = lend_indices(alloc, kept, releases)?;
     let prefs = read_preferences(alloc, shelf, settings)?;
-    let universe = read_universe(alloc, shelf, settings, database, indices.as_slice(), &prefs)?;
+    let Requested {
+        universe,
+        asks_all_versions,
+    } = read_requested(alloc, shelf, settings, database, indices.as_slice(), &prefs)?;
     let solved = solve_over(alloc, database, &universe, limit)?;
-    Ok(solved)
+    Ok(Answered {
+        solved,
+        asks_all_versions,
+    })
 }
 
 /// Solves the request by the texts of a shelf, with at most so many conflicts of the search: a plan that is good over what
 /// they denote; a refutation that is accepted over it, so that no set of admitted pairs is acceptable; or why it is
-/// undecided; or the first refusal in the order status, sources, indices, preferences, request, as `check_plan_from` has it.
+/// undecided; with whether the request asks for all versions; or the first refusal in the order status, sources, indices, preferences, request, as `check_plan_from` has it.
 /// Reading costs what `check_plan_from` says; solving costs what `solver::solve` says.
 pub fn solve_from<S: Shelf>(
     alloc: Global,
     shelf: &mut S,
     settings: &Settings<'_>,
     limit: u32,
-) -> Result<Solved, Refusal>
+) -> Result<Answered, Refusal>
     ensures answer { (at : Shelved) → S.found shelf.old ≡ Some at
-        → IfOk result (λ solved. IsSolution (texts_of settings.now at) limit solved) }
+        → IfOk result (λ found. IsSolution (texts_of settings.now at) limit found) }
     ensures refused { (at : Shelved) → S.found shelf.old ≡ Some at
         → IfErr result (λ refused. IsRefusal (texts_of settings.now at) refused) }
     ensures same { S.found shelf.new ≡ S.found shelf.old }
@@ -111,8 +126,8 @@ pub fn solve_bytes(
     inputs: &Inputs<'_, '_>,
     settings: &Settings<'_>,
     limit: u32,
-) -> Result<Solved, Refusal>
-    ensures answer { IfOk result (λ solved. IsSolution (texts_of settings.now (shelved inputs.now None)) limit solved) }
+) -> Result<Answered, Refusal>
+    ensures answer { IfOk result (λ found. IsSolution (texts_of settings.now (shelved inputs.now None)) limit found) }
     ensures refused { IfErr result (λ refused. IsRefusal (texts_of settings.now (shelved inputs.now None)) refused) }
 {
     let mut shelf = MemoryShelf::new(*inputs, None);

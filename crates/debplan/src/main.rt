@@ -1,192 +1,32 @@
 //! The program `debplan`: `cli::run` over the machine's own files, with its words and its streams.
 #![tactic(auto)]
 
-ghost use Rattle.std.specs.Prelude.{◌≡◌, ◌≤◌, IfOk, length};
-ghost use Rattle.inputs.specs.Counting.{one_more};
-ghost use Rattle.inputs.specs.declared.shelf.ReadError.TheVariants as ReadError;
+mod journal_file;
+mod machine;
+mod output;
+mod words;
 
-use cli::{Host, ReadError, ReadFailed, Source, refuse_for_memory, run};
-use rules::TEXT_BYTES;
-use std::alloc::{AllocError, Global};
-use std::env::{Env, FillError};
-use std::fs::File;
-use std::io::{ErrorKind, Read};
+use cli::{refuse_for_memory, run};
+use machine::Machine;
+use std::alloc::AllocError;
 use std::process::ExitCode;
-
-/// A file of the machine that was opened.
-#[derive(Drop)]
-struct Opened {
-    file: File,
-    failures: u64,
-}
-
-impl Source for Opened {
-    ghost faults = { λ opened. opened.failures };
-
-    fn failures(&self) -> u64 {
-        self.failures
-    }
-
-    fn read(&mut self, block: &mut [u8]) -> Result<usize, ReadFailed> {
-        match read_file(&mut self.file, block) {
-            Ok(count) => Ok(count),
-            Err(failed) => {
-                self.failures = self.failures.saturating_add(1);
-                Err(failed)
-            }
-        }
-    }
-}
-
-// Reads into the block, and once more where a signal came in between.
-fn read_file(file: &mut File, block: &mut [u8]) -> Result<usize, ReadFailed>
-    ensures size { length block.new ≡ length block.old }
-    ensures count { IfOk result (λ count. count ≤ length block.new) }
-{
-    for _ in 0..usize::MAX {
-        match file.read(block) {
-            Ok(count) => return Ok(count),
-            Err(error) if error.kind() == ErrorKind::Interrupted => {}
-            Err(_) => return Err(ReadFailed),
-        }
-    }
-    Err(ReadFailed)
-}
-
-/// The files of the machine, and how many couldn't be read.
-#[derive(Drop)]
-struct Disk<'a> {
-    rt: &'a HostRuntime,
-    failures: u64,
-}
-
-impl Disk<'_> {
-    // Counts a file that can't be read.
-    fn unreadable(&mut self) -> ReadError
-        ensures error { result ≡ ReadError.Unreadable }
-        ensures count { self.new.failures ≡ one_more self.old.failures }
-    {
-        self.failures = self.failures.saturating_add(1);
-        ReadError::Unreadable
-    }
-}
-
-impl Host for Disk<'_> {
-    type Text = Opened;
-
-    ghost faults = { λ disk. disk.failures };
-
-    fn failures(&self) -> u64 {
-        self.failures
-    }
-
-    fn read(&mut self, alloc: Global, path: &[u8]) -> Result<Vec<u8>, ReadError> {
-        let mut file = self.open(alloc, path)?;
-        match read_whole(alloc, &mut file) {
-            Ok(Ok(text)) => Ok(text),
-            Ok(Err(ReadFailed)) => Err(self.unreadable()),
-            Err(AllocError) => Err(ReadError::OutOfMemory),
-        }
-    }
-
-    fn open(&mut self, _alloc: Global, path: &[u8]) -> Result<Opened, ReadError> {
-        match open_file(self.rt, path) {
-            Ok(file) => Ok(Opened { file, failures: 0 }),
-            Err(ErrorKind::OutOfMemory) => Err(ReadError::OutOfMemory),
-            Err(_) => Err(self.unreadable()),
-        }
-    }
-
-    fn close(&mut self, text: Opened) {
-        self.failures = self.failures.saturating_add(text.failures());
-    }
-}
-
-// Opens the file at the path, which has to be UTF-8.
-fn open_file(rt: &HostRuntime, path: &[u8]) -> Result<File, ErrorKind> {
-    match str::from_utf8(path) {
-        Ok(path) => File::open(rt, path).map_err(|error| error.kind()),
-        Err(_) => Err(ErrorKind::InvalidInput),
-    }
-}
-
-// How many bytes are asked for at a time.
-const BLOCK: usize = 262_144;
-
-// Reads the file to its end, or until it is longer than a text may be: what is longer is refused for that alone, so no
-// more of it is asked for, be there an end or not.
-fn read_whole(alloc: Global, file: &mut Opened) -> Result<Result<Vec<u8>, ReadFailed>, AllocError> {
-    let mut text = Vec::new(alloc);
-    let mut block = Vec::new(alloc);
-    block.resize(BLOCK, 0u8)?;
-    for _ in 0..usize::MAX {
-        let Ok(count) = file.read(block.as_mut_slice()) else {
-            return Ok(Err(ReadFailed));
-        };
-        let front = block.as_slice().get(..count).unwrap_or_default();
-        make_room(&mut text, front.len())?;
-        text.extend_from_slice(front)?;
-        if front.is_empty() || text.len() > TEXT_BYTES {
-            break;
-        }
-    }
-    Ok(Ok(text))
-}
-
-// Makes room for so many more bytes: it is doubled, and where that comes near to what a text may have, so much is taken
-// at once that it never grows again.
-fn make_room(text: &mut Vec<u8>, count: usize) -> Result<(), AllocError> {
-    let len = text.len();
-    if text.capacity().saturating_sub(len) >= count {
-        return Ok(());
-    }
-    let most = TEXT_BYTES.saturating_add(BLOCK).saturating_sub(len);
-    let room = if len > TEXT_BYTES / 8 { most } else { len };
-    text.reserve_exact(room.max(count))
-}
+use words::words_of;
 
 fn main(rt: HostRuntime) -> ExitCode {
     let mut out = rt.stdout();
     let mut err = rt.stderr();
     let status = match words_of(&rt) {
         Ok(words) => {
-            let mut disk = Disk {
-                rt: &rt,
-                failures: 0,
-            };
-            run(rt.alloc(), words.as_slice(), &mut disk, &mut out, &mut err)
+            let mut machine = Machine::new(&rt);
+            run(
+                rt.alloc(),
+                words.as_slice(),
+                &mut machine,
+                &mut out,
+                &mut err,
+            )
         }
         Err(AllocError) => refuse_for_memory(&mut err),
     };
     ExitCode::from(status)
-}
-
-/// The words of the command line, which need not be text.
-fn words_of(rt: &HostRuntime) -> Result<Vec<Vec<u8>>, AllocError> {
-    let mut words = Vec::new(rt.alloc());
-    for number in 0..usize::MAX {
-        let Some(word) = word_at(rt, number)? else {
-            break;
-        };
-        words.push(word)?;
-    }
-    Ok(words)
-}
-
-// The word of this number, or nothing behind the last. The room for it is doubled until it fits.
-fn word_at(rt: &HostRuntime, number: usize) -> Result<Option<Vec<u8>>, AllocError> {
-    let mut room = 256usize;
-    for _ in 0..usize::BITS {
-        let mut word = Vec::new(rt.alloc());
-        word.resize(room, 0u8)?;
-        match rt.arg(number, word.as_mut_slice()) {
-            Ok(len) => {
-                word.truncate(len);
-                return Ok(Some(word));
-            }
-            Err(FillError::NotPresent) => return Ok(None),
-            Err(FillError::TooLong) => room = room.saturating_mul(2),
-        }
-    }
-    Err(AllocError)
 }

@@ -9,11 +9,10 @@ use Rattle.rules.specs.Database.{HasDistinctNames}
 use Rattle.rules.specs.FileRecord.{FileRecord, records_of}
 use Rattle.rules.specs.Universe.{IsUniverse, Universe}
 use Rattle.rules.specs.Verdict.{IsBuiltOn, UniverseIsBuilt}
-use Rattle.rules.specs.declared.goal.GoalLine.{GoalLine}
-use Rattle.universe_build.specs.Build.{goals_of}
+use Rattle.universe_request.specs.Request.{ReadRequest}
 use Rattle.inputs.specs.Before.{HasStatus, IsRefusalBefore}
 use Rattle.inputs.specs.Indices.{index_of, index_then, indices_from, read_indices, with_indices}
-use Rattle.inputs.specs.Meaning.{IsRequested}
+use Rattle.inputs.specs.Meaning.{IsRequested, asked_of}
 use Rattle.inputs.specs.Reading.{out_of_memory}
 use Rattle.inputs.specs.Texts.{Found, Texts, sources_of}
 use Rattle.inputs.specs.declared.refusal.Fault.{Fault}
@@ -24,10 +23,10 @@ use mathlib.Core.Logic.{inl, inr}
 -- the universe of a request over these records is built on them
 pub built_on : UniverseIsBuilt → (arch : List ℕ) (request : Found) (u : Universe) (lent entries : List FileRecord) (indices : List Index) (prefs : Preferences)
     → lent ≡ entries → HasDistinctNames (records_of entries)
-    → ((lines : List GoalLine) × IsRequested arch request (records_of lent) indices prefs lines u) → IsBuiltOn (records_of entries) u
+    → ((asked : ReadRequest) × IsRequested arch request (records_of lent) indices prefs asked u) → IsBuiltOn (records_of entries) u
 built_on law arch request u lent entries indices prefs same distinct requested =
-    law (inputs_of (records_of entries) indices prefs (goals_of requested.0)) u distinct
-    (subst (λ es. IsUniverse (inputs_of (records_of es) indices prefs (goals_of requested.0)) u) same requested.1.built.universe)
+    law (inputs_of (records_of entries) indices prefs (asked_of requested.0)) u distinct
+    (subst (λ es. IsUniverse (inputs_of (records_of es) indices prefs (asked_of requested.0)) u) same requested.1.built.universe)
 
 -- there is a number such that the refusal is at the index of this number
 abbrev IsAtAnIndex : Refusal → Type 0

@@ -6,13 +6,12 @@ use Rattle.rules.specs.Available.{Index}
 use Rattle.rules.specs.Database.{Record}
 use Rattle.rules.specs.FileRecord.{records_of}
 use Rattle.rules.specs.Universe.{IsUniverse, Universe}
-use Rattle.rules.specs.declared.goal.GoalLine.{GoalLine}
 use Rattle.rules.proofs.UniverseLemmas.{one_universe}
 use Rattle.status_text.specs.Slot.{entries_of}
-use Rattle.universe_build.specs.Build.{goals_of}
+use Rattle.universe_request.specs.Request.{ReadRequest}
 use Rattle.inputs.specs.Before.{AreListed, AreRead, HasIndices, HasStart, IsFaultBefore}
 use Rattle.inputs.specs.Indices.{read_indices}
-use Rattle.inputs.specs.Meaning.{Denotes, IsAsked, IsBuildFault, IsRequestFault, IsRequested, goals_in}
+use Rattle.inputs.specs.Meaning.{Denotes, IsAsked, IsBuildFault, IsRequestFault, IsRequested, asked_of, request_in}
 use Rattle.inputs.specs.Reading.{out_of_memory}
 use Rattle.inputs.specs.Refused.{HasOneMeaning, MeaningIsNotRefused}
 use Rattle.inputs.specs.Texts.{Found, Texts, preferences_of, sources_of, status_file_of}
@@ -60,16 +59,16 @@ one_preferring texts start begin indices others prefs further is also =
 
 pub one_meaning : HasOneMeaning
 one_meaning texts u other start begin is also = (
-  one_universe (inputs_of start is.indices is.prefs (goals_of is.lines)) u other is.requested.built.universe
-      (subst (λ db. IsUniverse (inputs_of db is.indices is.prefs (goals_of is.lines)) other) (sym begins)
-      (subst (λ indices. IsUniverse (inputs_of begin indices is.prefs (goals_of is.lines)) other) (sym indices)
-      (subst (λ prefs. IsUniverse (inputs_of begin also.indices prefs (goals_of is.lines)) other) (sym prefs)
-      (subst (λ lines. IsUniverse (inputs_of begin also.indices also.prefs (goals_of lines)) other) (sym lines) also.requested.built.universe)))),
+  one_universe (inputs_of start is.indices is.prefs (asked_of is.asked)) u other is.requested.built.universe
+      (subst (λ db. IsUniverse (inputs_of db is.indices is.prefs (asked_of is.asked)) other) (sym begins)
+      (subst (λ indices. IsUniverse (inputs_of begin indices is.prefs (asked_of is.asked)) other) (sym indices)
+      (subst (λ prefs. IsUniverse (inputs_of begin also.indices prefs (asked_of is.asked)) other) (sym prefs)
+      (subst (λ (asked : ReadRequest). IsUniverse (inputs_of begin also.indices also.prefs (asked_of asked)) other) (sym asked) also.requested.built.universe)))),
   begins,
 )
   where
-    lines : is.lines ≡ also.lines
-    lines = ok-same is.lines also.lines (goals_in texts.arch texts.request) is.requested.read also.requested.read
+    asked : is.asked ≡ also.asked
+    asked = ok-same is.asked also.asked (request_in texts.arch texts.request) is.requested.read also.requested.read
 
     indices : is.indices ≡ also.indices
     indices = one_reading texts start begin is.indices also.indices is.read.listed also.read.listed
@@ -81,43 +80,43 @@ one_meaning texts u other start begin is also = (
     begins = one_start_of texts start begin is.indices also.indices is.read.listed also.read.listed
 
 -- where a universe is built of goals, there is no fault in building it
-is_built : (start : List Record) (indices : List Index) (prefs : Preferences) (arch : List ℕ) (request : Found) (lines : List GoalLine)
-    (u : Universe) (found : Fault) → IsRequested arch request start indices prefs lines u → ¬ IsBuildFault start indices prefs lines found
-is_built start indices prefs arch request lines u (fault.Version kind) is no_fault = no_fault
-is_built start indices prefs arch request lines u (fault.Status refused) is no_fault = no_fault
-is_built start indices prefs arch request lines u (fault.Sources refused) is no_fault = no_fault
-is_built start indices prefs arch request lines u (fault.Index refused) is no_fault = no_fault
-is_built start indices prefs arch request lines u (fault.Preferences refused) is no_fault = no_fault
-is_built start indices prefs arch request lines u (fault.Request refused) is no_fault = no_fault
-is_built start indices prefs arch request lines u (fault.UnknownName line) is found =
+is_built : (start : List Record) (indices : List Index) (prefs : Preferences) (arch : List ℕ) (request : Found) (asked : ReadRequest)
+    (u : Universe) (found : Fault) → IsRequested arch request start indices prefs asked u → ¬ IsBuildFault start indices prefs asked found
+is_built start indices prefs arch request asked u (fault.Version kind) is no_fault = no_fault
+is_built start indices prefs arch request asked u (fault.Status refused) is no_fault = no_fault
+is_built start indices prefs arch request asked u (fault.Sources refused) is no_fault = no_fault
+is_built start indices prefs arch request asked u (fault.Index refused) is no_fault = no_fault
+is_built start indices prefs arch request asked u (fault.Preferences refused) is no_fault = no_fault
+is_built start indices prefs arch request asked u (fault.Request refused) is no_fault = no_fault
+is_built start indices prefs arch request asked u (fault.UnknownName line) is found =
     absurd (let e : None ≡ Some line = sym is.built.known ∙ found in cc)
-is_built start indices prefs arch request lines u (fault.Plan refused) is no_fault = no_fault
-is_built start indices prefs arch request lines u (fault.Refutation refused) is no_fault = no_fault
-is_built start indices prefs arch request lines u fault.TooLarge is found =
+is_built start indices prefs arch request asked u (fault.Plan refused) is no_fault = no_fault
+is_built start indices prefs arch request asked u (fault.Refutation refused) is no_fault = no_fault
+is_built start indices prefs arch request asked u fault.TooLarge is found =
     let beyond = found.1 in
-    let equal = ap (λ (v : Universe). length v.pairs) (one_universe (inputs_of start indices prefs (goals_of lines)) u beyond.u is.built.universe beyond.universe) in
+    let equal = ap (λ (v : Universe). length v.pairs) (one_universe (inputs_of start indices prefs (asked_of asked)) u beyond.u is.built.universe beyond.universe) in
     let within = is.built.bounded in
     let over = beyond.beyond in
     absurd (omega arith)
-is_built start indices prefs arch request lines u fault.Changed is no_fault = no_fault
-is_built start indices prefs arch request lines u fault.Read is no_fault = no_fault
-is_built start indices prefs arch request lines u fault.OutOfMemory is no_fault = no_fault
+is_built start indices prefs arch request asked u fault.Changed is no_fault = no_fault
+is_built start indices prefs arch request asked u fault.Read is no_fault = no_fault
+is_built start indices prefs arch request asked u fault.OutOfMemory is no_fault = no_fault
 
 -- a request that is answered has no fault
-not_requested : (arch : List ℕ) (request : Found) (start : List Record) (indices : List Index) (prefs : Preferences) (lines : List GoalLine)
+not_requested : (arch : List ℕ) (request : Found) (start : List Record) (indices : List Index) (prefs : Preferences) (asked : ReadRequest)
     (u : Universe) (found : Fault)
-    → IsRequested arch request start indices prefs lines u → ¬ IsRequestFault arch request start indices prefs found
-not_requested arch request start indices prefs lines u found is (inl refused) =
-    not-both lines found (goals_in arch request) is.read refused
-not_requested arch request start indices prefs lines u found is (inr stopped) =
-    is_built start indices prefs arch request lines u found is
-    (subst (λ (ls : List GoalLine). IsBuildFault start indices prefs ls found)
-    (ok-same stopped.lines lines (goals_in arch request) stopped.read is.read) stopped.fault)
+    → IsRequested arch request start indices prefs asked u → ¬ IsRequestFault arch request start indices prefs found
+not_requested arch request start indices prefs asked u found is (inl refused) =
+    not-both asked found (request_in arch request) is.read refused
+not_requested arch request start indices prefs asked u found is (inr stopped) =
+    is_built start indices prefs arch request asked u found is
+    (subst (λ (a : ReadRequest). IsBuildFault start indices prefs a found)
+    (ok-same stopped.asked asked (request_in arch request) stopped.read is.read) stopped.fault)
 
 -- texts that have a meaning have no request that is refused
 not_asked : (texts : Texts) (u : Universe) (start : List Record) (found : Fault) → Denotes texts u start
     → ¬ IsAsked texts found
-not_asked texts u start found is asked = not_requested texts.arch texts.request start is.indices is.prefs is.lines u found is.requested
+not_asked texts u start found is asked = not_requested texts.arch texts.request start is.indices is.prefs is.asked u found is.requested
     (subst (λ prefs. IsRequestFault texts.arch texts.request start is.indices prefs found)
     (one_preferring texts asked.start start asked.indices is.indices asked.prefs is.prefs asked.read is.read)
     (subst (λ indices. IsRequestFault texts.arch texts.request start indices asked.prefs found)

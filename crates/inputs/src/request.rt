@@ -1,19 +1,18 @@
 //! The request, and the universe that it is answered from.
-ghost use Rattle.std.specs.Prelude.{◌≡◌, ◌≢◌, ◌<◌, ◌^◌, IfErr, IfOk, List, Ok, Some, length, map};
+ghost use Rattle.std.specs.Prelude.{◌≡◌, ◌≢◌, ◌<◌, ◌^◌, IfErr, IfOk, Ok, Some, length, map};
 ghost use Rattle.candidates.specs.Inputs.{indices_of, inputs_of};
+ghost use Rattle.rules.specs.Available.{Request as RequestOf};
 ghost use Rattle.rules.specs.Database.{HasDistinctNames};
 ghost use Rattle.rules.specs.FileRecord.{records_of};
 ghost use Rattle.rules.specs.Universe.{IsUniverse};
 ghost use Rattle.rules.specs.Verdict.{IsBuiltOn};
-ghost use Rattle.rules.specs.declared.goal.GoalLine.{GoalLine as LineOf};
 ghost use Rattle.status_store.specs.Slots.{slot_records};
 ghost use Rattle.universe.specs.Universe.{HaveDistinctNames};
-ghost use Rattle.universe_build.specs.Build.{goals_of};
 ghost use Rattle.universe_build.specs.Error.{IsBuilt};
 ghost use Rattle.universe_request.specs.Request as Read;
 ghost use Rattle.inputs.specs.Before.{AreRead};
 ghost use Rattle.inputs.specs.Counting.{CountsRead};
-ghost use Rattle.inputs.specs.Meaning.{Denotes, IsBuildFault, IsRequestFault, IsRequested};
+ghost use Rattle.inputs.specs.Meaning.{Denotes, DenotesAsked, IsBuildFault, IsRequestFault, IsRequested};
 ghost use Rattle.inputs.specs.Reading.{IsFaultOf, OrMemory, with_fault};
 ghost use Rattle.inputs.specs.Refused.{IsRefusal};
 ghost use Rattle.inputs.specs.Texts.{Shelved, texts_of};
@@ -25,7 +24,7 @@ use crate::shelf::{Part, Shelf};
 use crate::texts::read_part;
 use index::Index;
 use pins::Prefs;
-use rules::{GoalLine, universe_is_built};
+use rules::universe_is_built;
 use status_record::FileRecord;
 use status_store::Database;
 use std::alloc::Global;
@@ -33,35 +32,52 @@ use universe::Universe;
 use universe_build::{UniverseError, build};
 use universe_request::{Request, RequestError};
 
-// The goals of a request.
-fn goals_in(alloc: Global, text: &[u8], arch: &[u8]) -> Result<Vec<GoalLine>, Fault>
-    ensures ok { IfOk result (λ goals. with_fault fault.Request (Read.read_request arch.now text.now) ≡ Ok goals.items) }
+/// What a request is answered from, and how its answer is written.
+#[derive(Drop)]
+pub struct Requested<'p, 'a> {
+    /// The universe.
+    pub universe: Universe<'p, 'a>,
+    /// Whether the request asks for all versions.
+    pub asks_all_versions: bool,
+}
+
+// What the text of a request is read as.
+fn request_in(alloc: Global, text: &[u8], arch: &[u8]) -> Result<Request, Fault>
+    ensures ok { IfOk result (λ request. with_fault fault.Request (Read.read_request arch.now text.now) ≡ Ok request) }
     ensures err { IfErr result (λ f. IsFaultOf (with_fault fault.Request (Read.read_request arch.now text.now)) f) }
     ensures known { IfErr result (λ f. f ≢ fault.Read) }
 {
     match Request::read(alloc, text, arch) {
-        Ok(request) => Ok(request.into_vec()),
+        Ok(request) => Ok(request),
         Err(RequestError::Refused(refused)) => Err(Fault::Request(refused)),
         Err(RequestError::OutOfMemory) => Err(Fault::OutOfMemory),
     }
 }
 
-// Builds the universe of the goals.
+// Builds the universe of the request.
 fn built<'p, 'a>(
     alloc: Global,
     start: &[&FileRecord<'a>],
     indices: &'p [Index<'a>],
     prefs: &Prefs,
-    lines: Vec<GoalLine>,
+    request: Request,
 ) -> Result<Universe<'p, 'a>, Fault>
     requires { HasDistinctNames (records_of (map (λ r. r.now) start.now)) }
     ensures ok { IfOk result (λ u.
-        IsBuilt (records_of (map (λ r. r.now) start.now)) (indices_of indices.now) prefs.now lines.items u) }
+        IsBuilt (records_of (map (λ r. r.now) start.now)) (indices_of indices.now) prefs.now request.goals request.asks_all_versions u) }
     ensures err { IfErr result (λ f. OrMemory
-        (IsBuildFault (records_of (map (λ r. r.now) start.now)) (indices_of indices.now) prefs.now lines.items) f) }
+        (IsBuildFault (records_of (map (λ r. r.now) start.now)) (indices_of indices.now) prefs.now request) f) }
     ensures known { IfErr result (λ f. f ≢ fault.Read) }
 {
-    match build(alloc, start, indices, prefs, lines) {
+    let asks_all_versions = request.asks_all_versions();
+    match build(
+        alloc,
+        start,
+        indices,
+        prefs,
+        request.into_vec(),
+        asks_all_versions,
+    ) {
         Ok(universe) => Ok(universe),
         Err(UniverseError::UnknownName(line)) => Err(Fault::UnknownName(line)),
         Err(UniverseError::TooLarge) => Err(Fault::TooLarge),
@@ -77,17 +93,22 @@ fn universe_in<'p, 'a>(
     prefs: &Prefs,
     text: &[u8],
     arch: &[u8],
-) -> Result<Universe<'p, 'a>, Fault>
+) -> Result<Requested<'p, 'a>, Fault>
     requires { HasDistinctNames (records_of (map (λ r. r.now) start.now)) }
-    ensures ok { IfOk result (λ u. (lines : List LineOf)
-        × IsRequested arch.now (Some text.now) (records_of (map (λ r. r.now) start.now)) (indices_of indices.now) prefs.now lines u) }
+    ensures ok { IfOk result (λ found. (asked : Read.ReadRequest)
+        × IsRequested arch.now (Some text.now) (records_of (map (λ r. r.now) start.now)) (indices_of indices.now) prefs.now asked found.universe
+        × (found.asks_all_versions ≡ asked.asks_all_versions)) }
     ensures err { IfErr result (λ f. OrMemory
         (IsRequestFault arch.now (Some text.now) (records_of (map (λ r. r.now) start.now)) (indices_of indices.now) prefs.now) f) }
     ensures known { IfErr result (λ f. f ≢ fault.Read) }
 {
-    let lines = goals_in(alloc, text, arch)?;
-    let universe = built(alloc, start, indices, prefs, lines)?;
-    Ok(universe)
+    let request = request_in(alloc, text, arch)?;
+    let asks_all_versions = request.asks_all_versions();
+    let universe = built(alloc, start, indices, prefs, request)?;
+    Ok(Requested {
+        universe,
+        asks_all_versions,
+    })
 }
 
 // The universe that the request with this text is answered from, over what the texts before it are read as.
@@ -98,16 +119,17 @@ fn universe_over<'p, 'a>(
     indices: &'p [Index<'a>],
     prefs: &Prefs,
     text: &[u8],
-) -> Result<Universe<'p, 'a>, Refusal>
+) -> Result<Requested<'p, 'a>, Refusal>
     ensures ok { (at : Shelved) → at.request ≡ Some text.now
         → AreRead (texts_of settings.now at) (slot_records database.now.slots) (indices_of indices.now) prefs.now
-        → IfOk result (λ u. Denotes (texts_of settings.now at) u (slot_records database.now.slots)) }
-    ensures built { IfOk result (λ u. IsBuiltOn (slot_records database.now.slots) u) }
-    ensures universe { IfOk result (λ u. (lines : List LineOf)
-        × IsUniverse (inputs_of (slot_records database.now.slots) (indices_of indices.now) prefs.now (goals_of lines)) u) }
+        → IfOk result (λ found.
+        DenotesAsked (texts_of settings.now at) found.universe (slot_records database.now.slots) found.asks_all_versions) }
+    ensures built { IfOk result (λ found. IsBuiltOn (slot_records database.now.slots) found.universe) }
+    ensures universe { IfOk result (λ found. (request : RequestOf)
+        × IsUniverse (inputs_of (slot_records database.now.slots) (indices_of indices.now) prefs.now request) found.universe) }
     ensures start { IfOk result (λ _. HasDistinctNames (slot_records database.now.slots)) }
-    ensures few { IfOk result (λ u. length u.pairs < 2 ^ 32) }
-    ensures distinct { IfOk result (λ u. HaveDistinctNames u.starts) }
+    ensures few { IfOk result (λ found. length found.universe.pairs < 2 ^ 32) }
+    ensures distinct { IfOk result (λ found. HaveDistinctNames found.universe.starts) }
     ensures refused { (at : Shelved) → at.request ≡ Some text.now
         → AreRead (texts_of settings.now at) (slot_records database.now.slots) (indices_of indices.now) prefs.now
         → IfErr result (λ refused. IsRefusal (texts_of settings.now at) refused) }
@@ -124,9 +146,38 @@ fn universe_over<'p, 'a>(
         text,
         settings.arch,
     ) {
-        Ok(universe) => Ok(universe),
+        Ok(found) => Ok(found),
         Err(fault) => Err(refused_at(Input::Request, fault)),
     }
+}
+
+/// The universe that the request is answered from, over what the texts before it are read as, and whether it asks for all versions.
+pub fn read_requested<'p, 'a, S: Shelf>(
+    alloc: Global,
+    shelf: &mut S,
+    settings: &Settings<'_>,
+    database: &Database<'a>,
+    indices: &'p [Index<'a>],
+    prefs: &Prefs,
+) -> Result<Requested<'p, 'a>, Refusal>
+    ensures ok { (at : Shelved) → S.found shelf.old ≡ Some at
+        → AreRead (texts_of settings.now at) (slot_records database.now.slots) (indices_of indices.now) prefs.now
+        → IfOk result (λ found.
+        DenotesAsked (texts_of settings.now at) found.universe (slot_records database.now.slots) found.asks_all_versions) }
+    ensures built { IfOk result (λ found. IsBuiltOn (slot_records database.now.slots) found.universe) }
+    ensures universe { IfOk result (λ found. (request : RequestOf)
+        × IsUniverse (inputs_of (slot_records database.now.slots) (indices_of indices.now) prefs.now request) found.universe) }
+    ensures start { IfOk result (λ _. HasDistinctNames (slot_records database.now.slots)) }
+    ensures few { IfOk result (λ found. length found.universe.pairs < 2 ^ 32) }
+    ensures distinct { IfOk result (λ found. HaveDistinctNames found.universe.starts) }
+    ensures refused { (at : Shelved) → S.found shelf.old ≡ Some at
+        → AreRead (texts_of settings.now at) (slot_records database.now.slots) (indices_of indices.now) prefs.now
+        → IfErr result (λ refused. IsRefusal (texts_of settings.now at) refused) }
+    ensures same { S.found shelf.new ≡ S.found shelf.old }
+    ensures count { CountsRead result (S.faults shelf.old) (S.faults shelf.new) }
+{
+    let text = read_part(alloc, shelf, Part::Request, Input::Request)?;
+    universe_over(alloc, settings, database, indices, prefs, text.as_slice())
 }
 
 /// The universe that the request is answered from, over what the texts before it are read as.
@@ -142,8 +193,8 @@ pub fn read_universe<'p, 'a, S: Shelf>(
         → AreRead (texts_of settings.now at) (slot_records database.now.slots) (indices_of indices.now) prefs.now
         → IfOk result (λ u. Denotes (texts_of settings.now at) u (slot_records database.now.slots)) }
     ensures built { IfOk result (λ u. IsBuiltOn (slot_records database.now.slots) u) }
-    ensures universe { IfOk result (λ u. (lines : List LineOf)
-        × IsUniverse (inputs_of (slot_records database.now.slots) (indices_of indices.now) prefs.now (goals_of lines)) u) }
+    ensures universe { IfOk result (λ u. (request : RequestOf)
+        × IsUniverse (inputs_of (slot_records database.now.slots) (indices_of indices.now) prefs.now request) u) }
     ensures start { IfOk result (λ _. HasDistinctNames (slot_records database.now.slots)) }
     ensures few { IfOk result (λ u. length u.pairs < 2 ^ 32) }
     ensures distinct { IfOk result (λ u. HaveDistinctNames u.starts) }
@@ -153,6 +204,8 @@ pub fn read_universe<'p, 'a, S: Shelf>(
     ensures same { S.found shelf.new ≡ S.found shelf.old }
     ensures count { CountsRead result (S.faults shelf.old) (S.faults shelf.new) }
 {
-    let text = read_part(alloc, shelf, Part::Request, Input::Request)?;
-    universe_over(alloc, settings, database, indices, prefs, text.as_slice())
+    let Requested { universe, .. } = read_requested(
+        alloc, shelf, settings, database, indices, prefs,
+    )?;
+    Ok(universe)
 }

@@ -15,7 +15,7 @@ use Rattle.rules.specs.Package.{Pkg}
 use Rattle.rules.specs.Step.{IndexPackage, is_named}
 use Rattle.rules.specs.Universe.{IsOf, IsUniverse, Pair, Universe}
 use Rattle.rules.proofs.VerdictLemmas.{universe_is_built}
-use Rattle.universe_build.specs.Build.{goals_of}
+use Rattle.inputs.specs.Meaning.{asked_of}
 use Rattle.inputs.proofs.DistinctLemmas.{distinct_start}
 use Rattle.inputs.proofs.MeaningLemmas.{one_meaning}
 use Rattle.never_both.proofs.SelectionLemmas.{good_plan_is_not_refuted, is_of-true}
@@ -91,7 +91,7 @@ stanzas_agree inputs u is agree = All-intro (λ (pair : Pair). MatchOption pair.
 
 pub never_both : NeverBothYes
 never_both texts plan refutation agree answer refuted =
-    let inputs : Inputs = inputs_of answer.start answer.denoted.indices answer.denoted.prefs (goals_of answer.denoted.lines) in
+    let inputs : Inputs = inputs_of answer.start answer.denoted.indices answer.denoted.prefs (asked_of answer.denoted.asked) in
     let is : IsUniverse inputs answer.universe = answer.denoted.requested.built.universe in
     let distinct = distinct_start texts answer.start answer.denoted.read.listed.started in
     let one = one_meaning texts refuted.universe answer.universe refuted.start answer.start refuted.denoted answer.denoted in

@@ -1,21 +1,27 @@
 -- What is written is read again: each word, then each line, then all lines.
-use Rattle.std.proofs.Common.{◌≡◌, ℕ, ◌+◌, ◌≤◌, true, List, [], ◌∷◌, ◌++◌, length, Some, Ok, refl, sym, ap, ◌∙◌, eqb, append_assoc, append-nil, arith, eq-eqb}
-use Rattle.std.proofs.lemmas.Bool.{and_parts, le-ltb}
+use Rattle.std.proofs.Common.{◌≡◌, ℕ, ◌+◌, ◌≤◌, ◌<◌, ◌^◌, true, false, List, [], ◌∷◌, ◌++◌, length, Some, Ok, refl, sym, ap, ◌∙◌, eqb, append_assoc, append-nil, arith, eq-eqb}
+use Rattle.std.proofs.lemmas.Bool.{and_parts, le-ltb, ne_eqb}
+use Rattle.std.proofs.lemmas.Fmt.{digits_decimal}
+use Rattle.std.proofs.lemmas.List.Elements.{All-append, All-cons, All-nil}
+use Rattle.std.proofs.lemmas.Str.Parse.{digit_from_value, numerals_by_value, tells_digits}
 use Rattle.std.proofs.lemmas.List.Splits.{slice_split_at, slice_split_none}
 use Rattle.std.specs.List.{flat_map, join_with_byte, list_all}
 use Rattle.std.specs.Option.{is_none, ok_or, option_and_then}
-use Rattle.std.specs.Prelude.{codes}
+use Rattle.std.specs.Prelude.{codes, decimal, not}
+use Rattle.std.specs.Str.{bytes_eq}
+use Rattle.std.specs.Str.Parse.{AllDigits}
 use Rattle.rules.specs.Name.{is_name}
+use Rattle.rules.specs.NamedLaws.{bytes_eq-same}
 use Rattle.rules.specs.VersionFault.{first_fault}
 use Rattle.rules.specs.declared.limits.TheConstants.{STEPS, TEXT_BYTES}
 use Rattle.rules.specs.declared.step.Step.{Step}
 use Rattle.rules.specs.declared.step.Step.TheVariants.{Unpack, Deconfigure, Configure, Remove, Purge}
 use Rattle.plantext.specs.Cut.{parts_at}
-use Rattle.plantext.specs.Plan.{only_line, plan_text, put_step, read_plan, read_step, read_steps, step_in_line, IsReadAsPlan, IsReadAsStep}
+use Rattle.plantext.specs.Plan.{end_line, only_line, plan_text, plan_text_2, put_step, read_plan, read_step, read_steps, read_steps_2, step_in_line, IsReadAsPlan, IsReadAsStep}
 use Rattle.plantext.specs.StepLine.{is_spelled, step_line, step_of, step_of_words, words_of}
 use Rattle.plantext.specs.declared.error.PlanFault.TheVariants.{BadPlan}
-use Rattle.plantext.proofs.ByteLemmas.{AreFree, IsFree, joined_free, newline_outside, space_outside, words_free}
-use Rattle.plantext.proofs.PlanLemmas.{read_steps_more}
+use Rattle.plantext.proofs.ByteLemmas.{AreFree, IsFree, joined_free, newline_outside, passing_free, space_outside, words_free}
+use Rattle.plantext.proofs.PlanLemmas.{read_steps_2_more, read_steps_more}
 
 -- Words
 
@@ -94,13 +100,73 @@ lines_again number (step ∷ later) h within =
     ∙ ap (λ read. put_step read (read_steps (number + 1) (parts_at 10 rest))) (line_in_place number step both.0 here)
     ∙ ap (put_step (Ok step)) (lines_again (number + 1) later both.1 left)
 
+-- the line that ends a plan
+
+digits_free : (digits : List ℕ) → AllDigits 10 digits → IsFree 10 digits
+digits_free [] all = All-nil (λ b. eqb b 10 ≡ false)
+digits_free (b ∷ later) all =
+    let range = digit_from_value b all.0 in
+    All-cons (λ x. eqb x 10 ≡ false) b later (ne_eqb b 10 (λ e. omega arith)) (digits_free later all.1)
+
+end_free : (count : ℕ) → count < 2 ^ 64 → IsFree 10 (end_line count)
+end_free count small =
+    All-append (λ b. eqb b 10 ≡ false) (codes "end ") (decimal count) (letters_and_space refl)
+    (digits_free (decimal count) (digits_decimal (numerals_by_value (AllDigits 10) tells_digits) count small)) where
+      letters_and_space : list_all (λ b. not (eqb b 10)) (codes "end ") ≡ true → IsFree 10 (codes "end ")
+      letters_and_space h = passing_free (λ b. not (eqb b 10)) 10 (codes "end ") refl h
+
+-- no step's line ends a plan
+step_is_no_end : (step : Step) (count : ℕ) → bytes_eq (line_of step) (end_line count) ≡ false
+step_is_no_end (Unpack name version) count = refl
+step_is_no_end (Deconfigure name) count = refl
+step_is_no_end (Configure []) count = refl
+step_is_no_end (Configure (name ∷ names)) count = refl
+step_is_no_end (Remove name) count = refl
+step_is_no_end (Purge name) count = refl
+
+end_parted : (count : ℕ) → count < 2 ^ 64 → parts_at 10 (end_line count ++ 10 ∷ []) ≡ end_line count ∷ [] ∷ []
+end_parted count small = slice_split_at (λ b. eqb b 10) (end_line count) 10 [] (end_free count small) refl
+
+-- the line that ends a plan is read as its end
+end_again : (count : ℕ) → count < 2 ^ 64 → read_steps_2 count (parts_at 10 (end_line count ++ 10 ∷ [])) ≡ Ok []
+end_again count small = ap (read_steps_2 count) (end_parted count small) ∙ rw (bytes_eq-same (end_line count) (end_line count) refl) refl
+
+-- the lines of steps and the line that ends them are read as them
+lines_again_2 : (count : ℕ) (steps : List Step) → list_all is_spelled steps ≡ true → count + length steps ≤ STEPS
+    → read_steps_2 count (parts_at 10 (flat_map step_line steps ++ (end_line (count + length steps) ++ 10 ∷ []))) ≡ Ok steps
+lines_again_2 count [] h within =
+    let none : count + length {A = Step} [] ≡ count = omega arith in
+    ap (λ n. read_steps_2 count (parts_at 10 (end_line n ++ 10 ∷ []))) none ∙ end_again count (omega arith)
+lines_again_2 count (step ∷ later) h within =
+    let both = and_parts (is_spelled step) (list_all is_spelled later) h in
+    let end = end_line (count + length (step ∷ later)) ++ 10 ∷ [] in
+    let rest = flat_map step_line later ++ end in
+    let here : count + 1 ≤ STEPS = omega arith in
+    let left : (count + 1) + length later ≤ STEPS = omega arith in
+    let same : count + length (step ∷ later) ≡ (count + 1) + length later = omega arith in
+    ap (λ text. read_steps_2 count (parts_at 10 text)) (append_assoc (step_line step) (flat_map step_line later) end)
+    ∙ ap (read_steps_2 count) (line_parted step rest both.0)
+    ∙ read_steps_2_more count (line_of step) rest (step_is_no_end step count)
+    ∙ ap (λ read. put_step read (read_steps_2 (count + 1) (parts_at 10 rest))) (line_in_place (count + 1) step both.0 here)
+    ∙ ap (λ n. put_step (Ok step) (read_steps_2 (count + 1) (parts_at 10 (flat_map step_line later ++ (end_line n ++ 10 ∷ []))))) same
+    ∙ ap (put_step (Ok step)) (lines_again_2 (count + 1) later both.1 left)
+
 -- Texts
 
--- the text of a plan is read as its steps
+-- the version 1 text of a plan is read as its steps
 pub plan_again : (steps : List Step) (text : List ℕ) → text ≡ plan_text steps → list_all is_spelled steps ≡ true → IsReadAsPlan steps text
 unfolding read_plan plan_text
 plan_again steps text e h small few =
     rw (le-ltb TEXT_BYTES (length text) small, e) (lines_again 1 steps h (omega arith))
+
+-- the version 2 text of a plan is read as its steps
+pub plan_again_2 : (steps : List Step) (text : List ℕ) → text ≡ plan_text_2 steps → list_all is_spelled steps ≡ true → IsReadAsPlan steps text
+unfolding read_plan plan_text_2
+plan_again_2 steps text e h small few =
+    let same : 0 + length steps ≡ length steps = omega arith in
+    rw (le-ltb TEXT_BYTES (length text) small, e)
+    (ap (λ lines. read_steps_2 0 (parts_at 10 lines)) (append_assoc (flat_map step_line steps) (end_line (length steps)) (10 ∷ []))
+    ∙ ap (λ n. read_steps_2 0 (parts_at 10 (flat_map step_line steps ++ (end_line n ++ 10 ∷ [])))) (sym same) ∙ lines_again_2 0 steps h (omega arith))
 
 line_alone : (step : Step) → is_spelled step ≡ true → parts_at 10 (line_of step ++ 10 ∷ []) ≡ line_of step ∷ [] ∷ []
 line_alone step h = slice_split_at (λ b. eqb b 10) (line_of step) 10 [] (line_free step h) refl

@@ -1,5 +1,5 @@
 -- What is read as a plan is the text of its steps: each word, then each line, then all lines.
-use Rattle.std.proofs.Common.{◌≡◌, ℕ, ◌+◌, true, ltb, List, [], ◌∷◌, ◌++◌, length, Option, Some, None, Result, Ok, Err, refl, sym, ap, ◌∙◌, append_assoc, inl, inr}
+use Rattle.std.proofs.Common.{◌≡◌, ℕ, ◌+◌, true, ltb, List, [], ◌∷◌, ◌++◌, length, Option, Some, None, Result, Ok, Err, refl, sym, ap, subst, ◌∙◌, append_assoc, append-nil, arith, inl, inr}
 use Rattle.std.proofs.lemmas.Bool.{cases_Bool}
 use Rattle.std.proofs.lemmas.List.Splits.{join_with_byte-slice_split}
 use Rattle.std.specs.List.{flat_map, join_with_byte}
@@ -14,7 +14,7 @@ use Rattle.rules.specs.declared.step.Step.{Step}
 use Rattle.rules.specs.declared.step.Step.TheVariants.{Unpack, Deconfigure, Configure, Remove, Purge}
 use Rattle.plantext.specs.Cut.{parts_at}
 use Rattle.plantext.specs.Group.{is_group}
-use Rattle.plantext.specs.Plan.{header, numbered_step, only_line, plan_text, put_step, read_end, read_lines, read_plan, read_step, read_steps, step_in_line}
+use Rattle.plantext.specs.Plan.{IsPlanText, end_line, header, header_2, numbered_step, only_line, plan_text, plan_text_2, put_step, read_end, read_lines, read_plan, read_step, read_steps, read_steps_2, step_in_line}
 use Rattle.plantext.specs.StepLine.{configure_of, only_version, step_by, step_line, step_of, step_of_words, unpack_of, version_in, words_of}
 use Rattle.plantext.specs.Word.{name_in, only_name}
 use Rattle.plantext.specs.declared.error.PlanFault.{PlanFault}
@@ -119,39 +119,102 @@ puts (Ok step) (Ok more) steps h = record { step = step; more = more; here = ref
 puts (Ok step) (Err fault) steps h = cc
 puts (Err fault) later steps h = cc
 
-end_is : (number : ℕ) (last : List ℕ) (steps : List Step) → read_end number last ≡ Ok steps → last ≡ flat_map step_line steps
-end_is number [] steps h = let none : steps ≡ [] = cc in rw none refl
-end_is number (b ∷ bytes) steps h = cc
+-- where nothing is refused behind the last line, nothing stands there
+end_is : (number : ℕ) (parts : List (List ℕ)) (steps : List Step) → read_end number parts ≡ Ok steps → (steps ≡ []) × (join_with_byte 10 parts ≡ [])
+end_is number [] steps h = cc
+end_is number (line ∷ next ∷ later) steps h = cc
+end_is number ([] ∷ []) steps h = let none : steps ≡ [] = cc in (none, refl)
+end_is number ((b ∷ bytes) ∷ []) steps h = cc
+
+-- a line and its newline, before the lines behind it
+line_before : (line before behind : List ℕ) (later : List (List ℕ)) → line ++ 10 ∷ [] ≡ before → join_with_byte 10 later ≡ behind
+    → line ++ 10 ∷ join_with_byte 10 later ≡ before ++ behind
+line_before line before behind later here rest =
+    sym (append_assoc line (10 ∷ []) (join_with_byte 10 later))
+    ∙ ap (λ (text : List ℕ). text ++ join_with_byte 10 later) here ∙ ap (λ (text : List ℕ). before ++ text) rest
 
 -- the lines that are read as steps are the steps'
 steps_are : (number : ℕ) (parts : List (List ℕ)) (steps : List Step) → read_steps number parts ≡ Ok steps → join_with_byte 10 parts ≡ flat_map step_line steps
 steps_are number [] steps h = cc
-steps_are number (last ∷ []) steps h = end_is number last steps h
+steps_are number (last ∷ []) steps h = let nothing = end_is number (last ∷ []) steps h in rw (nothing.0) nothing.1
 steps_are number (line ∷ next ∷ later) steps h =
     let put = puts (step_in_line number line) (read_steps (number + 1) (next ∷ later)) steps h in
     let behind = steps_are (number + 1) (next ∷ later) put.more put.behind in
     let here = line_is line put.step (numbered_is number (step_of line) put.step put.here) in
-    sym (append_assoc line (10 ∷ []) (join_with_byte 10 (next ∷ later)))
-    ∙ ap (λ (text : List ℕ). text ++ join_with_byte 10 (next ∷ later)) here
-    ∙ ap (λ (text : List ℕ). step_line put.step ++ text) behind
+    line_before line (step_line put.step) (flat_map step_line put.more) (next ∷ later) here behind
     ∙ sym (ap (flat_map step_line) put.all)
 
-lines_are : (parts : List (List ℕ)) (steps : List Step) → read_lines parts ≡ Ok steps → join_with_byte 10 parts ≡ plan_text steps
-unfolding plan_text
-lines_are [] steps h = cc
-lines_are (first ∷ []) steps h = elim (cases_Bool (bytes_eq first header)) [ inl e ↦ cc (rw e at h) | inr e ↦ cc (rw e at h) ]
-lines_are (first ∷ next ∷ later) steps h = elim (cases_Bool (bytes_eq first header)) [
+-- the lines of steps behind this many, and the line that ends a plan of all
+abbrev ended : ℕ → List Step → List ℕ
+ended count steps = flat_map step_line steps ++ (end_line (count + length steps) ++ 10 ∷ [])
+
+-- the line of a step before the lines of more steps and the line that ends them
+before_more : (count : ℕ) (line : List ℕ) (step : Step) (more steps : List Step) (later : List (List ℕ)) → steps ≡ step ∷ more
+    → line ++ 10 ∷ [] ≡ step_line step → join_with_byte 10 later ≡ ended (count + 1) more → line ++ 10 ∷ join_with_byte 10 later ≡ ended count steps
+before_more count line step more steps later all here behind =
+    let end = end_line ((count + 1) + length more) ++ 10 ∷ [] in
+    let same : (count + 1) + length more ≡ count + length steps = omega (arith, ap length all) in
+    line_before line (step_line step) (flat_map step_line more ++ end) later here behind
+    ∙ sym (append_assoc (step_line step) (flat_map step_line more) end)
+    ∙ sym (ap (λ (put : List Step). flat_map step_line put ++ end) all)
+    ∙ ap (λ n. flat_map step_line steps ++ (end_line n ++ 10 ∷ [])) same
+
+-- the line that ends a plan, before nothing
+before_nothing : (count : ℕ) (line : List ℕ) (steps : List Step) (later : List (List ℕ)) → line ≡ end_line count → steps ≡ []
+    → join_with_byte 10 later ≡ [] → line ++ 10 ∷ join_with_byte 10 later ≡ ended count steps
+before_nothing count line steps later ends none nothing =
+    let same : count + length steps ≡ count = omega (arith, ap length none) in
+    rw (same, none) (line_before line (end_line count ++ 10 ∷ []) [] later (ap (λ (text : List ℕ). text ++ 10 ∷ []) ends) nothing
+    ∙ append-nil (end_line count ++ 10 ∷ []))
+
+-- the lines that are read as steps with their number behind them are the steps' and the line that ends them
+steps_are_2 : (count : ℕ) (parts : List (List ℕ)) (steps : List Step) → read_steps_2 count parts ≡ Ok steps → join_with_byte 10 parts ≡ ended count steps
+steps_are_2 count [] steps h = cc
+steps_are_2 count (last ∷ []) steps h = cc
+steps_are_2 count (line ∷ next ∷ later) steps h = elim (cases_Bool (bytes_eq line (end_line count))) [
   | inl e ↦
-      ap (λ (text : List ℕ). text ++ 10 ∷ join_with_byte 10 (next ∷ later)) (bytes_eq-true first header e)
-      ∙ ap (λ (text : List ℕ). header ++ 10 ∷ text) (steps_are 1 (next ∷ later) steps (rw e at h))
-  | inr e ↦ cc (rw e at h)
+      let nothing = end_is (count + 2) (next ∷ later) steps (rw e at h) in
+      before_nothing count line steps (next ∷ later) (bytes_eq-true line (end_line count) e) nothing.0 nothing.1
+  | inr e ↦
+      let put = puts (step_in_line (count + 1) line) (read_steps_2 (count + 1) (next ∷ later)) steps (rw e at h) in
+      before_more count line put.step put.more steps (next ∷ later) put.all
+      (line_is line put.step (numbered_is (count + 1) (step_of line) put.step put.here)) (steps_are_2 (count + 1) (next ∷ later) put.more put.behind)
 ]
 
-pub read_is_written : (text : List ℕ) (steps : List Step) → read_plan text ≡ Ok steps → text ≡ plan_text steps
+-- the header's line before other lines
+header_before : (first start behind : List ℕ) (later : List (List ℕ)) → bytes_eq first start ≡ true → join_with_byte 10 later ≡ behind
+    → first ++ 10 ∷ join_with_byte 10 later ≡ start ++ 10 ∷ behind
+header_before first start behind later e rest =
+    ap (λ (text : List ℕ). text ++ 10 ∷ join_with_byte 10 later) (bytes_eq-true first start e)
+    ∙ ap (λ (text : List ℕ). start ++ 10 ∷ text) rest
+
+-- a header alone is no plan
+headless : (first : List ℕ) (steps : List Step) → read_lines (first ∷ []) ≡ Ok steps → ⊥
+headless first steps h = elim (cases_Bool (bytes_eq first header)) [
+  | inl e ↦ cc (rw e at h)
+  | inr e ↦ let other = rw e at h in elim (cases_Bool (bytes_eq first header_2)) [ inl e2 ↦ cc (rw e2 at other) | inr e2 ↦ cc (rw e2 at other) ]
+]
+
+lines_are : (parts : List (List ℕ)) (steps : List Step) → read_lines parts ≡ Ok steps → IsPlanText steps (join_with_byte 10 parts)
+unfolding plan_text plan_text_2
+lines_are [] steps h = cc
+lines_are (first ∷ []) steps h = absurd (headless first steps h)
+lines_are (first ∷ next ∷ later) steps h = elim (cases_Bool (bytes_eq first header)) [
+  | inl e ↦ inl (header_before first header (flat_map step_line steps) (next ∷ later) e (steps_are 1 (next ∷ later) steps (rw e at h)))
+  | inr e ↦ let other = rw e at h in elim (cases_Bool (bytes_eq first header_2)) [
+    | inl e2 ↦
+        let same : 0 + length steps ≡ length steps = omega arith in
+        inr (header_before first header_2 (flat_map step_line steps ++ end_line (length steps) ++ 10 ∷ []) (next ∷ later) e2
+        (rw same at (steps_are_2 0 (next ∷ later) steps (rw e2 at other)) ∙ sym (append_assoc (flat_map step_line steps) (end_line (length steps)) (10 ∷ []))))
+    | inr e2 ↦ cc (rw e2 at other)
+  ]
+]
+
+pub read_is_written : (text : List ℕ) (steps : List Step) → read_plan text ≡ Ok steps → IsPlanText steps text
 unfolding read_plan
 read_is_written text steps h = elim (cases_Bool (ltb TEXT_BYTES (length text))) [
   | inl e ↦ cc (rw e at h)
-  | inr e ↦ sym (join_with_byte-slice_split 10 text) ∙ lines_are (parts_at 10 text) steps (rw e at h)
+  | inr e ↦ subst (IsPlanText steps) (join_with_byte-slice_split 10 text) (lines_are (parts_at 10 text) steps (rw e at h))
 ]
 
 -- the line that is all, and its newline, are the text

@@ -1,6 +1,7 @@
--- The text of a plan (this project's own): the line `plan 1`, and then a line for each step. Each line ends with a
--- newline, so that newlines part the text into the lines and, last, nothing.
-use Rattle.std.specs.Prelude.{◌≡◌, ℕ, ◌+◌, ◌≤◌, List, [], ◌∷◌, ◌++◌, length, nat_lt, Option, Some, None, Result, Ok, Err, codes, if◌then◌else◌}
+-- The text of a plan (this project's own). Version 1 is the line `plan 1`, and then a line for each step; version 2 is the
+-- line `plan 2`, a line for each step, and the line `end N`, N the number of the steps. Each line ends with a newline, so
+-- that newlines part the text into the lines and, last, nothing.
+use Rattle.std.specs.Prelude.{◌≡◌, ◌⊎◌, ℕ, ◌+◌, ◌≤◌, List, [], ◌∷◌, ◌++◌, length, nat_lt, Option, Some, None, Result, Ok, Err, codes, decimal, if◌then◌else◌}
 use Rattle.std.specs.List.{flat_map}
 use Rattle.std.specs.Option.{ok_or, option_and_then}
 use Rattle.std.specs.Str.{bytes_eq}
@@ -12,9 +13,17 @@ use Rattle.plantext.specs.declared.cut.TheConstants.{NEWLINE}
 use Rattle.plantext.specs.declared.error.PlanFault.{PlanFault}
 use Rattle.plantext.specs.declared.error.PlanFault.TheVariants.{BadPlan, TooLarge}
 
--- the first line, without its newline
+-- the first line of version 1, without its newline
 abbrev pub header : List ℕ
 header = codes "plan 1"
+
+-- the first line of version 2, without its newline
+abbrev pub header_2 : List ℕ
+header_2 = codes "plan 2"
+
+-- the line that ends a plan of this many steps in version 2, without its newline
+abbrev pub end_line : ℕ → List ℕ
+end_line count = codes "end " ++ decimal count
 
 -- Reading
 
@@ -41,23 +50,37 @@ abbrev pub put_step : Result Step PlanFault → Result (List Step) PlanFault →
 put_step (Ok step) later = put_steps (step ∷ []) later
 put_step (Err fault) later = Err fault
 
--- behind the last newline nothing may stand: a line that lacks its newline is refused
-abbrev pub read_end : ℕ → List ℕ → Result (List Step) PlanFault
-read_end number [] = Ok []
-read_end number (b ∷ bytes) = Err (BadPlan (number + 1))
+-- behind the last line, which has this number, nothing may stand: a further one is refused, with its newline or without
+abbrev pub read_end : ℕ → List (List ℕ) → Result (List Step) PlanFault
+read_end number [] = Err (BadPlan number)
+read_end number (line ∷ next ∷ later) = Err (BadPlan (number + 1))
+read_end number ([] ∷ []) = Ok []
+read_end number ((b ∷ bytes) ∷ []) = Err (BadPlan (number + 1))
 
--- the steps from this number on, of what newlines part; where nothing is parted, the line before lacks its newline
+-- the steps of version 1 from this number on, of what newlines part; where nothing is parted, the line before lacks its newline
 abbrev pub read_steps : ℕ → List (List ℕ) → Result (List Step) PlanFault
 read_steps number [] = Err (BadPlan number)
-read_steps number (last ∷ []) = read_end number last
+read_steps number (last ∷ []) = read_end number (last ∷ [])
 read_steps number (line ∷ next ∷ later) = put_step (step_in_line number line) (read_steps (number + 1) (next ∷ later))
 
--- the steps of what newlines part, of which the first has to be the header
+-- the steps of version 2 behind this many, of what newlines part, up to the line that ends a plan of so many; where it is
+-- missing, the line behind the last newline is refused, also where that is empty
+abbrev pub read_steps_2 : ℕ → List (List ℕ) → Result (List Step) PlanFault
+read_steps_2 count [] = Err (BadPlan (count + 1))
+read_steps_2 count (last ∷ []) = Err (BadPlan (count + 2))
+read_steps_2 count (line ∷ next ∷ later) =
+    if bytes_eq line (end_line count) then read_end (count + 2) (next ∷ later)
+    else put_step (step_in_line (count + 1) line) (read_steps_2 (count + 1) (next ∷ later))
+
+-- the steps of what newlines part, of which the first has to be the header of a version
 abbrev pub read_lines : List (List ℕ) → Result (List Step) PlanFault
 read_lines [] = Err (BadPlan 1)
-read_lines (first ∷ later) = if bytes_eq first header then read_steps 1 later else Err (BadPlan 1)
+read_lines (first ∷ later) =
+    if bytes_eq first header then read_steps 1 later
+    else if bytes_eq first header_2 then read_steps_2 0 later
+    else Err (BadPlan 1)
 
--- the steps of a plan's text, or its first refusal
+-- the steps of a plan's text in either version, or its first refusal
 unfoldable pub read_plan : List ℕ → Result (List Step) PlanFault
 read_plan text = if nat_lt TEXT_BYTES (length text) then Err TooLarge else read_lines (parts_at NEWLINE text)
 
@@ -76,9 +99,17 @@ read_step text = if nat_lt TEXT_BYTES (length text) then Err TooLarge
 
 -- Writing
 
--- the text of a plan with these steps
+-- the version 1 text of a plan with these steps
 unfoldable pub plan_text : List Step → List ℕ
 plan_text steps = header ++ NEWLINE ∷ [] ++ flat_map step_line steps
+
+-- the version 2 text of a plan with these steps
+unfoldable pub plan_text_2 : List Step → List ℕ
+plan_text_2 steps = header_2 ++ NEWLINE ∷ [] ++ flat_map step_line steps ++ end_line (length steps) ++ NEWLINE ∷ []
+
+-- the text is a text of a plan with these steps, of one version or the other
+abbrev pub IsPlanText : List Step → List ℕ → Type 0
+IsPlanText steps text = (text ≡ plan_text steps) ⊎ (text ≡ plan_text_2 steps)
 
 -- the text is read as these steps, unless it is too long or they are too many
 abbrev pub IsReadAsPlan : List Step → List ℕ → Type 0

@@ -3,13 +3,14 @@
 ghost use Rattle.std.specs.Prelude.{◌≡◌, ◌∷◌, ◌++◌, [], true, IfOk, OnOk};
 ghost use Rattle.std.specs.List.{flat_map, join_with_byte, list_all};
 ghost use Rattle.rules.specs.Name.{is_name};
-ghost use Rattle.plantext.specs.Plan.{header, plan_text, IsReadAsPlan, IsReadAsStep};
+ghost use Rattle.plantext.specs.Plan.{end_line, header, header_2, plan_text, plan_text_2, IsReadAsPlan, IsReadAsStep};
 ghost use Rattle.rules.specs.declared.step.Step.TheVariants.{Configure};
 ghost use Rattle.plantext.specs.Group.{is_group};
 ghost use Rattle.plantext.specs.StepLine.{is_spelled, step_line, words_of};
 ghost use Rattle.plantext.specs.declared.cut.TheConstants.{NEWLINE, SPACE};
 
 use crate::cut::{NEWLINE, SPACE};
+use itoa::Buffer;
 use rules::{Name, Names, Step};
 use std::alloc::{AllocError, Global};
 
@@ -91,8 +92,19 @@ pub fn write_step(alloc: Global, step: &Step) -> Result<Vec<u8>, AllocError>
     Ok(text)
 }
 
-/// The text of a plan with these steps. It is read again as them by `read_plan`. Memory alone can fail; linear in
-/// the steps.
+// Writes the lines of the steps behind the text.
+fn push_steps(text: &mut Vec<u8>, steps: &[Step]) -> Result<(), AllocError>
+    ensures written { OnOk result (text.new.items ≡ text.old.items ++ flat_map step_line steps.now) }
+    ensures valid { OnOk result (list_all is_spelled steps.now ≡ true) }
+{
+    for step in steps {
+        push_step(text, step)?;
+    }
+    Ok(())
+}
+
+/// The version 1 text of a plan with these steps. It is read again as them by `read_plan`. Memory alone can fail; linear
+/// in the steps.
 #[tactic(auto, unfolding(crate::specs::Plan::plan_text))]
 pub fn write_plan(alloc: Global, steps: &[Step]) -> Result<Vec<u8>, AllocError>
     ensures written { IfOk result (λ text. text.items ≡ plan_text steps.now) }
@@ -100,8 +112,30 @@ pub fn write_plan(alloc: Global, steps: &[Step]) -> Result<Vec<u8>, AllocError>
 {
     let mut text = Vec::new(alloc);
     text.extend_from_slice(b"plan 1\n")?;
-    for step in steps {
-        push_step(&mut text, step)?;
-    }
+    push_steps(&mut text, steps)?;
+    Ok(text)
+}
+
+// Writes the line that ends a plan of this many steps behind the text.
+fn push_end(text: &mut Vec<u8>, count: usize) -> Result<(), AllocError>
+    ensures { OnOk result (text.new.items ≡ text.old.items ++ end_line count ++ NEWLINE ∷ []) }
+{
+    text.extend_from_slice(b"end ")?;
+    text.extend_from_slice(Buffer::new().format(count).as_bytes())?;
+    text.push(NEWLINE)?;
+    Ok(())
+}
+
+/// The version 2 text of a plan with these steps. It is read again as them by `read_plan`. Memory alone can fail; linear
+/// in the steps.
+#[tactic(auto, unfolding(crate::specs::Plan::plan_text_2))]
+pub fn write_plan_2(alloc: Global, steps: &[Step]) -> Result<Vec<u8>, AllocError>
+    ensures written { IfOk result (λ text. text.items ≡ plan_text_2 steps.now) }
+    ensures read_again { IfOk result (λ text. IsReadAsPlan steps.now text.items) }
+{
+    let mut text = Vec::new(alloc);
+    text.extend_from_slice(b"plan 2\n")?;
+    push_steps(&mut text, steps)?;
+    push_end(&mut text, steps.len())?;
     Ok(text)
 }

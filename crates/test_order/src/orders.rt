@@ -57,9 +57,11 @@ fn ordered_with<'p, 'a>(
 {
     universe_is_built();
     let prefs = Prefs::without_records(alloc, None)?;
-    let goals = Request::read(alloc, request.as_bytes(), ARCH)?.into_vec();
+    let request = Request::read(alloc, request.as_bytes(), ARCH)?;
+    let asks_all_versions = request.asks_all_versions();
+    let goals = request.into_vec();
     let start = view(alloc, records, packages)?;
-    match build(alloc, records, &[], &prefs, goals) {
+    match build(alloc, records, &[], &prefs, goals, asks_all_versions) {
         Ok(universe) => ordered_on(alloc, &start, &universe, selection),
         Err(_) => Err(Fail::new("no universe")),
     }

@@ -15,3 +15,4 @@ mod packages;
 mod steps;
 #[cfg(test)]
 mod universes;
+mod versions;

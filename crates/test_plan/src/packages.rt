@@ -9,6 +9,7 @@ use crate::ends::is_against;
 use crate::groups::is_group;
 use crate::steps::unpacks_so;
 use crate::universes::{is_built, is_looked_up};
+use crate::versions::are_eligible;
 use relation::Pkg;
 use rules::Rule;
 use status::Records;
@@ -80,6 +81,7 @@ fn is_answer_over(
     let (verb, words) = asked.split_once(' ').unwrap_or((asked, ""));
     match verb {
         "build" => is_built(alloc, records, words, wanted),
+        "eligible" => are_eligible(alloc, records, words, wanted),
         "providers" | "stanza" | "number" | "start" | "candidate" => is_looked_up(
             alloc, records, asked, wanted,
         ),

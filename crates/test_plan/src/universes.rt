@@ -32,6 +32,11 @@ const A_EQUAL: &[u8] = b"Package: a\nVersion: 1.00\nArchitecture: all\n";
 const B_A_TWO: &[u8] =
     b"Package: b\nVersion: 3\nArchitecture: amd64\n\nPackage: a\nVersion: 2\nArchitecture: all\n";
 
+const FOO_LIBX_ONE: &[u8] =
+    b"Package: foo\nVersion: 1\nArchitecture: all\nDepends: libx (<< 2)\n\nPackage: libx\nVersion: 1\nArchitecture: all\n";
+
+const LIBX_TWO: &[u8] = b"Package: libx\nVersion: 2\nArchitecture: all\n";
+
 // The index that the word names; behind a hyphen it is NotAutomatic, and behind two ButAutomaticUpgrades too.
 fn index_of<'a>(alloc: Global, word: &str, number: usize) -> Result<Index<'a>, Fail> {
     let kind = word.trim_end_matches('-');
@@ -40,13 +45,16 @@ fn index_of<'a>(alloc: Global, word: &str, number: usize) -> Result<Index<'a>, F
         "equal" => A_EQUAL,
         "two" => B_A_TWO,
         "asked" => INDEX,
+        "stable" => FOO_LIBX_ONE,
+        "testing" => LIBX_TWO,
         _ => b"",
     };
     let release = release_of(alloc, word.len().saturating_sub(kind.len()))?;
     Ok(Index::read(alloc, text, release, ARCH, number, 0)?)
 }
 
-fn indices_of<'a>(alloc: Global, words: &str) -> Result<Vec<Index<'a>>, Fail> {
+/// The indices that the words name.
+pub(crate) fn indices_of<'a>(alloc: Global, words: &str) -> Result<Vec<Index<'a>>, Fail> {
     let mut indices = Vec::new(alloc);
     for word in words.split_whitespace() {
         let index = index_of(alloc, word, indices.len() + 1)?;
@@ -117,8 +125,10 @@ fn says_over(
 ) -> Result<bool, Fail>
     requires { HasDistinctNames (records_of (map (λ r. r.now) records.now)) }
 {
-    let goals = Request::read(alloc, request.as_bytes(), ARCH)?.into_vec();
-    match build(alloc, records, indices, prefs, goals) {
+    let request = Request::read(alloc, request.as_bytes(), ARCH)?;
+    let asks_all_versions = request.asks_all_versions();
+    let goals = request.into_vec();
+    match build(alloc, records, indices, prefs, goals, asks_all_versions) {
         Ok(universe) => says(alloc, &universe, asked, wanted),
         Err(error) => is_refusal(alloc, error, wanted),
     }
@@ -227,13 +237,37 @@ Package: a$Status: install ok installed$Version: 1.5$Architecture: all→build o
 Package: a$Status: install ok installed$Version: 1.5$Architecture: all→build one two;Package: a b$Pin: version 9*$Pin-Priority: -1$;→a=1.5 a=2 b=3 | a=2 b=3
 ";
 
+// The same where a request may ask for all versions: then each one that may be chosen is admitted, for names that aren't
+// held. What is lower than what stands needs 1000, and a priority of 0 or less is never enough; the candidates stay the
+// same.
+const ALL_VERSIONS: &str = "\
+→build stable testing;;install foo→foo=1 libx=2 | foo=1 libx=2
+→build stable testing;;all-versions$install foo→foo=1 libx=1 libx=2 | foo=1 libx=2
+→build testing stable;;install foo$all-versions→foo=1 libx=1 libx=2 | foo=1 libx=2
+→build one two;;→a=2 b=3 | a=2 b=3
+→build one two;;all-versions→a=1.0 a=2 b=3 | a=2 b=3
+→build one two-;;all-versions→a=1.0 a=2 b=3 | a=1.0 b=3
+→build one equal two;;all-versions→a=1.0 a=2 b=3 | a=2 b=3
+→build one two;Package: a$Pin: version 1.0$Pin-Priority: 0$;all-versions→a=2 b=3 | a=2 b=3
+→build one two;Package: *$Pin: version 2$Pin-Priority: -1$;all-versions→a=1.0 b=3 | a=1.0 b=3
+→build one no;;all-versions$install c (= 2)→E17 UnknownName 2
+Package: a$Status: install ok installed$Version: 1.5$Architecture: all→build one two;;all-versions→a=1.5 a=2 b=3 | a=2 b=3
+Package: a$Status: install ok installed$Version: 1.5$Architecture: all→build one two;Package: a$Pin: version 1.0$Pin-Priority: 999$;all-versions→a=1.5 a=2 b=3 | a=2 b=3
+Package: a$Status: install ok installed$Version: 1.5$Architecture: all→build one two;Package: a$Pin: version 1.0$Pin-Priority: 1000$;all-versions→a=1.0 a=1.5 a=2 b=3 | a=1.0 b=3
+Package: a$Status: install ok installed$Version: 1.5$Architecture: all→build one two;Package: a$Pin: version 1.5$Pin-Priority: 501$;all-versions→a=1.5 a=2 b=3 | a=1.5 b=3
+Package: a$Status: install ok installed$Version: 1.5$Architecture: all→build one two;Package: a$Pin: version 1.5$Pin-Priority: -1$;all-versions→a=1.5 a=2 b=3 | a=2 b=3
+Package: a$Status: install ok installed$Version: 1.5$Architecture: all→build one two;;all-versions$install a (= 1.0)→a=1.0 a=1.5 a=2 b=3 | a=2 b=3
+Package: a$Status: hold ok installed$Version: 1.5$Architecture: all→build one two;;all-versions→a=1.5 b=3 | a=2 b=3
+Package: a$Status: hold ok config-files$Config-Version: 1$→build one two;;all-versions→b=3 | a=2 b=3
+";
+
 fn holds(alloc: Global, row: &str) -> Result<bool, Fail> {
     let row = row.replace(alloc, "$", "\n")?;
     holds_as_spelled(alloc, row.as_str())
 }
 
-// Fails with the first row of the table that doesn't hold.
-fn all_hold(alloc: Global, table: &str) -> Result<(), Fail> {
+/// Fails with the first row of the table that doesn't hold.
+pub(crate) fn all_hold(alloc: Global, table: &str) -> Result<(), Fail> {
     for row in table.lines() {
         if !holds(alloc, row)? {
             return Err(Fail::new(row));
@@ -255,6 +289,11 @@ fn pairs_and_candidates_are_those_of_the_indices(rt: HostRuntime) -> Result<(), 
 #[test]
 fn what_stands_is_admitted_and_kept_from_downgrades(rt: HostRuntime) -> Result<(), Fail> {
     all_hold(rt.alloc(), STARTS)
+}
+
+#[test]
+fn all_versions_that_may_be_chosen_are_admitted(rt: HostRuntime) -> Result<(), Fail> {
+    all_hold(rt.alloc(), ALL_VERSIONS)
 }
 
 #[test]

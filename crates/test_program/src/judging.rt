@@ -6,10 +6,11 @@ ghost use Rattle.inputs.specs.declared.shelf.ReadError.TheVariants as ReadError;
 use crate::memory::Memory;
 use crate::scenario::add_plan;
 use cli::{
-    Candidate, Exit, Fault, Host, HostShelf, Input, Outcome, Paths, ReadError, Refusal, Settings,
-    Source, candidate_line, check_plan, exit_of_candidate, exit_of_refusal, exit_of_verdict,
-    find_candidate, outcome_of_answer, outcome_of_candidate, verdict_line,
+    Candidate, Exit, Fault, Host, HostShelf, Input, Outcome, Paths, PutError, ReadError, Refusal,
+    Settings, Source, candidate_line, check_plan, exit_of_candidate, exit_of_refusal,
+    exit_of_verdict, find_candidate, outcome_of_answer, outcome_of_candidate, verdict_line,
 };
+use disk::MemoryDisk;
 use rules::Verdict;
 use std::alloc::{AllocError, Global};
 use std::test::Fail;
@@ -38,6 +39,8 @@ impl OneFile<'_> {
 impl<'a> Host for OneFile<'a> {
     type Text = &'a [u8];
 
+    type Journal = MemoryDisk;
+
     ghost files = { λ host. Some (λ path. if bytes_eq path host.path.now then Some host.text.now else None) };
 
     ghost faults = { λ host. host.failures };
@@ -65,6 +68,14 @@ impl<'a> Host for OneFile<'a> {
 
     fn close(&mut self, text: &'a [u8]) {
         self.failures = self.failures.saturating_add(text.failures());
+    }
+
+    fn journal(&mut self, alloc: Global, _path: &[u8]) -> Result<MemoryDisk, AllocError> {
+        Ok(MemoryDisk::new(alloc, Vec::new(alloc)))
+    }
+
+    fn put(&mut self, _alloc: Global, _path: &[u8], _text: &[u8]) -> Result<(), PutError> {
+        Err(PutError::Unwritten)
     }
 }
 

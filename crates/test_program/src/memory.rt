@@ -3,7 +3,8 @@ ghost use Rattle.std.specs.Prelude.{◌≡◌, IfErr};
 ghost use Rattle.inputs.specs.Counting.{Counts};
 ghost use Rattle.inputs.specs.declared.shelf.ReadError.TheVariants as ReadError;
 
-use cli::{Host, ReadError, ReadFailed, Source, run};
+use cli::{Host, PutError, ReadError, ReadFailed, Source, run};
+use disk::{Fuse, MemoryDisk};
 use rows::unescaped;
 use std::alloc::{AllocError, Global};
 use std::test::Fail;
@@ -14,12 +15,18 @@ struct File<'a> {
     text: Vec<u8>,
 }
 
-/// Files by their paths, the paths that were opened, in order, each followed by a space, and how many of them weren't there.
+/// Files by their paths, the paths that were opened, in order, each followed by a space, and how many of them weren't there; how
+/// the file of a journal fails, which is empty at first; and what was put in the place of a file last, unless it can't be.
 #[derive(Drop)]
 pub(crate) struct Memory<'a> {
     files: Vec<File<'a>>,
     opened: Vec<u8>,
     failures: u64,
+    /// Which calls of a journal's file fail.
+    pub(crate) fuse: Option<Fuse>,
+    /// Whether nothing can be put in the place of a file.
+    pub(crate) is_full: bool,
+    put: Option<Vec<u8>>,
 }
 
 impl<'a> Memory<'a> {
@@ -28,6 +35,9 @@ impl<'a> Memory<'a> {
             files: Vec::new(alloc),
             opened: Vec::new(alloc),
             failures: 0,
+            fuse: None,
+            is_full: false,
+            put: None,
         }
     }
 
@@ -40,6 +50,14 @@ impl<'a> Memory<'a> {
 
     pub(crate) fn opened(&self) -> &[u8] {
         self.opened.as_slice()
+    }
+
+    /// What was put in the place of a file.
+    pub(crate) fn put_text(&self) -> Option<&[u8]> {
+        match &self.put {
+            Some(text) => Some(text.as_slice()),
+            None => None,
+        }
     }
 
     fn note(&mut self, path: &[u8]) -> Result<(), AllocError>
@@ -115,6 +133,8 @@ impl Source for Opened {
 impl Host for Memory<'_> {
     type Text = Opened;
 
+    type Journal = MemoryDisk;
+
     ghost faults = { λ host. host.failures };
 
     fn failures(&self) -> u64 {
@@ -135,6 +155,26 @@ impl Host for Memory<'_> {
 
     fn close(&mut self, text: Opened) {
         self.failures = self.failures.saturating_add(text.failures());
+    }
+
+    fn journal(&mut self, alloc: Global, _path: &[u8]) -> Result<MemoryDisk, AllocError> {
+        Ok(match self.fuse {
+            Some(fuse) => MemoryDisk::with_fuse(alloc, Vec::new(alloc), fuse),
+            None => MemoryDisk::new(alloc, Vec::new(alloc)),
+        })
+    }
+
+    fn put(&mut self, alloc: Global, _path: &[u8], text: &[u8]) -> Result<(), PutError> {
+        if self.is_full {
+            return Err(PutError::Unwritten);
+        }
+        match text.to_vec(alloc) {
+            Ok(text) => {
+                self.put = Some(text);
+                Ok(())
+            }
+            Err(AllocError) => Err(PutError::OutOfMemory),
+        }
     }
 }
 

@@ -1,8 +1,9 @@
 //! Failures to write, and failures to read, of a file and for want of memory.
 use crate::memory::{Memory, copied, words_in};
 use crate::scenario::{CHECK_PLAN, add_plan};
-use cli::{Host, ReadError, ReadFailed, Source, refuse_for_memory, run};
-use std::alloc::Global;
+use cli::{Host, PutError, ReadError, ReadFailed, Source, refuse_for_memory, run};
+use disk::MemoryDisk;
+use std::alloc::{AllocError, Global};
 use std::io;
 use std::io::{ErrorKind, Write};
 use std::test::Fail;
@@ -111,6 +112,8 @@ struct Exhausted;
 impl Host for Exhausted {
     type Text = &'static [u8];
 
+    type Journal = MemoryDisk;
+
     ghost faults = { λ _. 0 };
 
     fn failures(&self) -> u64 {
@@ -126,6 +129,14 @@ impl Host for Exhausted {
     }
 
     fn close(&mut self, _text: &'static [u8]) {}
+
+    fn journal(&mut self, _alloc: Global, _path: &[u8]) -> Result<MemoryDisk, AllocError> {
+        Err(AllocError)
+    }
+
+    fn put(&mut self, _alloc: Global, _path: &[u8], _text: &[u8]) -> Result<(), PutError> {
+        Err(PutError::OutOfMemory)
+    }
 }
 
 #[test]
@@ -172,6 +183,8 @@ struct Worn {
 impl Host for Worn {
     type Text = Broken;
 
+    type Journal = MemoryDisk;
+
     ghost faults = { λ host. host.failures };
 
     fn failures(&self) -> u64 {
@@ -192,6 +205,14 @@ impl Host for Worn {
 
     fn close(&mut self, text: Broken) {
         self.failures = self.failures.saturating_add(text.failures());
+    }
+
+    fn journal(&mut self, alloc: Global, _path: &[u8]) -> Result<MemoryDisk, AllocError> {
+        Ok(MemoryDisk::new(alloc, Vec::new(alloc)))
+    }
+
+    fn put(&mut self, _alloc: Global, _path: &[u8], _text: &[u8]) -> Result<(), PutError> {
+        Err(PutError::Unwritten)
     }
 }
 

@@ -10,7 +10,7 @@ use index::Index;
 use pins::Prefs;
 use reach::Part;
 use refutation::universe_has_needed_pairs;
-use rules::{GoalLine, Release, Text};
+use rules::{Release, Text};
 use search_settle::{settle, standing_of_inputs_are_present};
 use std::alloc::Global;
 use std::test::Fail;
@@ -37,16 +37,24 @@ fn settled_all(alloc: Global, universe: &Universe<'_, '_>) -> Result<Vec<u32>, F
     Ok(settled)
 }
 
-// The same of the universe of these goals over an empty status file.
+// The same of the universe of this request over an empty status file.
 fn settled_over(
     alloc: Global,
     indices: &[Index<'_>],
     prefs: &Prefs,
-    goals: Vec<GoalLine>,
+    request: Request,
 ) -> Result<Vec<u32>, Fail> {
     universe_has_needed_pairs();
     standing_of_inputs_are_present();
-    match build(alloc, &[], indices, prefs, goals) {
+    let asks_all_versions = request.asks_all_versions();
+    match build(
+        alloc,
+        &[],
+        indices,
+        prefs,
+        request.into_vec(),
+        asks_all_versions,
+    ) {
         Ok(universe) => {
             let settled = settled_all(alloc, &universe)?;
             Ok(settled)
@@ -59,10 +67,10 @@ fn settled_over(
 fn settled_in(alloc: Global, index: &[u8], request: &str) -> Result<Vec<u32>, Fail> {
     let release = Release::without_keys(Text::copied_from(alloc, b"")?);
     let prefs = Prefs::without_records(alloc, None)?;
-    let goals = Request::read(alloc, request.as_bytes(), ARCH)?.into_vec();
+    let request = Request::read(alloc, request.as_bytes(), ARCH)?;
     let mut indices = Vec::new(alloc);
     indices.push(Index::read(alloc, index, release, ARCH, 1, 0)?)?;
-    settled_over(alloc, indices.as_slice(), &prefs, goals)
+    settled_over(alloc, indices.as_slice(), &prefs, request)
 }
 
 const APART: &[u8] = b"\

@@ -1,6 +1,6 @@
 //! Texts of plans, each with what it is to be read as. The format is this project's own; lines were counted by hand.
 use crate::texts::{is_printed, write_part};
-use crate::written::{is_line_again, is_plan_again};
+use crate::written::{is_line_again, is_plan_2_again, is_plan_again};
 use plantext::{PlanError, PlanFault, read_plan};
 use rows::unescaped;
 use rules::{Name, Step};
@@ -78,11 +78,15 @@ fn is_refused_at(alloc: Global, text: &str, line: usize) -> bool {
 
 const EXAMPLE: &str = "plan 1\nunpack foo 1.0\nconfigure bar foo\n";
 
+const EXAMPLE_2: &str = "plan 2\nunpack foo 1.0\nconfigure bar foo\nend 2\n";
+
 #[test]
 fn the_readme_example(rt: HostRuntime) -> Result<(), AllocError> {
     let alloc = rt.alloc();
     assert!(rt; is_plan(alloc, EXAMPLE.as_bytes(), "U:foo=1.0;C:bar:foo;")?);
     assert!(rt; is_plan_again(alloc, EXAMPLE.as_bytes())?);
+    assert!(rt; is_plan(alloc, EXAMPLE_2.as_bytes(), "U:foo=1.0;C:bar:foo;")?);
+    assert!(rt; is_plan_2_again(alloc, EXAMPLE_2.as_bytes())?);
     assert!(rt; is_refused_at(alloc, "plan 1\nconfigure foo bar\n", 2));
     assert!(rt; is_line_again(alloc, b"purge foo\n")?);
     Ok(())
@@ -124,8 +128,14 @@ fn a_group_ascends_by_bytes(rt: HostRuntime) -> Result<(), AllocError> {
 const HEADERS: &str = "\
 →E18 BadPlan 1
 $→E18 BadPlan 1
-plan 2$→E18 BadPlan 1
+plan 3$→E18 BadPlan 1
+plan 3$end 0$→E18 BadPlan 1
 plan 1→E18 BadPlan 1
+plan 2→E18 BadPlan 1
+plan 2 $end 0$→E18 BadPlan 1
+plan 02$end 0$→E18 BadPlan 1
+plan 22$end 0$→E18 BadPlan 1
+plan$2$end 0$→E18 BadPlan 1
 plan 1 $→E18 BadPlan 1
  plan 1$→E18 BadPlan 1
 plan  1$→E18 BadPlan 1
@@ -196,6 +206,77 @@ fn a_line_that_is_no_step_is_refused_with_its_number(rt: HostRuntime) -> Result<
     assert_rows(&rt, LINES)
 }
 
+// The end has the number of the steps, of one digit and of two; `end` is a name too.
+const ENDED: &str = "\
+plan 2$end 0$→
+plan 2$unpack foo 1$unpack libx 1$configure libx$configure foo$end 4$→U:foo=1;U:libx=1;C:libx;C:foo;
+plan 2$purge a$purge a$end 2$→P:a;P:a;
+plan 2$remove end$end 1$→R:end;
+plan 2$purge a$purge b$purge c$purge d$purge e$purge f$purge g$purge h$purge i$end 9$→P:a;P:b;P:c;P:d;P:e;P:f;P:g;P:h;P:i;
+plan 2$purge a$purge b$purge c$purge d$purge e$purge f$purge g$purge h$purge i$purge j$end 10$→P:a;P:b;P:c;P:d;P:e;P:f;P:g;P:h;P:i;P:j;
+";
+
+#[test]
+fn a_plan_of_version_2_ends_with_the_number_of_its_steps(
+    rt: HostRuntime,
+) -> Result<(), AllocError> {
+    assert_rows(&rt, ENDED)
+}
+
+// No end, which is missed on the line behind the last; a line that lacks its newline, the end too; an end with another
+// number, or with one that isn't decimal digits without a zero in front; a line behind the end, with its newline or without;
+// and a step's line, which is refused as in version 1, and first.
+const NOT_ENDED: &str = "\
+plan 2$→E18 BadPlan 2
+plan 2$purge a$→E18 BadPlan 3
+plan 2$purge a$purge b$→E18 BadPlan 4
+plan 2$purge a→E18 BadPlan 2
+plan 2$purge a$purge b→E18 BadPlan 3
+plan 2$end 0→E18 BadPlan 2
+plan 2$purge a$end 1→E18 BadPlan 3
+plan 2$purge a$e→E18 BadPlan 3
+plan 2$end 1$→E18 BadPlan 2
+plan 2$purge a$end 0$→E18 BadPlan 3
+plan 2$purge a$end 2$→E18 BadPlan 3
+plan 2$purge a$end 11$→E18 BadPlan 3
+plan 2$purge a$end 1 $→E18 BadPlan 3
+plan 2$purge a$end  1$→E18 BadPlan 3
+plan 2$purge a$ end 1$→E18 BadPlan 3
+plan 2$purge a$end\t1$→E18 BadPlan 3
+plan 2$purge a$end 1\r$→E18 BadPlan 3
+plan 2$purge a$end 01$→E18 BadPlan 3
+plan 2$purge a$end +1$→E18 BadPlan 3
+plan 2$purge a$end -1$→E18 BadPlan 3
+plan 2$purge a$end 1.$→E18 BadPlan 3
+plan 2$purge a$end 1 1$→E18 BadPlan 3
+plan 2$purge a$end a$→E18 BadPlan 3
+plan 2$purge a$end$→E18 BadPlan 3
+plan 2$purge a$end $→E18 BadPlan 3
+plan 2$purge a$End 1$→E18 BadPlan 3
+plan 2$purge a$end1$→E18 BadPlan 3
+plan 2$end 00$→E18 BadPlan 2
+plan 2$end 18446744073709551616$→E18 BadPlan 2
+plan 2$end 0$purge a$→E18 BadPlan 3
+plan 2$end 0$purge a$end 1$→E18 BadPlan 3
+plan 2$end 0$$→E18 BadPlan 3
+plan 2$end 0$ →E18 BadPlan 3
+plan 2$end 0$x→E18 BadPlan 3
+plan 2$purge a$end 1$end 1$→E18 BadPlan 4
+plan 2$purge a$end 1$purge b→E18 BadPlan 4
+plan 2$purge a$end 1$x$y$→E18 BadPlan 4
+plan 2$configure b a$end 1$→E18 BadPlan 2
+plan 2$purge a$$end 1$→E18 BadPlan 3
+plan 2$purge a$plan 2$end 2$→E18 BadPlan 3
+plan 2$purge a_$end 7$x→E18 BadPlan 2
+plan 1$end 0$→E18 BadPlan 2
+plan 1$purge a$end 1$→E18 BadPlan 3
+";
+
+#[test]
+fn a_plan_of_version_2_without_its_end_is_refused(rt: HostRuntime) -> Result<(), AllocError> {
+    assert_rows(&rt, NOT_ENDED)
+}
+
 #[test]
 fn a_byte_that_is_no_text_is_refused(rt: HostRuntime) {
     assert!(rt; is_refused_at(rt.alloc(), "plan 1\npurge a\0\n", 2));
@@ -224,6 +305,9 @@ fn are_five_or_no_memory(alloc: Global, text: &str) -> bool {
 fn a_refused_growth_is_answered_as_want_of_memory(rt: HostRuntime) {
     let text = "plan 1\nunpack a 1\nunpack b 2\nconfigure a b\nremove c\npurge c\n";
     assert!(rt; are_five_or_no_memory(rt.alloc(), text));
+    let text_2 = "plan 2\nunpack a 1\nunpack b 2\nconfigure a b\nremove c\npurge c\nend 5\n";
+    assert!(rt; are_five_or_no_memory(rt.alloc(), text_2));
     // A line that is no step takes no memory.
     assert!(rt; is_refused_at(rt.alloc(), "plan 1\nconfigure b a\n", 2));
+    assert!(rt; is_refused_at(rt.alloc(), "plan 2\nend 1\n", 2));
 }

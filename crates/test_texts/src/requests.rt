@@ -57,16 +57,20 @@ fn write_goals(alloc: Global, shown: &mut Vec<u8>, goals: &[GoalLine]) -> Result
     Ok(())
 }
 
-fn are_goals(alloc: Global, goals: &[GoalLine], wanted: &str) -> Result<bool, AllocError> {
+// A `V;` where all versions are asked for, and then the goals.
+fn is_shown(alloc: Global, request: &Request, wanted: &str) -> Result<bool, AllocError> {
     let mut shown = Vec::new(alloc);
-    write_goals(alloc, &mut shown, goals)?;
+    if request.asks_all_versions() {
+        shown.extend_from_slice(b"V;")?;
+    }
+    write_goals(alloc, &mut shown, request.as_slice())?;
     Ok(shown.as_slice() == wanted.as_bytes())
 }
 
-// Whether these are the goals of the text, or its refusal is printed so.
+// Whether this is what the text asks for, or its refusal is printed so.
 fn is_request(alloc: Global, text: &[u8], wanted: &str) -> Result<bool, AllocError> {
     match Request::read(alloc, text, ARCH) {
-        Ok(request) => are_goals(alloc, request.as_slice(), wanted),
+        Ok(request) => is_shown(alloc, &request, wanted),
         Err(error) => is_printed(alloc, &error, wanted),
     }
 }
@@ -96,7 +100,19 @@ fn are_two(goals: &[GoalLine]) -> bool {
 
 fn is_example(alloc: Global, text: &str) -> bool {
     match Request::read(alloc, text.as_bytes(), ARCH) {
-        Ok(request) => are_two(request.as_slice()) && request.into_vec().len() == 2,
+        Ok(request) => {
+            are_two(request.as_slice())
+                && !request.asks_all_versions()
+                && request.into_vec().len() == 2
+        }
+        Err(_) => false,
+    }
+}
+
+// Whether all versions are asked for, and one goal.
+fn is_wide_example(alloc: Global, text: &str) -> bool {
+    match Request::read(alloc, text.as_bytes(), ARCH) {
+        Ok(wide) => wide.asks_all_versions() && wide.as_slice().len() == 1,
         Err(_) => false,
     }
 }
@@ -105,6 +121,7 @@ fn is_example(alloc: Global, text: &str) -> bool {
 fn the_readme_example(rt: HostRuntime) {
     let text = "# a comment\ninstall foo (>= 2)\nremove bar";
     assert!(rt; is_example(rt.alloc(), text));
+    assert!(rt; is_wide_example(rt.alloc(), "all-versions\nupgrade-all\n"));
 }
 
 // `$` stands for a newline.
@@ -194,6 +211,40 @@ remove\x0ba→E16 BadRequest 1
 #[test]
 fn white_space_parts_words_and_is_ignored_at_the_ends(rt: HostRuntime) -> Result<(), AllocError> {
     assert_rows(&rt, WHITE_SPACE)
+}
+
+// Such a line is no goal, counts in the numbers of lines, and may stand anywhere and more than once. It is one word alone.
+const ALL_VERSIONS: &str = "\
+all-versions→V;
+all-versions$→V;
+all-versions$install foo$→V;2I:foo;
+install foo$all-versions$remove a→V;1I:foo;3R:a;
+upgrade-all$no-remove$all-versions→V;1A;2N;
+all-versions$all-versions$upgrade-all$all-versions$→V;3A;
+ \tall-versions \t$→V;
+$# x$all-versions$remove a→V;4R:a;
+#all-versions$# all-versions$no-remove→3N;
+install all-versions→1I:all-versions;
+all-versions x→E16 BadRequest 1
+all-versions all-versions→E16 BadRequest 1
+all-versions install a→E16 BadRequest 1
+install a$all-versions a$→E16 BadRequest 2
+all-versions$all-versions x$→E16 BadRequest 2
+all-versions #→E16 BadRequest 1
+ # all-versions→E16 BadRequest 1
+all-versions,→E16 BadRequest 1
+all-versions\r$→E16 BadRequest 1
+all-version→E16 BadRequest 1
+all-versionss→E16 BadRequest 1
+All-Versions→E16 BadRequest 1
+all versions→E16 BadRequest 1
+all-versions$foo→E16 BadRequest 2
+foo$all-versions→E16 BadRequest 1
+";
+
+#[test]
+fn a_line_for_all_versions_is_no_goal(rt: HostRuntime) -> Result<(), AllocError> {
+    assert_rows(&rt, ALL_VERSIONS)
 }
 
 const REFUSED: &str = "\

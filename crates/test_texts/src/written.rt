@@ -1,7 +1,7 @@
 //! Plans and steps as they are written, and lines as one step. The format is this project's own.
 use crate::plans::write_step_shown;
 use crate::texts::is_printed;
-use plantext::{PlanError, read_plan, read_step, write_plan, write_step};
+use plantext::{PlanError, read_plan, read_step, write_plan, write_plan_2, write_step};
 use rows::unescaped;
 use rules::{Name, Step, is_name};
 use std::alloc::{AllocError, Global};
@@ -14,6 +14,18 @@ fn is_plan_of(alloc: Global, steps: &[Step], text: &[u8]) -> Result<bool, AllocE
 pub(crate) fn is_plan_again(alloc: Global, text: &[u8]) -> Result<bool, AllocError> {
     match read_plan(alloc, text) {
         Ok(steps) => is_plan_of(alloc, steps.as_slice(), text),
+        Err(_) => Ok(false),
+    }
+}
+
+fn is_plan_2_of(alloc: Global, steps: &[Step], text: &[u8]) -> Result<bool, AllocError> {
+    Ok(write_plan_2(alloc, steps)?.as_slice() == text)
+}
+
+/// Whether the text is written again, in version 2, of the steps that it is read as.
+pub(crate) fn is_plan_2_again(alloc: Global, text: &[u8]) -> Result<bool, AllocError> {
+    match read_plan(alloc, text) {
+        Ok(steps) => is_plan_2_of(alloc, steps.as_slice(), text),
         Err(_) => Ok(false),
     }
 }
@@ -39,6 +51,26 @@ plan 1$purge a$purge a$
 fn a_plan_is_written_as_it_was_read(rt: HostRuntime) -> Result<(), AllocError> {
     for row in PLANS.lines() {
         assert!(rt; is_written_again(rt.alloc(), row)?, "{row}");
+    }
+    Ok(())
+}
+
+fn is_written_2_again(alloc: Global, row: &str) -> Result<bool, AllocError> {
+    is_plan_2_again(alloc, unescaped(alloc, row)?.as_slice())
+}
+
+const PLANS_2: &str = "\
+plan 2$end 0$
+plan 2$unpack foo 1$unpack libx 1$configure libx$configure foo$end 4$
+plan 2$deconfigure q$remove q$purge q$end 3$
+plan 2$configure a end$end 1$
+plan 2$purge a$purge b$purge c$purge d$purge e$purge f$purge g$purge h$purge i$purge j$end 10$
+";
+
+#[test]
+fn a_plan_is_written_in_version_2_as_it_was_read(rt: HostRuntime) -> Result<(), AllocError> {
+    for row in PLANS_2.lines() {
+        assert!(rt; is_written_2_again(rt.alloc(), row)?, "{row}");
     }
     Ok(())
 }
@@ -156,8 +188,17 @@ fn is_plan_or_no_memory(alloc: Global, steps: &[Step]) -> bool {
     }
 }
 
+fn is_plan_2_or_no_memory(alloc: Global, steps: &[Step]) -> bool {
+    match write_plan_2(alloc, steps) {
+        Ok(text) => text.as_slice() == b"plan 2\npurge foo\nend 1\n".as_slice(),
+        Err(AllocError) => true,
+    }
+}
+
 fn are_written_or_no_memory(alloc: Global, steps: &[Step; 1]) -> bool {
-    is_line_or_no_memory(alloc, &steps[0]) && is_plan_or_no_memory(alloc, steps.as_slice())
+    is_line_or_no_memory(alloc, &steps[0])
+        && is_plan_or_no_memory(alloc, steps.as_slice())
+        && is_plan_2_or_no_memory(alloc, steps.as_slice())
 }
 
 fn is_purge_or_no_memory(alloc: Global) -> bool {

@@ -1,6 +1,8 @@
 -- What install goals ask for with `=`, and the versions of the best offers, as lists and as facts.
-use Rattle.std.proofs.Common.{◌≡◌, ℕ, Bool, true, false, cond, List, [], ◌∷◌, Option, Some, None, refl, sym, ap, subst, ◌∙◌}
+use Rattle.std.proofs.Common.{◌≡◌, ℕ, Bool, true, false, cond, List, [], ◌∷◌, ◌++◌, ◌⊎◌, map, Option, Some, None, refl, sym, ap, subst, ◌∙◌}
 use Rattle.std.specs.List.{Any, Contains, cons_option, filter_map}
+use Rattle.std.proofs.lemmas.Bool.{or_cases, or_left, or_right}
+use Rattle.std.proofs.lemmas.List.Folds.{list_any-append}
 use Rattle.std.proofs.lemmas.Option.{same_Some}
 use Rattle.rules.specs.Available.{is_of}
 use Rattle.rules.specs.ElementLaws.{Any-elim, Any-from_list_any, Any-intro, Contains-cons, Contains-head, Contains-map, Contains-map_intro, Contains-nil, Contains-rest, list_any-from_contains}
@@ -13,7 +15,7 @@ use Rattle.rules.specs.declared.goal.Goal.TheVariants as goal
 use Rattle.rules.specs.declared.op.Op.{Op}
 use Rattle.rules.specs.declared.op.Op.TheVariants as operator
 use Rattle.universe.proofs.PairOrder.{is_of-from, is_of-parts}
-use Rattle.candidates.specs.Offer.{Offer}
+use Rattle.candidates.specs.Offer.{IsFor, Offer}
 use Rattle.universe_build.specs.Choice.{Exact, best_exacts, exact_of, exacts_of, is_sought, is_exactly, offered_exact}
 use mathlib.Core.Logic.{inl, inr}
 
@@ -128,6 +130,29 @@ pub sought_best : (best : List Offer) (offer : Offer) → Contains best offer �
 sought_best best offer within found of = list_any-from_contains (λ (exact : Exact). is_of exact.name exact.version found.pkg)
     (best_exacts best) (offered_exact offer) (Contains-map_intro offered_exact best offer within)
     (is_of-from offer.name offer.version found.pkg of)
+
+-- and a stanza of a version of which there is an offer
+pub sought_version : (offers : List Offer) (found : IndexPackage) (name version : List ℕ) → IsOf name version found.pkg
+    → Any (IsFor name version) offers → is_sought (map offered_exact offers) found ≡ true
+sought_version offers found name version of some = Any-elim (IsFor name version) offers (is_sought (map offered_exact offers) found ≡ true)
+    (λ offer within is. sought_best offers offer within found (
+      of.0 ∙ sym is.0,
+      SameVersion-trans found.pkg.version version offer.version of.1 (SameVersion-symm offer.version version is.1),
+    )) some
+
+-- what is sought in one of two lists is sought in both
+pub sought_left : (asked further : List Exact) (found : IndexPackage) → is_sought asked found ≡ true → is_sought (asked ++ further) found ≡ true
+sought_left asked further found passes = list_any-append (λ (exact : Exact). is_of exact.name exact.version found.pkg) asked further
+    ∙ or_left (is_sought asked found) (is_sought further found) passes
+
+pub sought_right : (asked further : List Exact) (found : IndexPackage) → is_sought further found ≡ true → is_sought (asked ++ further) found ≡ true
+sought_right asked further found passes = list_any-append (λ (exact : Exact). is_of exact.name exact.version found.pkg) asked further
+    ∙ or_right (is_sought asked found) (is_sought further found) passes
+
+pub sought_parts : (asked further : List Exact) (found : IndexPackage) → is_sought (asked ++ further) found ≡ true
+    → (is_sought asked found ≡ true) ⊎ (is_sought further found ≡ true)
+sought_parts asked further found passes = or_cases (is_sought asked found) (is_sought further found)
+    (sym (list_any-append (λ (exact : Exact). is_of exact.name exact.version found.pkg) asked further) ∙ passes)
 
 pub best_sought : (best : List Offer) (found : IndexPackage) → is_sought (best_exacts best) found ≡ true
     → (offer : Offer) × Contains best offer × IsOf offer.name offer.version found.pkg

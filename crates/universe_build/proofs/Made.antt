@@ -5,7 +5,7 @@ use Rattle.std.specs.Option.{option_map, option_or}
 use Rattle.std.proofs.lemmas.Bool.{and_parts, and_from, or_cases, or_left, or_right}
 use Rattle.std.proofs.lemmas.List.Elements.{All-map, Contains-append_cases, Contains-append_left, Contains-append_right}
 use Rattle.std.proofs.lemmas.Option.{same_Some}
-use Rattle.rules.specs.Available.{Index, Inputs, all_listed, counting_package, index_package}
+use Rattle.rules.specs.Available.{Index, Inputs, Request, all_listed, counting_package, index_package}
 use Rattle.rules.specs.Database.{HasDistinctNames, HasRecord, IsHeld, Record, pkg_of, stands}
 use Rattle.rules.specs.ElementLaws.{All-intro, Any-elim, Any-intro, Contains-filter, Contains-filter_intro, Contains-map, Contains-map_intro}
 use Rattle.pins.specs.Prefs.{Preferences}
@@ -20,16 +20,17 @@ use Rattle.rules.specs.declared.goal.Goal.{Goal}
 use Rattle.rules.proofs.Rising.{AllPairs-rising}
 use Rattle.universe.proofs.PairOrder.{of_itself}
 use Rattle.candidates.specs.Candidates.{AreCandidates}
+use Rattle.candidates.specs.Eligible.{AreAllVersions}
 use Rattle.candidates.specs.Inputs.{inputs_of}
 use Rattle.candidates.specs.Offer.{IsFor, Offer}
 use Rattle.candidates.specs.Recorded.{IsByName, is_held, stands_as}
 use Rattle.candidates.specs.Stanza.{IsOrdered, stanza_of}
 use Rattle.candidates.proofs.Named.{StandsAs-from, StandsAs-is, held-from, held-is, known_within, of_record-known, standing-is, standing_record-none, standing_record-one, stands_as-same, stands_in, within_known}
 use Rattle.candidates.proofs.Ordered.{found_ordered, ordered_found}
-use Rattle.universe_build.specs.Choice.{best_exacts, candidate_at, exacts_of, is_sought, listed_pair}
+use Rattle.universe_build.specs.Choice.{Exact, asked_exacts, best_exacts, candidate_at, exacts_of, is_sought, listed_pair, offered_exact}
 use Rattle.universe_build.specs.Chosen.{ArePairs, admitted_among, chosen_pairs, is_free, standing_pair, standing_pairs}
 use Rattle.universe_build.proofs.CandidatesInOrder.{candidates_ascend}
-use Rattle.universe_build.proofs.Asked.{Contains-filter_map, Contains-filter_map_intro, best_sought, is_sought-from, is_sought-names, sought_best}
+use Rattle.universe_build.proofs.Asked.{Contains-filter_map, Contains-filter_map_intro, best_sought, is_sought-from, is_sought-names, sought_best, sought_left, sought_parts, sought_right, sought_version}
 use mathlib.Core.Logic.{inl, inr}
 
 not_from : (b : Bool) → b ≡ false → not b ≡ true
@@ -73,11 +74,18 @@ eligible_priority : (inputs : Inputs) (name version : List ℕ) (priority : ℤ)
 unfolding IsEligible
 eligible_priority inputs name version priority may = may.0
 
-module _ (db : List Record) (indices : List Index) (prefs : Preferences) (goals : List Goal) (known : List Record) (ordered : List IndexPackage)
-    (best : List Offer) (distinct : HasDistinctNames db) (named : IsByName db known) (is : IsOrdered (all_listed indices) ordered)
-    (are : AreCandidates (inputs_of db indices prefs goals) best) where
+module _ (db : List Record) (indices : List Index) (prefs : Preferences) (request : Request) (known : List Record) (ordered : List IndexPackage)
+    (best versions : List Offer) (distinct : HasDistinctNames db) (named : IsByName db known) (is : IsOrdered (all_listed indices) ordered)
+    (are : AreCandidates (inputs_of db indices prefs request) best) (all : AreAllVersions (inputs_of db indices prefs request) versions) where
   abbrev inputs : Inputs
-  inputs = inputs_of db indices prefs goals
+  inputs = inputs_of db indices prefs request
+
+  abbrev goals : List Goal
+  goals = request.goals
+
+  -- what is sought beside the candidates
+  abbrev sought : List Exact
+  sought = asked_exacts goals versions
 
   -- the candidate is among the best
   top_of : (name version : List ℕ) (priority : ℤ) → IsCandidate inputs name version priority
@@ -86,16 +94,16 @@ module _ (db : List Record) (indices : List Index) (prefs : Preferences) (goals 
       (λ offer within of. (offer, within, of)) (are.covered name version priority candidate)
 
   abbrev made : List Pair
-  made = chosen_pairs known ordered best (exacts_of goals)
+  made = chosen_pairs known ordered best sought
 
   abbrev free_ones : List IndexPackage
   free_ones = filter (is_free known) ordered
 
   abbrev is_wanted : IndexPackage → Bool
-  is_wanted found = is_sought (best_exacts best) found || is_sought (exacts_of goals) found
+  is_wanted found = is_sought (best_exacts best) found || is_sought sought found
 
   abbrev kept_ones : List IndexPackage
-  kept_ones = admitted_among best (exacts_of goals) free_ones
+  kept_ones = admitted_among best sought free_ones
 
   -- where a pair comes from: a record that stands
   abbrev IsStanding : Pair → Type 0
@@ -214,8 +222,20 @@ module _ (db : List Record) (indices : List Index) (prefs : Preferences) (goals 
             SameVersion-trans found.pkg.version version top.0.version there.1.1 (SameVersion-symm top.0.version version top.2.1),
           ) in
           made_listed name version found there.0 there.1 stood held
-          (or_left (is_sought (best_exacts best) found) (is_sought (exacts_of goals) found) (sought_best best top.0 top.1 found own))
-  made_offered name version stood held (inr (inr all)) = absurd (let e : false ≡ true = all.0 in cc)
+          (or_left (is_sought (best_exacts best) found) (is_sought sought found) (sought_best best top.0 top.1 found own))
+  made_offered name version stood held (inr (inr every)) = at (index_package indices name version) refl
+      (subst IsSome (counting_listed name version stood)
+      (has_counting inputs name version every.1.0 (eligible_priority inputs name version every.1.0 every.1.1)))
+    where
+      at : (o : Option IndexPackage) → index_package indices name version ≡ o → IsSome (option_map (λ (listed : IndexPackage). listed.pkg) o)
+          → IsMade name version
+      at None from some = absurd (let e : false ≡ true = some in cc)
+      at (Some found) from some =
+          let there = ordered_found (all_listed indices) ordered is name version found from in
+          made_listed name version found there.0 there.1 stood held
+          (or_right (is_sought (best_exacts best) found) (is_sought sought found)
+          (sought_right (exacts_of goals) (map offered_exact versions) found
+          (sought_version versions found name version there.1 (all.covered name version every))))
   made_offered name version stood held (inr (inl asked)) = at (index_package indices name version) refl
       (subst IsSome (counting_listed name version stood) asked.0)
     where
@@ -225,8 +245,8 @@ module _ (db : List Record) (indices : List Index) (prefs : Preferences) (goals 
       at (Some found) from some =
           let there = ordered_found (all_listed indices) ordered is name version found from in
           made_listed name version found there.0 there.1 stood held
-          (or_right (is_sought (best_exacts best) found) (is_sought (exacts_of goals) found)
-          (is_sought-from goals found name version there.1 asked.1))
+          (or_right (is_sought (best_exacts best) found) (is_sought sought found)
+          (sought_left (exacts_of goals) (map offered_exact versions) found (is_sought-from goals found name version there.1 asked.1)))
 
   not_held : (name : List ℕ) → ¬ HasRecord IsHeld name db → is_held db name ≡ false
   not_held name free = at (is_held db name) refl
@@ -254,7 +274,7 @@ module _ (db : List Record) (indices : List Index) (prefs : Preferences) (goals 
       → is_wanted found ≡ true → IsOf name version found.pkg → IsOffered inputs name version
   unfolding IsOffered
   offered_kept name version found within stood wanted of =
-      elim (or_cases (is_sought (best_exacts best) found) (is_sought (exacts_of goals) found) wanted) [
+      elim (or_cases (is_sought (best_exacts best) found) (is_sought sought found) wanted) [
         | inl chosen ↦
             let top = best_sought best found chosen in
             inl (
@@ -264,13 +284,21 @@ module _ (db : List Record) (indices : List Index) (prefs : Preferences) (goals 
                 SameVersion-trans top.0.version found.pkg.version version (SameVersion-symm found.pkg.version top.0.version top.2.1) of.1,
               ),
             )
-        | inr asked ↦ inr (inl (
-          subst IsSome (sym (counting_listed name version
-              (sym (stands_as-same db name found.pkg.version version of.1)
-              ∙ ap (λ (n : List ℕ). stands_as db n found.pkg.version) (sym of.0) ∙ stood)
-              ∙ ap (option_map (λ (listed : IndexPackage). listed.pkg)) (found_ordered (all_listed indices) ordered is found within name version of))) refl,
-          is_sought-names goals found asked name version of,
-        ))
+        | inr further ↦ elim (sought_parts (exacts_of goals) (map offered_exact versions) found further) [
+          | inl asked ↦ inr (inl (
+            subst IsSome (sym (counting_listed name version
+                (sym (stands_as-same db name found.pkg.version version of.1)
+                ∙ ap (λ (n : List ℕ). stands_as db n found.pkg.version) (sym of.0) ∙ stood)
+                ∙ ap (option_map (λ (listed : IndexPackage). listed.pkg)) (found_ordered (all_listed indices) ordered is found within name version of))) refl,
+            is_sought-names goals found asked name version of,
+          ))
+          | inr other ↦
+              let one = best_sought versions found other in
+              inr (inr (all.drawn one.0 one.1 name version (
+                sym one.2.0 ∙ of.0,
+                SameVersion-trans one.0.version found.pkg.version version (SameVersion-symm found.pkg.version one.0.version one.2.1) of.1,
+              )))
+        ]
       ]
 
   admitted_made : (name version : List ℕ) (pair : Pair) → IsStanding pair ⊎ IsKept pair → IsOf name version pair.pkg

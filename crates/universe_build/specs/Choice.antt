@@ -1,5 +1,5 @@
 -- Which versions are sought: those of the candidates, and those that goals ask for (this project's own, after apt-get(8)).
-use Rattle.std.specs.Prelude.{ℕ, Bool, false, true, List, map, Option, Some, None, if◌then◌else◌}
+use Rattle.std.specs.Prelude.{ℕ, Bool, false, true, List, map, ◌++◌, Option, Some, None, if◌then◌else◌}
 use Rattle.std.specs.List.{list_any, filter_map}
 use Rattle.std.specs.List.Sorted.{IsPermutation, IsSorted}
 use Rattle.std.specs.Ordering.{on, then_cmp}
@@ -76,6 +76,10 @@ offered_exact offer = record { name = offer.name; version = offer.version }
 -- the versions of the best offers
 abbrev pub best_exacts : List Offer → List Exact
 best_exacts best = map offered_exact best
+
+-- what the goals ask for with `=`, and further versions
+abbrev pub asked_exacts : List Goal → List Offer → List Exact
+asked_exacts goals versions = exacts_of goals ++ map offered_exact versions
 
 -- the version of the offer as its name's candidate
 abbrev pub candidate_at : Offer → Candidate

@@ -1,6 +1,6 @@
 // The universe of a request over the records of the start, the indices and the preferences.
 
-ghost use Rattle.std.specs.Prelude.{◌≡◌, ◌<◌, ◌≤◌, IfOk, IfErr, List, length, map};
+ghost use Rattle.std.specs.Prelude.{◌≡◌, ◌<◌, ◌≤◌, Bool, IfOk, IfErr, List, length, map};
 ghost use Rattle.std.specs.List.Sorted.{IsStrictlySortedBy};
 ghost use Rattle.std.specs.Option.{option_copied};
 ghost use Rattle.pins.specs.Prefs.{Preferences};
@@ -116,56 +116,69 @@ fn bounded<'p, 'a>(pairs: Vec<Pair<'p, 'a>>) -> Result<Pairs<'p, 'a>, UniverseEr
     Ok(Pairs::new(pairs))
 }
 
-// The pairs and the candidates of the goals of these lines, where the records, the stanzas and the candidates are those of
-// a start, of indices and of preferences.
+// The pairs and the candidates of the goals of these lines, where the records, the stanzas, the candidates and the versions
+// are those of a start, of indices and of preferences, for all versions or not.
 fn chosen_among<'p, 'a>(
     alloc: Global,
     known: &Known<'_, 'a>,
     ordered: Vec<Found<'p, 'a>>,
     best: &[Offer<'a>],
+    versions: &[Offer<'a>],
     lines: &[GoalLine],
 ) -> Result<(Pairs<'p, 'a>, Candidates<'a>), UniverseError>
     requires ordered { IsStrictlySortedBy listed_cmp ordered.items }
     requires best { IsStrictlySortedBy offer_name_cmp best.now }
-    ensures ok { (start : List RecordValue) (indices : List IndexValue) (prefs : Preferences)
-        → AreOffered start indices prefs known.now ordered.entry.items best.now
-        → IfOk result (λ chosen. IsBuilt start indices prefs lines.now (universe_with start lines.now chosen.0 chosen.1)) }
-    ensures err { (start : List RecordValue) (indices : List IndexValue) (prefs : Preferences)
-        → AreOffered start indices prefs known.now ordered.entry.items best.now
-        → IfErr result (λ e. IsUniverseFault start indices prefs lines.now e) }
+    ensures ok { (start : List RecordValue) (indices : List IndexValue) (prefs : Preferences) (all : Bool)
+        → AreOffered start indices prefs all known.now ordered.entry.items best.now versions.now
+        → IfOk result (λ chosen. IsBuilt start indices prefs lines.now all (universe_with start lines.now chosen.0 chosen.1)) }
+    ensures err { (start : List RecordValue) (indices : List IndexValue) (prefs : Preferences) (all : Bool)
+        → AreOffered start indices prefs all known.now ordered.entry.items best.now versions.now
+        → IfErr result (λ e. IsUniverseFault start indices prefs lines.now all e) }
 {
     if let Some(line) = first_unknown(known, ordered.as_slice(), lines) {
         return Err(UniverseError::UnknownName(line));
     }
-    let pairs = bounded(pairs_of(alloc, known, ordered, best, lines)?)?;
+    let pairs = bounded(pairs_of(alloc, known, ordered, best, versions, lines)?)?;
     let candidates = candidates_of(alloc, best)?;
     Ok((pairs, candidates))
 }
 
-// The pairs and the candidates of the goals of these lines.
+// The pairs and the candidates of the goals of these lines, for all versions or not.
 fn chosen<'p, 'a>(
     alloc: Global,
     start: Vec<Recorded<'_, 'a>>,
     indices: &'p [Index<'a>],
     prefs: &Prefs,
     lines: &[GoalLine],
+    asks_all_versions: bool,
 ) -> Result<(Pairs<'p, 'a>, Candidates<'a>), UniverseError>
     requires { HasDistinctNames start.items }
-    ensures ok { IfOk result (λ chosen. IsBuilt start.entry.items (indices_of indices.now) prefs.now lines.now
+    ensures ok { IfOk result (λ chosen. IsBuilt start.entry.items (indices_of indices.now) prefs.now lines.now asks_all_versions
         (universe_with start.entry.items lines.now chosen.0 chosen.1)) }
-    ensures err { IfErr result (λ e. IsUniverseFault start.entry.items (indices_of indices.now) prefs.now lines.now e) }
+    ensures err { IfErr result (λ e. IsUniverseFault start.entry.items (indices_of indices.now) prefs.now lines.now asks_all_versions e) }
 {
     let Offered {
         known,
         ordered,
         candidates,
-    } = Offered::find(alloc, start, indices, prefs)?;
-    chosen_among(alloc, &known, ordered, candidates.as_slice(), lines)
+        all_versions,
+    } = Offered::find(alloc, start, indices, prefs, asks_all_versions)?;
+    chosen_among(
+        alloc,
+        &known,
+        ordered,
+        candidates.as_slice(),
+        all_versions.as_slice(),
+        lines,
+    )
 }
 
 /// The universe of the goals over the records of the start and the indices, where these preferences hold
 /// (apt_preferences(5)). Of equal versions the one that stands counts, then the stanza of the earlier index, and then the
 /// earlier stanza. The universe lends the stanzas of the indices, and of no stanza the relations are read here.
+///
+/// Where all versions are asked for, each version that may be chosen is admitted for names that aren't held: those with a
+/// priority above 0 that aren't lower than the one that stands with a priority below 1000.
 ///
 /// It refuses the first goal that names a package that no stanza has and that is in no state but not-installed, then more
 /// than 1,000,000 admitted pairs, and growths that are refused. About n log n comparisons of n stanzas and records, for
@@ -176,14 +189,22 @@ pub fn build<'p, 'a>(
     indices: &'p [Index<'a>],
     prefs: &Prefs,
     goals: Vec<GoalLine>,
+    asks_all_versions: bool,
 ) -> Result<Universe<'p, 'a>, UniverseError>
     requires { HasDistinctNames (records_of (map (λ r. r.now) start.now)) }
-    ensures ok { IfOk result (λ u. IsBuilt (records_of (map (λ r. r.now) start.now)) (indices_of indices.now) prefs.now goals.items u) }
-    ensures err { IfErr result (λ e. IsUniverseFault (records_of (map (λ r. r.now) start.now)) (indices_of indices.now) prefs.now goals.items e) }
+    ensures ok { IfOk result (λ u. IsBuilt (records_of (map (λ r. r.now) start.now)) (indices_of indices.now) prefs.now goals.items asks_all_versions u) }
+    ensures err { IfErr result (λ e. IsUniverseFault (records_of (map (λ r. r.now) start.now)) (indices_of indices.now) prefs.now goals.items asks_all_versions e) }
 {
     let recorded = records_in(alloc, start)?;
     let starts = facts_of(alloc, recorded.as_slice())?;
-    let (pairs, candidates) = chosen(alloc, recorded, indices, prefs, goals.as_slice())?;
+    let (pairs, candidates) = chosen(
+        alloc,
+        recorded,
+        indices,
+        prefs,
+        goals.as_slice(),
+        asks_all_versions,
+    )?;
     let goals = goals_of(alloc, goals)?;
     Ok(Universe::new(pairs, goals, starts, candidates))
 }

@@ -7,7 +7,7 @@ ghost use Rattle.std.specs.Option.{option_copied};
 ghost use Rattle.candidates.specs.Offer.{offer_name_cmp};
 ghost use Rattle.candidates.specs.Stanza.{listed_cmp};
 ghost use Rattle.universe_build.specs.Build.{goals_of};
-ghost use Rattle.universe_build.specs.Choice.{best_exacts, exact_cmp, exacts_of, is_sought, listed_pair};
+ghost use Rattle.universe_build.specs.Choice.{asked_exacts, best_exacts, exact_cmp, is_sought, listed_pair};
 ghost use Rattle.universe_build.specs.Chosen.{ArePairs, admitted_among, chosen_pairs, is_free, standing_pair, standing_stanza, standing_pairs};
 
 use crate::best::{is_best, place_from};
@@ -68,17 +68,19 @@ fn wanted_pairs<'p, 'a>(
     Ok(pairs)
 }
 
-// The pairs of the stanzas of the best offers' versions, and of those that the goals ask for with `=`.
+// The pairs of the stanzas of the best offers' versions, of these versions and of those that the goals ask for with `=`.
 fn listed_pairs<'p, 'a>(
     alloc: Global,
     free: &[Found<'p, 'a>],
     best: &[Offer<'a>],
+    versions: &[Offer<'a>],
     lines: &[GoalLine],
 ) -> Result<Vec<Pair<'p, 'a>>, AllocError>
     requires { IsStrictlySortedBy offer_name_cmp best.now }
-    ensures { IfOk result (λ pairs. pairs.items ≡ map listed_pair (admitted_among best.now (exacts_of (goals_of lines.now)) free.now)) }
+    ensures { IfOk result (λ pairs. pairs.items
+        ≡ map listed_pair (admitted_among best.now (asked_exacts (goals_of lines.now) versions.now) free.now)) }
 {
-    let asked = exacts_of(alloc, lines)?;
+    let asked = exacts_of(alloc, lines, versions)?;
     let pairs = wanted_pairs(alloc, best, asked.as_slice(), free)?;
     Ok(pairs)
 }
@@ -144,21 +146,24 @@ fn in_order<'p, 'a>(pairs: Vec<Pair<'p, 'a>>) -> Result<Vec<Pair<'p, 'a>>, Alloc
     Ok(ordered)
 }
 
-/// The pairs of what stands, and of what is chosen or asked for and free, in order. About n log n comparisons of n stanzas.
+/// The pairs of what stands, and of what is chosen, asked for or one of these versions, and free, in order. About n log n
+/// comparisons of n stanzas.
 pub fn pairs_of<'p, 'a>(
     alloc: Global,
     known: &Known<'_, 'a>,
     ordered: Vec<Found<'p, 'a>>,
     best: &[Offer<'a>],
+    versions: &[Offer<'a>],
     lines: &[GoalLine],
 ) -> Result<Vec<Pair<'p, 'a>>, AllocError>
     requires ordered { IsStrictlySortedBy listed_cmp ordered.items }
     requires best { IsStrictlySortedBy offer_name_cmp best.now }
-    ensures { IfOk result (λ pairs. ArePairs (chosen_pairs known.now ordered.entry.items best.now (exacts_of (goals_of lines.now))) pairs.items) }
+    ensures { IfOk result (λ pairs. ArePairs
+        (chosen_pairs known.now ordered.entry.items best.now (asked_exacts (goals_of lines.now) versions.now)) pairs.items) }
 {
     let mut pairs = standing_pairs(alloc, known.as_slice(), ordered.as_slice())?;
     let free = free_of(known, ordered);
-    let mut listed = listed_pairs(alloc, free.as_slice(), best, lines)?;
+    let mut listed = listed_pairs(alloc, free.as_slice(), best, versions, lines)?;
     pairs.append(&mut listed)?;
     in_order(pairs)
 }

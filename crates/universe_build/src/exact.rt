@@ -1,14 +1,14 @@
 // The versions of names that install goals ask for with `=`.
 
-ghost use Rattle.std.specs.Prelude.{◌≡◌, IfOk, refl};
+ghost use Rattle.std.specs.Prelude.{◌≡◌, ◌++◌, IfOk, map, refl};
 ghost use Rattle.std.specs.Cmp.{eq_by_cmp_equiv, partial_equiv_from_equiv, po};
 ghost use Rattle.std.specs.List.{filter_map};
 ghost use Rattle.std.specs.List.Sorted.{IsSorted};
 ghost use Rattle.std.specs.Ordering.{as_partial_cmp, eq_by_cmp};
-ghost use Rattle.universe_build.specs.Choice.{AreExacts, exact_at, exact_by, exact_cmp, exact_of, is_exactly, is_sought};
+ghost use Rattle.universe_build.specs.Choice.{AreExacts, exact_at, exact_by, exact_cmp, exact_of, is_exactly, is_sought, offered_exact};
 ghost use Rattle.universe_build.specs.ChoiceLaws.{exact_cmp_total};
 
-use candidates::Found;
+use candidates::{Found, Offer};
 use debversion::Version;
 use rules::{Goal, GoalLine, Name, Op, Restriction};
 use std::alloc::{AllocError, Global};
@@ -85,11 +85,38 @@ fn asked_by<'g>(alloc: Global, lines: &'g [GoalLine]) -> Result<Vec<Exact<'g>>, 
         .collect(alloc)
 }
 
-/// What the goals ask for with `=`, in order. About n log n comparisons of the n goals that do.
-pub fn exacts_of<'g>(alloc: Global, lines: &'g [GoalLine]) -> Result<Vec<Exact<'g>>, AllocError>
-    ensures { IfOk result (λ exacts. AreExacts (filter_map (λ asked. exact_of asked.goal) lines.now) exacts.items) }
+fn offered_exact<'a>(offer: &Offer<'a>) -> Exact<'a>
+    ensures { result ≡ offered_exact offer.now }
+{
+    Exact {
+        name: offer.name(),
+        version: offer.version().again(),
+    }
+}
+
+// The versions of the offers.
+fn offered_exacts<'a>(alloc: Global, offers: &[Offer<'a>]) -> Result<Vec<Exact<'a>>, AllocError>
+    ensures { IfOk result (λ exacts. exacts.items ≡ map offered_exact offers.now) }
+{
+    offers
+        .iter()
+        .map(|offer| offered_exact(offer))
+        .collect(alloc)
+}
+
+/// What the goals ask for with `=`, and these versions, in order. About n log n comparisons of the n goals that do and the
+/// versions.
+pub fn exacts_of<'g>(
+    alloc: Global,
+    lines: &'g [GoalLine],
+    versions: &[Offer<'g>],
+) -> Result<Vec<Exact<'g>>, AllocError>
+    ensures { IfOk result (λ exacts.
+        AreExacts (filter_map (λ asked. exact_of asked.goal) lines.now ++ map offered_exact versions.now) exacts.items) }
 {
     let mut exacts = asked_by(alloc, lines)?;
+    let mut offered = offered_exacts(alloc, versions)?;
+    exacts.append(&mut offered)?;
     exacts.sort()?;
     Ok(exacts)
 }

@@ -1,8 +1,7 @@
 -- Goals read so far, and those that are read behind them.
 use Rattle.std.proofs.Common.{◌≡◌, ℕ, ◌+◌, true, false, List, [], ◌∷◌, ◌++◌, Result, Ok, Err, refl, sym, ap, subst, ◌∙◌, append_assoc}
 use Rattle.universe_request.specs.Error.{IsRequestFault}
-use Rattle.universe_request.specs.Request.{put_goal, put_goals, read_goal, read_lines}
-use Rattle.universe_request.specs.Words.{is_skipped}
+use Rattle.universe_request.specs.Request.{is_goalless, put_goal, put_goals, read_goal, read_lines}
 use Rattle.universe_request.specs.declared.error.RequestError.{RequestError}
 use Rattle.universe_request.specs.declared.error.RequestError.TheVariants as error
 use Rattle.universe_request.specs.declared.error.RequestFault.{RequestFault}
@@ -20,18 +19,18 @@ line_refused : (e : RequestError) (goals : List GoalLine) (read : Result GoalLin
 line_refused (error.Refused fault) goals read later h = rw h refl
 line_refused error.OutOfMemory goals read later h = tt
 
--- a line that asks for nothing is passed over
-pub line_skipped : (arch : List ℕ) (line number : ℕ) (text : List ℕ) (later : List (List ℕ)) → is_skipped text ≡ true
+-- a line that asks for no goal is passed over
+pub line_skipped : (arch : List ℕ) (line number : ℕ) (text : List ℕ) (later : List (List ℕ)) → is_goalless text ≡ true
     → read_lines arch (line + 1) number later ≡ read_lines arch line number (text ∷ later)
 line_skipped arch line number text later h = rw h refl
 
-line_asks : (arch : List ℕ) (line number : ℕ) (text : List ℕ) (later : List (List ℕ)) → is_skipped text ≡ false
+line_asks : (arch : List ℕ) (line number : ℕ) (text : List ℕ) (later : List (List ℕ)) → is_goalless text ≡ false
     → put_goal (read_goal arch line number text) (read_lines arch (line + 1) (number + 1) later) ≡ read_lines arch line number (text ∷ later)
 line_asks arch line number text later h = rw h refl
 
 -- a goal is read
 pub goal_read : (goals : List GoalLine) (goal : GoalLine) (arch : List ℕ) (line number : ℕ) (text : List ℕ) (later : List (List ℕ))
-    → is_skipped text ≡ false → read_goal arch line number text ≡ Ok goal
+    → is_goalless text ≡ false → read_goal arch line number text ≡ Ok goal
     → put_goals (goals ++ goal ∷ []) (read_lines arch (line + 1) (number + 1) later) ≡ put_goals goals (read_lines arch line number (text ∷ later))
 goal_read goals goal arch line number text later asks read =
     let behind = read_lines arch (line + 1) (number + 1) later in
@@ -40,7 +39,7 @@ goal_read goals goal arch line number text later asks read =
 
 -- a line is refused, and so all is
 pub goals_refused : (e : RequestError) (goals : List GoalLine) (arch : List ℕ) (line number : ℕ) (text : List ℕ) (later : List (List ℕ))
-    → is_skipped text ≡ false → IsRequestFault e (read_goal arch line number text)
+    → is_goalless text ≡ false → IsRequestFault e (read_goal arch line number text)
     → IsRequestFault e (put_goals goals (read_lines arch line number (text ∷ later)))
 goals_refused e goals arch line number text later asks refused =
     subst (IsRequestFault e) (ap (put_goals goals) (line_asks arch line number text later asks))

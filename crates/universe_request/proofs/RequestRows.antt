@@ -2,7 +2,7 @@
 use Rattle.std.proofs.Common.{◌≡◌, ℕ, true, false, Ok, Err, refl}
 use Rattle.std.specs.Prelude.{codes}
 use Rattle.rules.specs.declared.goal.Goal.{Goal}
-use Rattle.universe_request.specs.Request.{counted_goal, on_line}
+use Rattle.universe_request.specs.Request.{counted_goal, is_all_versions, is_goalless, on_line}
 use Rattle.universe_request.specs.Words.{after_word, is_skipped, word_of}
 use Rattle.universe_request.specs.declared.error.RequestFault.TheVariants.{TooLarge}
 
@@ -26,3 +26,19 @@ comment = refl
 
 no_comment : is_skipped (codes " # x") ≡ false
 no_comment = refl
+
+-- all versions are asked for by the word alone, white space round it apart; that line asks for no goal, and each other does
+all_versions : is_all_versions (codes " all-versions  ") ≡ true
+all_versions = refl
+
+more_behind : is_all_versions (codes "all-versions x") ≡ false
+more_behind = refl
+
+begun : is_all_versions (codes "all-version") ≡ false
+begun = refl
+
+no_goal : is_goalless (codes "all-versions") ≡ true
+no_goal = refl
+
+a_goal : is_goalless (codes "upgrade-all") ≡ false
+a_goal = refl

@@ -9,6 +9,7 @@ ghost use Rattle.relation.specs.Value.{restriction_by_ref};
 ghost use Rattle.relation_text.specs.Bytes.{is_comma};
 ghost use Rattle.universe_request.specs.GoalText as Spec;
 ghost use Rattle.universe_request.specs.GoalText.{goal_at, goal_by, goal_of, install_by, install_of, only_name};
+ghost use Rattle.universe_request.specs.Request.{is_all_versions};
 
 use crate::words::{after_white, split_word};
 use relation::{Atom, Op, RelationError, Version, parse_atoms};
@@ -141,4 +142,12 @@ pub fn goal_of(alloc: Global, line: &[u8], arch: &[u8]) -> Result<Option<Goal>, 
 {
     let (action, text) = split_word(after_white(line));
     goal_by(alloc, action, text, arch)
+}
+
+/// Whether the line asks for all versions. Linear in the line.
+pub fn is_all_versions(line: &[u8]) -> bool
+    ensures { result ≡ is_all_versions line.now }
+{
+    let (word, rest) = split_word(after_white(line));
+    same_text(word, b"all-versions") && rest.is_empty()
 }

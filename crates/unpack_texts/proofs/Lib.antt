@@ -1,3 +1,4 @@
+pub mod EndedLemmas
 pub mod FilledLemmas
 pub mod RefusalLemmas
 pub mod TextLemmas

@@ -24,7 +24,7 @@ module _ (arch : List ℕ) (found : ℕ → List ℕ → Found) (files : List (L
   gone_from bytes listed there is gone text of =
       let again : opened found files number ≡ Some of.bytes = subst (λ (n : ℕ). opened found files n ≡ Some of.bytes) is of.there in
       let same : of.bytes ≡ bytes = cc in
-      gone text (subst (λ (b : List ℕ). IsFetched arch (items_in b) listed text) same of.fetched)
+      gone of.fetched.raw (subst (λ (b : List ℕ). IsFetched arch (items_in b) listed of.fetched.raw) same of.fetched.fetched)
 
   -- that one of these stanzas has changed is refused at its index
   changed_one : (bytes : List ℕ) (group : List WantedStanza) → opened found files number ≡ Some bytes → AreOfIndex number group

@@ -1,8 +1,8 @@
 -- The texts that a journal records with the steps of a plan (this project's own).
-use Rattle.std.specs.Prelude.{◌≡◌, ◌⊎◌, ℕ, List, Option, Some, None, MatchOption}
-use Rattle.std.specs.List.{AllZip}
+use Rattle.std.specs.Prelude.{◌≡◌, ◌⊎◌, ◌==◌, ◌++◌, ◌∷◌, [], ℕ, List, Option, Some, None, MatchOption, if◌then◌else◌}
+use Rattle.std.specs.List.{AllZip, ends_with}
 use Rattle.std.specs.Option.{option_and_then}
-use Rattle.fetch.specs.Fetched.{IsFetched, items_in}
+use Rattle.fetch.specs.Fetched.{IsFetched, Items, items_in}
 use Rattle.inputs.specs.Reading.{out_of_memory}
 use Rattle.inputs.specs.Texts.{Found}
 use Rattle.inputs.specs.declared.refusal.Fault.TheVariants as fault
@@ -13,16 +13,27 @@ use Rattle.rules.specs.Universe.{Universe, listed_for}
 use Rattle.rules.specs.declared.step.Step.{Step}
 use Rattle.universe.specs.Universe.{numbered}
 use Rattle.unpack_texts.specs.Wanted.{Unpacks}
+use Rattle.unpack_texts.specs.declared.ending.TheConstants.{NEWLINE}
 
 -- the text that an opening of the index of this number gives, where a source names its file
 abbrev pub opened : (ℕ → List ℕ → Found) → List (List ℕ) → ℕ → Found
 opened found files number = option_and_then (found number) (numbered number files)
 
+-- the text with a newline at its end: one that is missing is added
+abbrev pub ended : List ℕ → List ℕ
+ended text = if ends_with (λ a b. a == b) text (NEWLINE ∷ []) then text else text ++ NEWLINE ∷ []
+
+-- the text is that of the stanza of this package among what is read, with a newline at its end
+pub record IsEnded (arch : List ℕ) (items : Items) (listed : IndexPackage) (text : List ℕ) : Type 0 where
+  pub raw : List ℕ
+  pub fetched : IsFetched arch items listed raw
+  pub is : text ≡ ended raw
+
 -- the text is that of the stanza of this package, in the text that an opening of its index gives
 pub record IsTextOf (arch : List ℕ) (found : ℕ → List ℕ → Found) (files : List (List ℕ)) (listed : IndexPackage) (text : List ℕ) : Type 0 where
   pub bytes : List ℕ
   pub there : opened found files listed.place.index ≡ Some bytes
-  pub fetched : IsFetched arch (items_in bytes) listed text
+  pub fetched : IsEnded arch (items_in bytes) listed text
 
 -- a text is recorded with a step that unpacks a stanza, and is the text of that stanza; with another step none is
 abbrev pub IsTextFor : List ℕ → (ℕ → List ℕ → Found) → List (List ℕ) → Universe → Step → Option (List ℕ) → Type 0

@@ -3,6 +3,7 @@
 //! The call is `fetch_texts`; begin with `specs/Texts.antt`.
 #![tactic(auto)]
 
+mod ending;
 mod filling;
 mod group;
 mod opening;

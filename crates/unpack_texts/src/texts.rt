@@ -89,7 +89,7 @@ fn fetch_all<S: Shelf>(
 }
 
 /// The texts that a journal records with the steps, in their order: of a step that unpacks a stanza the bytes of that stanza,
-/// and of another nothing. Each index that has a wanted stanza is opened a second time, once, in the order of the indices, and
+/// with a newline at the end where it lacks one, and of another nothing. Each index that has a wanted stanza is opened a second time, once, in the order of the indices, and
 /// read up to the last of them; `files` are the files that the sources name, in their order. `E28 Changed` is refused at an
 /// index that has not such a stanza any more, or where no source names it. Linear in the texts up to there, but for the order
 /// of the stanzas, n log n, and a binary search among the pairs for each step.

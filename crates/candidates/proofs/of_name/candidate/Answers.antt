@@ -1,5 +1,5 @@
 -- The candidate of the name among those of all names.
-use Rattle.std.proofs.Common.{List, [], sym, subst}
+use Rattle.std.proofs.Common.{List, sym, subst}
 use Rattle.rules.specs.Database.{Record}
 use Rattle.candidates.specs.Candidates.{IsCandidateOf}
 use Rattle.candidates.specs.Inputs.{indices_of, inputs_of}
@@ -7,9 +7,10 @@ use Rattle.candidates.proofs.Candidates.{IsCandidateOf-find}
 use Rattle.candidates.proofs.of_name.candidate.Goals as goal
 
 pub returns : goal.returns
-returns c = subst (λ (db : List Record). IsCandidateOf (inputs_of db (indices_of c.args.indices.now) c.args.prefs.now []) c.args.name.now c.named.result)
+returns c = λ request.
+    subst (λ (db : List Record). IsCandidateOf (inputs_of db (indices_of c.args.indices.now) c.args.prefs.now request) c.args.name.now c.named.result)
     c.in_ok-recorded.ensures
-    (subst (IsCandidateOf (inputs_of c.in_ok-recorded.recorded.items (indices_of c.args.indices.now) c.args.prefs.now []) c.args.name.now)
+    (subst (IsCandidateOf (inputs_of c.in_ok-recorded.recorded.items (indices_of c.args.indices.now) c.args.prefs.now request) c.args.name.now)
     (sym c.named.ensures)
-    (IsCandidateOf-find (inputs_of c.in_ok-recorded.recorded.items (indices_of c.args.indices.now) c.args.prefs.now [])
-    c.in_ok-offered.offered.candidates.items c.args.name.now (c.in_ok-offered.ensures.candidates [])))
+    (IsCandidateOf-find (inputs_of c.in_ok-recorded.recorded.items (indices_of c.args.indices.now) c.args.prefs.now request)
+    c.in_ok-offered.offered.candidates.items c.args.name.now (c.in_ok-offered.ensures.candidates request)))

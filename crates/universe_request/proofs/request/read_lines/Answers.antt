@@ -4,13 +4,12 @@ use Rattle.std.proofs.lemmas.Grind.{common_steps}
 use Rattle.std.proofs.lemmas.List.{length_push}
 use Rattle.universe_request.specs.Cut.{len_left, lines_left, lines_of}
 use Rattle.universe_request.specs.Error.{IsRequestFault}
-use Rattle.universe_request.specs.Request.{put_goals, read_goal, read_lines}
-use Rattle.universe_request.specs.Words.{is_skipped}
+use Rattle.universe_request.specs.Request.{is_goalless, put_goals, read_goal, read_lines}
 use Rattle.universe_request.proofs.RequestLemmas.{goal_read, goals_refused, line_skipped}
 use Rattle.universe_request.proofs.request.read_lines.Goals as goal
 
-pub loop-left-preserved-then-is_skipped : goal.loop-left-preserved-then-is_skipped
-loop-left-preserved-then-is_skipped c =
+pub loop-left-preserved-then-is_goalless : goal.loop-left-preserved-then-is_goalless
+loop-left-preserved-then-is_goalless c =
     let arch = c.args.arch.now in
     let here = c.cut_line.result.0.now in
     let behind = lines_left c.cut_line.result.1 in
@@ -18,7 +17,7 @@ loop-left-preserved-then-is_skipped c =
     let line = c.loop-left.line in
     let number = length goals + 1 in
     let first : lines_left c.loop-left.left ≡ here ∷ behind = ap lines_left c.in-Some.is ∙ c.cut_line.ensures.lines in
-    let skips : is_skipped here ≡ true = cc in
+    let skips : is_goalless here ≡ true = cc in
     let left : len_left c.loop-left.left ≡ length c.in-Some.rest.now + 1 = ap len_left c.in-Some.is in
     record {
       same = ap (put_goals goals) (line_skipped arch (line + 1) number here behind skips)
@@ -37,7 +36,7 @@ returns-in_err-read_goal-clause-err c =
     let goals = c.loop-left.goals.items in
     let line = c.loop-left.line in
     let first : lines_left c.loop-left.left ≡ here ∷ behind = ap lines_left c.in-Some.is ∙ c.cut_line.ensures.lines in
-    let asks : is_skipped here ≡ false = cc in
+    let asks : is_goalless here ≡ false = cc in
     let count : c.len.result ≡ length goals = omega arith in
     let bad : IsRequestFault e (read_goal arch (line + 1) (length goals + 1) here) =
     subst (λ (n : ℕ). IsRequestFault e (read_goal arch (line + 1) (n + 1) here)) count c.in_err-read_goal.ensures.err in
@@ -57,7 +56,7 @@ loop-left-preserved c =
     let line = c.loop-left.line in
     let number = length goals + 1 in
     let first : lines_left c.loop-left.left ≡ here ∷ behind = ap lines_left c.in-Some.is ∙ c.cut_line.ensures.lines in
-    let asks : is_skipped here ≡ false = cc in
+    let asks : is_goalless here ≡ false = cc in
     let count : c.len.result ≡ length goals = omega arith in
     let read : read_goal arch (line + 1) number here ≡ Ok goal =
     subst (λ (n : ℕ). read_goal arch (line + 1) (n + 1) here ≡ Ok goal) count c.in_ok-read_goal.ensures.ok in

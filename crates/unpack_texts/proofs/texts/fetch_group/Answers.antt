@@ -8,12 +8,12 @@ use Rattle.std.proofs.lemmas.List.Elements.{All-head, All-tail}
 use Rattle.std.proofs.lemmas.List.Sorted.{All-permutation, IsPermutation-sym, length_permutation}
 use Rattle.std.proofs.lemmas.Result.{err_from_is_err_and}
 use Rattle.rules.specs.Step.{IndexPackage}
-use Rattle.fetch.specs.Fetched.{AreFetched, items_in}
+use Rattle.fetch.specs.Fetched.{items_in}
 use Rattle.inputs.specs.Texts.{Found}
 use Rattle.universe.specs.Universe.{numbered}
 use Rattle.unpack_texts.specs.Filled.{IsFilled, filled}
 use Rattle.unpack_texts.specs.Opened.{Belongs, IsOpenedFault}
-use Rattle.unpack_texts.specs.Texts.{opened}
+use Rattle.unpack_texts.specs.Texts.{IsEnded, opened}
 use Rattle.unpack_texts.specs.Wanted.{AreOfIndex, AreWithin, WantedStanza}
 use Rattle.unpack_texts.proofs.FilledLemmas.{filled_from, filled_permuted, length-filled}
 use Rattle.unpack_texts.proofs.RefusalLemmas.{opened_refused, refused_permuted, unnamed}
@@ -31,7 +31,7 @@ opened_none found files number is = ap (option_and_then (found number)) is
 
 -- each text belongs to the stanza in its place
 belong : (arch : List ℕ) (found : ℕ → List ℕ → Found) (files : List (List ℕ)) (number : ℕ) (bytes : List ℕ) (group : List WantedStanza) (texts : List (List ℕ))
-    → opened found files number ≡ Some bytes → AreOfIndex number group → AreFetched arch (items_in bytes) (map (λ one. one.listed) group) texts
+    → opened found files number ≡ Some bytes → AreOfIndex number group → AllZip (IsEnded arch (items_in bytes)) (map (λ one. one.listed) group) texts
     → AllZip (Belongs arch found files) group texts
 belong arch found files number bytes [] [] there of_index fetched = tt
 belong arch found files number bytes [] (text ∷ texts) there of_index fetched = absurd fetched
@@ -108,7 +108,7 @@ returns-clause-filled g c at known =
     let all : AllZip (Belongs c.args.arch.now at.index files) ordered texts = belong c.args.arch.now at.index files c.args.number read.0 ordered texts
     (opened_at at.index files c.args.number c.in-Some.file.now.now named ∙ read.1)
     (All-permutation (λ one. one.listed.place.index ≡ c.args.number) c.args.group.now ordered same c.requires.of_index)
-    (subst (λ (l : List IndexPackage). AreFetched c.args.arch.now (items_in read.0) l texts) shown read.2) in
+    (subst (λ (l : List IndexPackage). AllZip (IsEnded c.args.arch.now (items_in read.0)) l texts) shown read.2) in
     let within : AreWithin (length places) ordered = All-permutation (λ one. one.step < length places) c.args.group.now ordered same c.requires.within in
     filled_permuted (Belongs c.args.arch.now at.index files) ordered c.args.group.now places c.fill.new.texts.items (IsPermutation-sym c.args.group.now ordered same)
     (subst (λ (new : List (Option (List ℕ))). IsFilled (Belongs c.args.arch.now at.index files) ordered places new)

@@ -1,0 +1,4 @@
+pub mod AnswerLemmas
+pub mod DeclareLemmas
+pub mod NumberLemmas
+pub mod WordLemmas

@@ -1,0 +1,6 @@
+pub mod Joined
+pub mod Place
+pub mod Program
+pub mod Number
+pub mod Asked
+pub mod Spelled

@@ -1,0 +1,82 @@
+-- The command line of the program, as `clap` has it: which commands there are, and which words each takes.
+use Rattle.std.specs.Prelude.{◌≡◌, ◌++◌, List, [], ◌∷◌, Some, codes, pos, true, false}
+use Rattle.clap.specs.Simple.{App, Shape, app_of, new_rule, new_shape}
+use Rattle.clap.specs.Walk.{Rule, Text, rule_of}
+use Rattle.clap.specs.declared.builder.arg.Arg.{Arg}
+use Rattle.clap.specs.declared.builder.command.Command.{Command}
+use Rattle.clap.specs.declared.builder.command.Command.TheViews.{out-Command}
+use Rattle.clap.specs.declared.builder.value_parser.ValueParser.TheVariants.{Signed}
+
+-- a word that has to be given, of this name
+abbrev pub word : Text → Rule
+word name = record (new_rule name) { value_names = 1; required = true }
+
+-- an option that has to be given, with a value
+abbrev pub option : Text → Rule
+option name = record (word name) { long = Some name }
+
+-- what may be left out
+abbrev pub optional : Rule → Rule
+optional rule = record rule { required = false }
+
+-- a number of 32 bits
+abbrev pub number : Rule → Rule
+number rule = record rule { parser = Some (Signed (pos 0) (pos 4294967295)) }
+
+-- a command that takes these words
+abbrev pub command : Text → List Rule → Shape
+command name rules = record (new_shape name) { rules = rules }
+
+-- the options that say which packages there are, and what is preferred among them
+abbrev pub options : List Rule
+options = option (codes "arch") ∷ option (codes "status") ∷ option (codes "sources") ∷ optional (option (codes "preferences"))
+    ∷ optional (option (codes "target")) ∷ []
+
+-- debplan compare V REL W
+abbrev pub compare_command : Shape
+compare_command = command (codes "compare") (word (codes "version") ∷ word (codes "relation") ∷ word (codes "other") ∷ [])
+
+-- debplan candidate OPTIONS NAME
+abbrev pub candidate_command : Shape
+candidate_command = command (codes "candidate") (options ++ word (codes "name") ∷ [])
+
+-- debplan solve OPTIONS --request FILE [--limit N]
+abbrev pub solve_command : Shape
+solve_command = command (codes "solve")
+    (options ++ option (codes "request") ∷ number (optional (option (codes "limit"))) ∷ [])
+
+-- debplan check-plan OPTIONS --request FILE PLAN
+abbrev pub check_plan_command : Shape
+check_plan_command = command (codes "check-plan") (options ++ option (codes "request") ∷ word (codes "plan") ∷ [])
+
+-- debplan check-refutation OPTIONS --request FILE REFUTATION
+abbrev pub check_refutation_command : Shape
+check_refutation_command =
+    command (codes "check-refutation") (options ++ option (codes "request") ∷ word (codes "refutation") ∷ [])
+
+-- debplan apply OPTIONS --request FILE --journal FILE --output FILE PLAN
+abbrev pub apply_command : Shape
+apply_command = command (codes "apply") (options ++ option (codes "request") ∷ option (codes "journal") ∷ option (codes "output")
+    ∷ word (codes "plan") ∷ [])
+
+-- the program, which has a version, and of which a command has to be named
+unfoldable pub debplan_app : App
+debplan_app = record {
+  top = record (new_shape (codes "debplan")) {
+    is_leaf = false;
+    has_version = true;
+    has_long_version = true;
+    subcommand_required = true;
+  };
+  subs = compare_command ∷ candidate_command ∷ solve_command ∷ check_plan_command ∷ check_refutation_command ∷ apply_command ∷ [];
+}
+
+-- the argument is read as this one
+pub record Takes (rule : Rule) (argument : Arg) : Type 0 where
+  pub reads : rule_of argument ≡ rule
+  pub global : argument.global ≡ false
+
+-- the command is read as this one
+pub record Declares (shape : Shape) (declared : Command) : Type 0 where
+  pub app : app_of declared ≡ record { top = shape; subs = [] }
+  pub globals : (out-Command declared).has_globals ≡ false

@@ -1,0 +1,105 @@
+-- Which call the words of a command line spell, by what `clap` makes of the words.
+use Rattle.std.specs.Prelude.{◌≡◌, ℕ, List, [], ◌∷◌, Option, Some, None, Result, MatchResult, codes, is_some, option_and_then, option_map, if◌then◌else◌}
+use Rattle.std.specs.Str.{bytes_eq}
+use Rattle.clap.specs.Faults.{fault_of}
+use Rattle.clap.specs.Kinds.{HasKind, Kinds, or_else}
+use Rattle.clap.specs.Simple.{subcommand_of}
+use Rattle.clap.specs.Walk.{Row, first_of, is_empty}
+use Rattle.clap.specs.declared.error.Error.{Error}
+use Rattle.clap.specs.declared.error.kind.ErrorKind.TheVariants.{ValueValidation}
+use Rattle.command_line.specs.Asked.{Asked, Given, asked_by}
+use Rattle.command_line.specs.Asked as ask
+use Rattle.command_line.specs.Joined.{Text}
+use Rattle.command_line.specs.Number.{limit_of}
+use Rattle.command_line.specs.Program.{debplan_app}
+use Rattle.command_line.specs.declared.call.Call.{Call}
+use Rattle.command_line.specs.declared.call.Relation.{Relation}
+use Rattle.command_line.specs.declared.call.Relation.TheVariants as relation
+
+-- the relation that a word of deb-version(7) names, if it does
+abbrev pub relation_of : Text → Option Relation
+relation_of word = if bytes_eq word (codes "lt") then Some relation.Earlier
+    else if bytes_eq word (codes "le") then Some relation.EarlierOrEqual
+    else if bytes_eq word (codes "eq") then Some relation.Equal
+    else if bytes_eq word (codes "ne") then Some relation.NotEqual
+    else if bytes_eq word (codes "ge") then Some relation.LaterOrEqual
+    else if bytes_eq word (codes "gt") then Some relation.Later
+    else None
+
+-- the options, where none that is required is missing
+abbrev pub given_of : Option Text → Option Text → Option Text → Option Text → Option Text → Option Given
+given_of (Some arch) (Some status) (Some sources) preferences target = Some (record {
+  arch = arch;
+  status = status;
+  sources = sources;
+  preferences = preferences;
+  target = target;
+})
+given_of _ _ _ _ _ = None
+
+-- the options among the values of a command
+abbrev pub given_in : List Row → Option Given
+given_in rows = given_of (first_of (codes "arch") rows) (first_of (codes "status") rows) (first_of (codes "sources") rows)
+    (first_of (codes "preferences") rows) (first_of (codes "target") rows)
+
+-- the comparison of these words, where the one between the versions names a relation
+abbrev pub comparison_of : Option Text → Option Text → Option Text → Option Asked
+comparison_of (Some version) (Some word) (Some other) = option_map (λ relation. ask.compare version relation other) (relation_of word)
+comparison_of _ _ _ = None
+
+-- the question for a candidate
+abbrev pub candidate_of : Option Given → Option Text → Option Asked
+candidate_of (Some given) (Some name) = Some (ask.candidate given name)
+candidate_of _ _ = None
+
+-- the request that is to be solved
+abbrev pub solve_of : Option Given → Option Text → Option ℕ → Option Asked
+solve_of (Some given) (Some request) (Some limit) = Some (ask.solve given request limit)
+solve_of _ _ _ = None
+
+-- the text that is to be judged beside a request
+abbrev pub judged_of : (Given → Text → Text → Asked) → Option Given → Option Text → Option Text → Option Asked
+judged_of asks (Some given) (Some request) (Some judged) = Some (asks given request judged)
+judged_of asks _ _ _ = None
+
+-- the plan that is to be carried out
+abbrev pub apply_of : Option Given → Option Text → Option Text → Option Text → Option Text → Option Asked
+apply_of (Some given) (Some request) (Some plan) (Some journal) (Some output) = Some (ask.apply given request plan journal output)
+apply_of _ _ _ _ _ = None
+
+-- what the command of this name asks for by these values, where no word is missing
+abbrev pub asked_in : Text → List Row → Option Asked
+asked_in name rows =
+    if bytes_eq name (codes "compare")
+    then comparison_of (first_of (codes "version") rows) (first_of (codes "relation") rows) (first_of (codes "other") rows)
+    else if bytes_eq name (codes "candidate") then candidate_of (given_in rows) (first_of (codes "name") rows)
+    else if bytes_eq name (codes "solve")
+    then solve_of (given_in rows) (first_of (codes "request") rows) (limit_of (first_of (codes "limit") rows))
+    else if bytes_eq name (codes "check-plan")
+    then judged_of ask.check_plan (given_in rows) (first_of (codes "request") rows) (first_of (codes "plan") rows)
+    else if bytes_eq name (codes "check-refutation")
+    then judged_of ask.check_refutation (given_in rows) (first_of (codes "request") rows) (first_of (codes "refutation") rows)
+    else if bytes_eq name (codes "apply")
+    then apply_of (given_in rows) (first_of (codes "request") rows) (first_of (codes "plan") rows) (first_of (codes "journal") rows)
+    (first_of (codes "output") rows)
+    else None
+
+-- what a command is asked for, with the values that `clap` gives it by the words
+abbrev pub asked_of : Option (Text × List Row) → Option Asked
+asked_of command = option_and_then (λ named. asked_in named.0 named.1) command
+
+-- the call of the words, where `clap` takes them
+unfoldable pub call_in : List Text → Option Asked
+call_in words = asked_of (subcommand_of debplan_app words)
+
+-- the kinds of what may be said of the words: those of the first fault that `clap` finds, or else that they spell no call
+unfoldable pub faults_of : List Text → Kinds
+faults_of words = or_else (fault_of debplan_app words) (if is_some (call_in words) then [] else ValueValidation ∷ [])
+
+-- the call that the words spell, where nothing is to be said of them
+abbrev pub spelled : List Text → Option Asked
+spelled words = if is_empty (faults_of words) then call_in words else None
+
+-- an answer to the words is the call that they spell, or what is to be said of them; memory may be wanting
+abbrev pub IsAnswer : List Text → Result Call Error → Type 0
+IsAnswer words result = MatchResult result (λ call. spelled words ≡ Some (asked_by call)) (HasKind (faults_of words))

@@ -1,0 +1,95 @@
+//! The versions of a name that may be chosen by themselves, counted by hand (apt_preferences(5) for the priorities,
+//! deb-version(7) for the order of versions).
+ghost use Rattle.std.specs.Prelude.{map};
+ghost use Rattle.rules.specs.Database.{HasDistinctNames};
+ghost use Rattle.rules.specs.FileRecord.{records_of};
+
+use crate::universes::{all_hold, indices_of};
+use candidates::{Offer, eligible};
+use pins::Prefs;
+use status_store::FileRecord;
+use std::alloc::Global;
+use std::test::Fail;
+
+/// Whether these are the versions of the name that may be chosen, with their priorities. The words say the indices, the
+/// preferences and the name.
+pub(crate) fn are_eligible(
+    alloc: Global,
+    records: &[&FileRecord<'_>],
+    words: &str,
+    wanted: &str,
+) -> Result<bool, Fail>
+    requires { HasDistinctNames (records_of (map (λ r. r.now) records.now)) }
+{
+    let (indices, rest) = words.split_once(';').unwrap_or((words, ""));
+    let (prefs, name) = rest.split_once(';').unwrap_or((rest, ""));
+    let prefs = Prefs::read(alloc, prefs.as_bytes(), None)?;
+    let indices = indices_of(alloc, indices)?;
+    let offers = eligible(alloc, records, indices.as_slice(), &prefs, name.as_bytes())?;
+    are_offers(alloc, offers.as_slice(), name.as_bytes(), wanted)
+}
+
+fn are_offers(
+    alloc: Global,
+    offers: &[Offer<'_>],
+    name: &[u8],
+    wanted: &str,
+) -> Result<bool, Fail> {
+    let mut words = wanted.split_whitespace();
+    for offer in offers {
+        let word = words.next().unwrap_or("");
+        if offer.name() != name || !is_spelled(alloc, offer, word)? {
+            return Ok(false);
+        }
+    }
+    Ok(words.next().is_none())
+}
+
+fn is_spelled(alloc: Global, offer: &Offer<'_>, word: &str) -> Result<bool, Fail> {
+    let (version, priority) = word.split_once('@').unwrap_or((word, ""));
+    let spelled = offer.priority().to_string(alloc)?;
+    Ok(offer.version().text() == version.as_bytes() && spelled.as_str() == priority)
+}
+
+// Two indices, the preferences and a name, and its versions with their priorities. Those of 0 and less are left out; of
+// equal versions the earlier counts.
+const VERSIONS: &str = "\
+→eligible stable testing;;libx→1@500 2@500
+→eligible testing stable;;libx→1@500 2@500
+→eligible stable testing;;foo→1@500
+→eligible stable testing;;lib→
+→eligible no no;;a→
+→eligible one two;;a→1.0@500 2@500
+→eligible two one;;a→1.0@500 2@500
+→eligible one two-;;a→1.0@500 2@1
+→eligible one-- two-;;a→1.0@100 2@1
+→eligible one equal;;a→1.0@500
+→eligible equal- one;;a→1.00@500
+→eligible one two;Package: a$Pin: version 1.0$Pin-Priority: 1$;a→1.0@1 2@500
+→eligible one two;Package: a$Pin: version 1.0$Pin-Priority: 0$;a→2@500
+→eligible one two;Package: *$Pin: version 2$Pin-Priority: -1$;a→1.0@500
+";
+
+// The same behind the text of a status file. What stands has the priority 100, or that of an index which has it; what is
+// lower needs 1000; a version that doesn't stand keeps nothing out; a hold changes nothing here.
+const BESIDE_A_START: &str = "\
+Package: a$Status: install ok installed$Version: 1.5$Architecture: all→eligible one two;;a→1.5@100 2@500
+Package: a$Status: install ok unpacked$Version: 1.00$Architecture: all→eligible one two;;a→1.00@500 2@500
+Package: a$Status: install ok installed$Version: 3$Architecture: all→eligible one two;;a→3@100
+Package: a$Status: install ok installed$Version: 1.5$Architecture: all→eligible one two;Package: a$Pin: version 1.0$Pin-Priority: 999$;a→1.5@100 2@500
+Package: a$Status: install ok installed$Version: 1.5$Architecture: all→eligible one two;Package: a$Pin: version 1.0$Pin-Priority: 1000$;a→1.0@1000 1.5@100 2@500
+Package: a$Status: install ok installed$Version: 1.5$Architecture: all→eligible one two;Package: a$Pin: version 1.5$Pin-Priority: -1$;a→2@500
+Package: a$Status: hold ok installed$Version: 1.5$Architecture: all→eligible one two;;a→1.5@100 2@500
+Package: a$Status: install ok half-installed$Version: 1.5$Architecture: all→eligible one two;;a→1.0@500 2@500
+Package: a$Status: install ok installed$Version: 1.5$Architecture: all→eligible one two;;b→3@500
+";
+
+#[test]
+fn versions_that_may_be_chosen_ascend_with_their_priorities(rt: HostRuntime) -> Result<(), Fail> {
+    all_hold(rt.alloc(), VERSIONS)
+}
+
+#[test]
+fn what_is_lower_than_what_stands_needs_a_thousand(rt: HostRuntime) -> Result<(), Fail> {
+    all_hold(rt.alloc(), BESIDE_A_START)
+}
