@@ -127,38 +127,51 @@ class Stops:
         """Stops a run at moments by chance, one after the other over one journal, and then has it go on to its end."""
         self.begin()
         began = time.monotonic()
-        self.watched(None)
+        self.see_all_acknowledged(self.watched(), "never stopped:")
         whole = time.monotonic() - began
-        self.see_end("never stopped")
-        stops, kept = 0, []
+        self.see_end("never stopped:")
+        size, stops, kept = self.journal.stat().st_size, 0, []
         while stops < self.options.stops:
             old = self.chance.choice((None, OLD))
             self.begin(old=old)
             stood, created = 0, False
             for _ in range(min(self.chance.choice((1, 1, 2, 3, 5)), self.options.stops - stops)):
                 stops += 1
-                stood, created = self.kill(stops, whole * (1 - stood / len(self.payloads)), stood, created, old)
+                stood, created = self.kill(f"stop {stops}:", self.moment(size), stood, created, old)
                 kept.append(stood)
             self.see_end(f"after stop {stops}:", created)
         self.row(f"{stops} stops by SIGKILL", f"{self.world.size} packages, {len(self.payloads)} steps, a run takes {whole:.1f} s",
                  f"steps that stood after a stop: {min(kept)} to {max(kept)}, median {statistics.median(kept):.0f}")
 
-    def watched(self, seconds):
-        """Runs under strace, is killed after so many seconds, and answers the calls on the journal."""
+    def see_all_acknowledged(self, calls, what):
+        self.need(traces.acknowledged(calls) == (True, len(self.payloads)), what, "not all steps are acknowledged at the end")
+
+    def length(self):
+        return self.journal.stat().st_size if self.journal.exists() else 0
+
+    def moment(self, size):
+        """When to stop: a little after the journal has come to a length by chance, up to this size, or soon after the start."""
+        pause = self.chance.uniform(0, 0.005)
+        if self.chance.randrange(10) == 0:
+            end = time.monotonic() + 20 * pause
+            return lambda: time.monotonic() >= end
+        wanted = self.chance.uniform(self.length(), size)
+        return lambda: self.length() >= wanted and (time.sleep(pause) or True)
+
+    def watched(self, is_over=lambda: False):
+        """Runs under strace, is killed once it is over by what is said here, and answers the calls on the journal."""
         log = self.world.folder / "trace"
         log.unlink(missing_ok=True)
         process = traces.start(self.world.apply_words(), self.world.folder, log)
-        try:
-            process.communicate(timeout=seconds)
-        except subprocess.TimeoutExpired:
-            process.kill()
-            process.communicate()
+        while process.poll() is None and not is_over():
+            time.sleep(0.0005)
+        process.kill()
+        process.communicate()
         return traces.calls_in(traces.whole_log(log), "journal")
 
-    def kill(self, number, seconds, stood, created, old):
-        """A stop within so many seconds: how many steps stand then, and whether the journal was created."""
-        what = f"stop {number}:"
-        now_created, gates = traces.acknowledged(self.watched(self.chance.uniform(0, seconds)))
+    def kill(self, what, is_over, stood, created, old):
+        """A stop: how many steps stand then, and whether the journal was created."""
+        now_created, gates = traces.acknowledged(self.watched(is_over))
         self.see_output(old, what)
         created = created or now_created
         data = self.journal.read_bytes() if self.journal.exists() else b""
@@ -180,13 +193,14 @@ class Stops:
     def crashes(self):
         """Puts what crashes may leave in the journal's place, and has runs go on from there; of some of these runs again."""
         self.begin()
-        calls = self.watched(None)
+        calls = self.watched()
+        self.see_all_acknowledged(calls, "never stopped:")
         first, count = self.after_crashes(b"", calls, "a run from nothing,"), len(calls)
         again = self.chance.sample([it for it in first if it], 12)
         second = 0
         for number, left in enumerate(again):
             self.begin(left)
-            calls = self.watched(None)
+            calls = self.watched()
             if calls and not self.is_refused(left):
                 second += len(self.after_crashes(left, calls, f"a run from what crash {number} left,"))
         self.row(f"{len(first)} files that a crash in a run of {count} calls may leave",
