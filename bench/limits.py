@@ -275,7 +275,9 @@ class Limits:
             _, status, usage = os.wait4(process.pid, 0)
             seconds = time.perf_counter() - start
             clock.cancel()
-            return answer(os.waitstatus_to_exitcode(status), out, err), seconds, usage.ru_maxrss / 1024
+            is_late = os.WIFSIGNALED(status) and seconds >= self.options.most
+            said = f"over {self.options.most:.0f} s" if is_late else answer(os.waitstatus_to_exitcode(status), out, err)
+            return said, seconds, usage.ru_maxrss / 1024
 
     def row(self, case):
         """Runs a case, and prints its row, before it what isn't as wanted."""
