@@ -1,5 +1,13 @@
 -- What is said in answer, from what holds of an answer and of a refusal.
-use Rattle.std.proofs.Common.{ℕ, List, Option, Result, Ok, Err, IfOk, IfErr}
+use Rattle.std.proofs.Common.{◌≢◌, ℕ, List, Option, Result, Ok, Err, IfOk, IfErr}
+use Rattle.apply_engine.specs.Applied.{IfDone, IfJudged, verdict_of}
+use Rattle.apply_engine.specs.Planned.{IsApplyRefusal, IsCarriedOut, IsPlanned}
+use Rattle.apply_engine.specs.declared.applied.Applied.{Applied}
+use Rattle.apply_engine.specs.declared.applied.Applied.TheVariants.{Judged, Done}
+use Rattle.apply_engine.specs.declared.applied.CarriedOut.{CarriedOut}
+use Rattle.apply_engine.specs.declared.refusal.ApplyRefusal.{ApplyRefusal}
+use Rattle.journal.specs.Payload.{Recorded}
+use Rattle.cli.specs.Applied.{IsSaidOfApplied}
 use Rattle.candidates.specs.Offer.{Offer}
 use Rattle.cli.specs.Calls.{IsSaidOfName}
 use Rattle.cli_engine.specs.Answer.{IsAnswer, IsCandidateAnswer, IsFirstRefusal}
@@ -12,6 +20,7 @@ use Rattle.inputs.specs.Texts.{Found, Texts}
 use Rattle.inputs.specs.declared.refusal.Refusal.{Refusal}
 use Rattle.refutecheck.specs.declared.verdict.Verdict.{Verdict as Refuted}
 use Rattle.rules.specs.declared.step.Verdict.{Verdict}
+use Rattle.rules.specs.declared.step.Verdict.TheVariants as verdict
 use Rattle.cli_engine.specs.declared.solve.Answered.{Answered}
 
 -- what holds of a value holds of it in a result
@@ -39,3 +48,23 @@ pub said_of_name : (texts : Texts) (name : List ℕ) (r : Result (Option Offer) 
     → IfOk r (λ found. IsCandidateAnswer texts name found) → IfErr r (λ refused. IsRefusalBefore texts refused) → IsSaidOfName texts name r
 said_of_name texts name (Ok found) answer refused = answer
 said_of_name texts name (Err e) answer refused = refused
+
+-- a plan that was carried out is one of which more is known
+pub done_by : (P Q : List ℕ → List Recorded → Type 0) (arch : List ℕ) → ((start : List ℕ) (records : List Recorded) → P start records → Q start records)
+    → (applied : Applied) → IfDone applied (IsCarriedOut P arch) → IfDone applied (IsCarriedOut Q arch)
+done_by P Q arch then (Judged found) is = tt
+done_by P Q arch then (Done done) is = record {
+  start = is.start;
+  records = is.records;
+  planned = then is.start is.records is.planned;
+  end = is.end;
+  count = is.count;
+}
+
+pub said_of_applied : (texts : Texts) (plan : Found) (r : Result Applied ApplyRefusal)
+    → IfOk r (λ applied. IsAnswer texts plan (verdict_of applied))
+    → IfOk r (λ applied. IfJudged applied (verdict_of applied ≢ verdict.Yes))
+    → IfOk r (λ applied. IfDone applied (IsCarriedOut (IsPlanned texts plan) texts.arch))
+    → IfErr r (IsApplyRefusal texts plan) → IsSaidOfApplied texts plan r
+said_of_applied texts plan (Ok applied) answer judged done refused = (answer, judged, done)
+said_of_applied texts plan (Err e) answer judged done refused = refused
