@@ -237,7 +237,8 @@ class Stops:
         shim = self.built()
         for how in ("nothing", "all", "half", "gone", "short", "interrupted"):
             met = [self.fail_each(shim, how, journal, old, name) for name, journal in begins.items() for old in (None, OLD)]
-            self.row(f"{sum(met)} failing calls: {how}", f"{self.world.size} packages, {len(self.payloads)} steps", f"{len(met)} beginnings")
+            world = f"{self.world.size} packages, {len(self.payloads)} steps"
+            self.row(f"{sum(met)} failing calls: {how}", world, f"{len(met)} beginnings")
 
     def half_of(self, data):
         """A journal with half of the steps."""

@@ -7,17 +7,19 @@ NAME, LINE, INDEX = rb"[A-Za-z0-9][A-Za-z0-9+.-]*", rb"[1-9][0-9]*", rb"index [1
 VERSION, PAIR, LITERAL = rb"[A-Za-z0-9.+:~-]+", rb"[1-9][0-9]*", rb"-?[1-9][0-9]*"
 KIND = rb"(?:Empty|BadEpoch|EpochTooLarge|EmptyUpstream|EmptyRevision|BadByte)"
 STEP = rb"(?:unpack %s %s|(?:deconfigure|remove|purge) %s|configure %s(?: %s)*)\n" % (NAME, VERSION, NAME, NAME, NAME)
-PREMISE = rb"(?:(?:same|predepends|depends|conflicts|breaks) %s %s|goal %s(?: %s)?|hold %s|(?:essential|keep) %s)" % ((PAIR,) * 5 + (NAME,))
+OF_TWO = rb"(?:same|predepends|depends|conflicts|breaks) %s %s" % (PAIR, PAIR)
+PREMISE = rb"(?:%s|goal %s(?: %s)?|hold %s|(?:essential|keep) %s)" % (OF_TWO, PAIR, PAIR, PAIR, NAME)
 DERIVED = rb"derive(?: %s)* :(?: %s)+" % (LITERAL, PAIR)
 RULE = b"F(?:1 PreDepends|2 Conflict|3 Breaks|4 Depends|5 Group|6 NeededBy|7 Essential|8 Held|9 WrongState|10 NotAdmitted)"
-VERDICT = rb"no (?:start F0 StartConflict|step %s %s|end F11 (?:(?:Unfinished|Relation|Essential) %s|Goal %s))\n" % (LINE, RULE, NAME, LINE)
+REASON = rb"(?:(?:Unfinished|Relation|Essential) %s|Goal %s)" % (NAME, LINE)
+VERDICT = rb"no (?:start F0 StartConflict|step %s %s|end F11 %s)\n" % (LINE, RULE, REASON)
 # Of each command what it prints with each exit status. `undecided unchecked` is a bug of the program.
 ANSWERS = {
     "compare": {0: rb"yes\n", 1: rb"no\n"},
     "candidate": {0: rb"%s %s -?[0-9]+\n" % (NAME, VERSION), 1: rb"[^\n]* none\n"},
     "check-plan": {0: rb"yes\n", 1: VERDICT},
     "check-refutation": {0: rb"yes\n", 1: rb"no line %s\n" % LINE},
-    "solve": {0: rb"plan 1\n(?:%s)*" % STEP, 1: rb"refutation 1\n(?:(?:%s|%s)\n)+" % (PREMISE, DERIVED),
+    "solve": {0: rb"(?:plan 1\n(?:%s)*|plan 2\n(?:%s)*end [0-9]+\n)" % (STEP, STEP), 1: rb"refutation 1\n(?:(?:%s|%s)\n)+" % (PREMISE, DERIVED),
               2: rb"undecided (?:limit [0-9]+|blocked start|blocked stuck)\n"},
     "apply": {0: rb"applied [0-9]+\n", 1: VERDICT},
 }

@@ -157,9 +157,9 @@ def request_of(chance, goals, names, standing):
     """A request that asks for these packages, and perhaps for changes of others."""
     lines = [b"install " + name for name in goals]
     for _ in range(chance.choice((0, 0, 1, 3))):
-        action, name = chance.choice((b"install", b"remove", b"purge", b"upgrade")), chance.choice(chance.choice((names, standing or names)))
-        lines.append(action + b" " + name)
-    lines += [line for line in (b"upgrade-all", b"no-remove") if chance.randrange(6) == 0]
+        name = chance.choice(chance.choice((names, standing or names)))
+        lines.append(chance.choice((b"install", b"remove", b"purge", b"upgrade")) + b" " + name)
+    lines += [line for line in (b"upgrade-all", b"no-remove", b"all-versions") if chance.randrange(6) == 0]
     return b"".join(line + b"\n" for line in lines)
 
 

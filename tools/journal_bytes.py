@@ -106,11 +106,17 @@ def stanzas_by_pair(indices, arch):
     return found
 
 
+def steps_in(plan):
+    """The lines of a plan's steps; in version 2 a line with their number stands behind them."""
+    lines = plan.split(b"\n")[1:-1]
+    return lines[:-1] if plan.startswith(b"plan 2\n") else lines
+
+
 def payloads_of(plan, indices, arch=b"amd64"):
     """The payloads of a plan's steps, where each version is spelled as in the indices: the line of the step, and behind that of
     an unpacking its stanza."""
     stanzas, payloads = stanzas_by_pair(indices, arch), []
-    for line in plan.split(b"\n")[1:-1]:
+    for line in steps_in(plan):
         action, *words = line.split(b" ")
         payloads.append(line + b"\n" + (stanzas.get(tuple(words), b"") if action == b"unpack" else b""))
     return payloads

@@ -4,7 +4,7 @@ that they are given and from nothing else."""
 import re
 
 BYTES = b"\0\t\n\v\r !\"#'()*+,-./0129:;<=>@AZ[\\]^_`az{|}~\x7f\x80\xc3\xff"
-NUMBERS = ["0", "00", "1", "-1", "+1", "007", "65535", "65536", "1000", "1001", "32767", "32768", "-32768", "-32769", "100000", "100001",
+NUMBERS = ["0", "00", "1", "-1", "+1", "007", "65535", "65536", "1000", "1001", "32767", "32768", "-32768", "-32769", "100000",
            *(str((1 << power) + more) for power in (31, 32, 63, 64) for more in (-1, 0, 1)), "9" * 40, "0" * 400 + "1"]
 FIELDS = ["Package", "Version", "Architecture", "Status", "Config-Version", "Pre-Depends", "Depends", "Conflicts", "Breaks", "Provides",
           "Essential", "Protected", "Conffiles", "Explanation", "Pin", "Pin-Priority", "File", "Suite", "Archive", "Codename", "Component",
@@ -16,8 +16,9 @@ VALUES = ["", "yes", "no", "all", "amd64", "i386", "*", "x", "install ok install
           ":1", "1:", "~", "1_0", "a | b", "a (>= 1) , b", "a:any", "a:native (<< 2)", "a:i386", "a (", "a (=1)", "a (> 1)", "a ( = 1 ) |",
           ", ,", "v (= 1), v", "release a=stable", "release a=x, n=y", "release l=", "version 1*", "version *", "origin \"\"",
           "origin h", "1001", "-1", "32768", "/dev/null", "index1", ".", "/", "nowhere", "\xe9"]
-WORDS = ["install", "remove", "purge", "upgrade", "upgrade-all", "no-remove", "unpack", "configure", "deconfigure", "plan 1", "plan 2",
-         "refutation 1", "same", "predepends", "depends", "conflicts", "breaks", "goal", "hold", "essential", "keep", "derive :", "-1", ":"]
+WORDS = ["install", "remove", "purge", "upgrade", "upgrade-all", "no-remove", "all-versions", "unpack", "configure", "deconfigure",
+         "plan 1", "plan 2", "end 1", "refutation 1", "same", "predepends", "depends", "conflicts", "breaks", "goal", "hold", "essential", "keep",
+         "derive :", "-1", ":"]
 MOST_BYTES = 1 << 20
 
 
