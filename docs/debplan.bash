@@ -10,11 +10,11 @@ _debplan()
         before=${COMP_WORDS[COMP_CWORD-2]}
     fi
     if [ "$COMP_CWORD" -eq 1 ]; then
-        COMPREPLY=($(compgen -W "compare candidate solve check-plan check-refutation help --help --version" -- "$word"))
+        COMPREPLY=($(compgen -W "compare candidate solve check-plan check-refutation apply help --help --version" -- "$word"))
         return
     fi
     case $before in
-        --preferences | --request | --sources | --status)
+        --journal | --output | --preferences | --request | --sources | --status)
             COMPREPLY=($(compgen -f -- "$word"))
             return
             ;;
@@ -40,8 +40,12 @@ _debplan()
             COMPREPLY=($(compgen -W "--arch --status --sources --preferences --target --request --help" -- "$word"))
             COMPREPLY+=($(compgen -f -- "$word"))
             ;;
+        apply)
+            COMPREPLY=($(compgen -W "--arch --status --sources --preferences --target --request --journal --output --help" -- "$word"))
+            COMPREPLY+=($(compgen -f -- "$word"))
+            ;;
         help)
-            COMPREPLY=($(compgen -W "compare candidate solve check-plan check-refutation" -- "$word"))
+            COMPREPLY=($(compgen -W "compare candidate solve check-plan check-refutation apply" -- "$word"))
             ;;
     esac
 }
