@@ -1,2 +1,3 @@
 mod SaidLemmas
 mod ShelfLemmas
+mod WordsLemmas

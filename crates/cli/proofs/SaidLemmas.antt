@@ -4,7 +4,6 @@ use Rattle.apply_engine.specs.Applied.{IfDone, IfJudged, verdict_of}
 use Rattle.apply_engine.specs.Planned.{IsApplyRefusal, IsCarriedOut, IsPlanned}
 use Rattle.apply_engine.specs.declared.applied.Applied.{Applied}
 use Rattle.apply_engine.specs.declared.applied.Applied.TheVariants.{Judged, Done}
-use Rattle.apply_engine.specs.declared.applied.CarriedOut.{CarriedOut}
 use Rattle.apply_engine.specs.declared.refusal.ApplyRefusal.{ApplyRefusal}
 use Rattle.journal.specs.Payload.{Recorded}
 use Rattle.cli.specs.Applied.{IsSaidOfApplied}

@@ -40,10 +40,13 @@ IsOutcomeOfDone steps status output old new found =
     × ((after : Files) × (new ≡ Some after) × HasPut output status old after))
     ⊎ (IsUnwritten found × (new ≡ Some old))
 
--- the outcome is that of what is said of the plan; a file is written only where it was carried out
-abbrev pub IsOutcomeOfApplied : List ℕ → Files → Option Files → Result Applied ApplyRefusal → Outcome → Type 0
-IsOutcomeOfApplied output old new (Ok (Judged verdict)) found =
-    (found ≡ outcome.Answer (verdict_line verdict) (exit_of_verdict verdict)) × (new ≡ Some old)
-IsOutcomeOfApplied output old new (Ok (Done done)) found = IsOutcomeOfDone done.steps done.status.items output old new found
-IsOutcomeOfApplied output old new (Err refused) found =
-    ((line : List ℕ) × (found ≡ outcome.Complaint line (exit_of_apply_refusal refused)) × IsComplaint line) × (new ≡ Some old)
+-- a plan was carried out, and the number of its steps is printed, or that the output couldn't be written
+abbrev pub IsOutcomeOfSteps : ℕ → Outcome → Type 0
+IsOutcomeOfSteps steps found = (found ≡ outcome.Answer (applied_line steps) exit.Success) ⊎ IsUnwritten found
+
+-- the outcome is that of what is said of the plan
+abbrev pub IsOutcomeOfApplied : Result Applied ApplyRefusal → Outcome → Type 0
+IsOutcomeOfApplied (Ok (Judged verdict)) found = found ≡ outcome.Answer (verdict_line verdict) (exit_of_verdict verdict)
+IsOutcomeOfApplied (Ok (Done done)) found = IsOutcomeOfSteps done.steps found
+IsOutcomeOfApplied (Err refused) found =
+    (line : List ℕ) × (found ≡ outcome.Complaint line (exit_of_apply_refusal refused)) × IsComplaint line

@@ -10,7 +10,6 @@ use Rattle.cli.specs.declared.arguments.Arguments.{Arguments}
 use Rattle.cli.specs.declared.arguments.Call.{Call}
 use Rattle.cli.specs.declared.arguments.Call.TheVariants as call
 use Rattle.cli.specs.declared.arguments.CompareArguments.{CompareArguments}
-use Rattle.cli.specs.declared.arguments.Places.{Places}
 use Rattle.cli.specs.declared.outcome.Outcome.{Outcome}
 use Rattle.cli_engine.specs.Answer.{IsCandidateAnswer}
 use Rattle.cli_engine.specs.Comparison.{comparison_refusal, holds}
@@ -67,17 +66,16 @@ abbrev pub IsOutcomeOfVersions : CompareArguments → Outcome → Type 0
 IsOutcomeOfVersions arguments found =
     (said : Result Bool Refusal) × IsSaidOfVersions arguments said × IsOutcomeOfComparison said found
 
--- the outcome is that of what is said of the plan that is to be carried out, and so is what the files are then
-abbrev pub IsOutcomeOfPlanTaken : Files → Option Files → Arguments → Places → Outcome → Type 0
-IsOutcomeOfPlanTaken files after arguments places found = (said : Result Applied ApplyRefusal)
-    × IsSaidOfApplied (texts_at files arguments) (files arguments.paths.judged.now) said
-    × IsOutcomeOfApplied places.output.now files after said found
+-- the outcome is that of what is said of the plan that is to be carried out, by the files
+abbrev pub IsOutcomeOfPlanTaken : Files → Arguments → Outcome → Type 0
+IsOutcomeOfPlanTaken files arguments found = (said : Result Applied ApplyRefusal)
+    × IsSaidOfApplied (texts_at files arguments) (files arguments.paths.judged.now) said × IsOutcomeOfApplied said found
 
--- the outcome is that of what is said in answer to the call, by the files before it and after it
-abbrev pub IsOutcomeOfCall : Files → Option Files → Call → Outcome → Type 0
-IsOutcomeOfCall files after (call.Compare arguments) found = IsOutcomeOfVersions arguments found
-IsOutcomeOfCall files after (call.Candidate arguments name) found = IsOutcomeOfName files arguments name.now found
-IsOutcomeOfCall files after (call.Solve arguments limit) found = IsOutcomeOfRequest files arguments limit found
-IsOutcomeOfCall files after (call.CheckPlan arguments) found = IsOutcomeOfPlan files arguments found
-IsOutcomeOfCall files after (call.CheckRefutation arguments) found = IsOutcomeOfLines files arguments found
-IsOutcomeOfCall files after (call.Apply arguments places) found = IsOutcomeOfPlanTaken files after arguments places found
+-- the outcome is that of what is said in answer to the call
+abbrev pub IsOutcomeOfCall : Files → Call → Outcome → Type 0
+IsOutcomeOfCall files (call.Compare arguments) found = IsOutcomeOfVersions arguments found
+IsOutcomeOfCall files (call.Candidate arguments name) found = IsOutcomeOfName files arguments name.now found
+IsOutcomeOfCall files (call.Solve arguments limit) found = IsOutcomeOfRequest files arguments limit found
+IsOutcomeOfCall files (call.CheckPlan arguments) found = IsOutcomeOfPlan files arguments found
+IsOutcomeOfCall files (call.CheckRefutation arguments) found = IsOutcomeOfLines files arguments found
+IsOutcomeOfCall files (call.Apply arguments places) found = IsOutcomeOfPlanTaken files arguments found

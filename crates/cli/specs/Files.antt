@@ -1,5 +1,5 @@
 -- The files of a host, and what is found of them at the paths of a command line.
-use Rattle.std.specs.Prelude.{◌≡◌, ◌≢◌, ℕ, List, Option, Some, Result, Ok, Err, ⊤}
+use Rattle.std.specs.Prelude.{◌≡◌, ◌≢◌, ℕ, List, Option, Some, Result, Ok, Err}
 use Rattle.std.specs.Option.{option_copied, option_map}
 use Rattle.cli.specs.declared.files.Paths.{Paths}
 use Rattle.inputs.specs.Texts.{Shelved}

@@ -1,5 +1,5 @@
 -- What the program answers to the words of a command line.
-use Rattle.std.specs.Prelude.{◌≡◌, ◌≢◌, ◌⊎◌, ℕ, IsUtf8, List, [], ◌∷◌, Option, Some, codes, map, option_map}
+use Rattle.std.specs.Prelude.{◌≡◌, ◌≢◌, ◌⊎◌, IsUtf8, List, [], ◌∷◌, Option, Some, codes, option_map}
 use Rattle.std.specs.List.{All}
 use Rattle.clap.specs.Kinds.{IsAmong, Kinds}
 use Rattle.clap.specs.declared.error.kind.ErrorKind.{ErrorKind}
@@ -31,14 +31,14 @@ comparison_of relation.LaterOrEqual = comparison.LaterOrEqual
 comparison_of relation.Later = comparison.Later
 
 -- the settings and paths are those of the options, with these paths of a request and of what is judged
-pub record HasGiven (given : Given) (request judged : Text) (arguments : Arguments) : Type 0 where
+pub record HasGiven (given : Given) (asked weighed : Text) (arguments : Arguments) : Type 0 where
   pub arch : arguments.settings.arch.now ≡ given.arch
   pub target : option_map (λ word. word.now) arguments.settings.target ≡ given.target
   pub status : arguments.paths.status.now ≡ given.status
   pub sources : arguments.paths.sources.now ≡ given.sources
   pub preferences : option_map (λ word. word.now) arguments.paths.preferences ≡ given.preferences
-  pub request : arguments.paths.request.now ≡ request
-  pub judged : arguments.paths.judged.now ≡ judged
+  pub request : arguments.paths.request.now ≡ asked
+  pub judged : arguments.paths.judged.now ≡ weighed
 
 -- the call is the one that is asked for, by settings and paths
 abbrev pub IsCallOf : Asked → Call → Type 0
@@ -64,14 +64,14 @@ IsOutcomeOfKind said (outcome.Complaint text ending) =
 abbrev pub IsOutcomeOfUsage : Kinds → Outcome → Type 0
 IsOutcomeOfUsage kinds found = (said : ErrorKind) × IsAmong said kinds × IsOutcomeOfKind said found
 
--- the outcome is that of the call that the words spell, by the files before it and after it, where they are known
-abbrev pub IsOutcomeOfSpelled : Option Files → Option Files → List Text → Outcome → Type 0
-IsOutcomeOfSpelled before after words found = (asked : Asked) × (called : Call) × (spelled (joined words) ≡ Some asked)
-    × IsCallOf asked called × ((at : Files) → before ≡ Some at → IsOutcomeOfCall at after called found)
+-- the outcome is that of the call that the words spell, by the files, where they are known
+abbrev pub IsOutcomeOfSpelled : Option Files → List Text → Outcome → Type 0
+IsOutcomeOfSpelled files words found = (asked : Asked) × (called : Call) × (spelled (joined words) ≡ Some asked)
+    × IsCallOf asked called × ((at : Files) → files ≡ Some at → IsOutcomeOfCall at called found)
 
 -- The outcome is that of the words: of the call that they spell, or usage exactly where they spell none or one of them isn't UTF-8.
-abbrev pub IsOutcomeOfWords : Option Files → Option Files → List Text → Outcome → Type 0
-IsOutcomeOfWords before after words found = (All IsUtf8 words × IsOutcomeOfSpelled before after words found)
+abbrev pub IsOutcomeOfWords : Option Files → List Text → Outcome → Type 0
+IsOutcomeOfWords files words found = (All IsUtf8 words × IsOutcomeOfSpelled files words found)
     ⊎ ((All IsUtf8 words × IsOutcomeOfUsage (faults_of (joined words)) found)
     ⊎ (¬ All IsUtf8 words × IsOutcomeOfUsage (kind.ValueValidation ∷ []) found))
 

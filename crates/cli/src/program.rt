@@ -1,6 +1,6 @@
 // The whole program over a host.
 ghost use Rattle.std.specs.Prelude.{◌≡◌, ◌⊎◌, IfOk, Some, map};
-ghost use Rattle.cli.specs.Applied.{IsOutcomeOfDone, IsSaidOfApplied};
+ghost use Rattle.cli.specs.Applied.{IsOutcomeOfDone, IsOutcomeOfSteps, IsSaidOfApplied};
 ghost use Rattle.cli.specs.Calls.{IsOutcomeOfCall, IsOutcomeOfLines, IsOutcomeOfName, IsOutcomeOfPlan, IsOutcomeOfPlanTaken, IsOutcomeOfRequest, IsOutcomeOfVersions, IsSaidOfVersions, texts_at};
 ghost use Rattle.cli.specs.Files.{Files};
 ghost use Rattle.cli.specs.Outcome.{IsWritten};
@@ -36,7 +36,7 @@ pub fn run<H: Host, W: Write, E: Write>(
     out: &mut W,
     err: &mut E,
 ) -> u8
-    ensures { (found : Found) × (IsOutcomeOfWords (H.files host.old) (H.files host.new) (map (λ word. word.items) words.now) found
+    ensures { (found : Found) × (IsOutcomeOfWords (H.files host.old) (map (λ word. word.items) words.now) found
         ⊎ IsOutcomeOfMemory found) × IsWritten found (W.contents out.old) (W.contents out.new) result }
 {
     match outcome_of_words(alloc, words, host) {
@@ -58,7 +58,7 @@ fn outcome_of_words<H: Host>(
     words: &[Vec<u8>],
     host: &mut H,
 ) -> Result<Outcome, AllocError>
-    ensures { IfOk result (IsOutcomeOfWords (H.files host.old) (H.files host.new) (map (λ word. word.items) words.now)) }
+    ensures { IfOk result (IsOutcomeOfWords (H.files host.old) (map (λ word. word.items) words.now)) }
 {
     let Some(texts) = texts_of(alloc, words)? else {
         return outcome_of_usage(alloc, &mistake(alloc, "an argument isn't UTF-8"));
@@ -76,8 +76,7 @@ fn outcome_of_call<H: Host>(
     call: &Call<'_>,
     host: &mut H,
 ) -> Result<Outcome, AllocError>
-    ensures { (at : Files) → H.files host.old ≡ Some at
-        → IfOk result (λ outcome. IsOutcomeOfCall at (H.files host.new) call.now outcome) }
+    ensures { (at : Files) → H.files host.old ≡ Some at → IfOk result (λ outcome. IsOutcomeOfCall at call.now outcome) }
 {
     match call {
         Call::Compare(arguments) => outcome_of_versions(alloc, arguments),
@@ -156,8 +155,7 @@ fn outcome_of_applied<H: Host>(
     arguments: &Arguments<'_>,
     places: &Places<'_>,
 ) -> Result<Outcome, AllocError>
-    ensures { (at : Files) → H.files host.old ≡ Some at
-        → IfOk result (λ outcome. IsOutcomeOfPlanTaken at (H.files host.new) arguments.now places.now outcome) }
+    ensures { (at : Files) → H.files host.old ≡ Some at → IfOk result (λ outcome. IsOutcomeOfPlanTaken at arguments.now outcome) }
 {
     match answer_of_plan(alloc, host, arguments, places.journal)? {
         Ok(Applied::Judged(verdict)) => outcome_of_answer(alloc, &Ok(verdict)),
@@ -173,9 +171,8 @@ fn answer_of_plan<H: Host>(
     arguments: &Arguments<'_>,
     journal: &str,
 ) -> Result<Result<Applied, ApplyRefusal>, AllocError>
-    ensures said { (at : Files) → H.files host.old ≡ Some at
+    ensures { (at : Files) → H.files host.old ≡ Some at
         → IfOk result (IsSaidOfApplied (texts_at at arguments.now) (at arguments.now.paths.judged.now)) }
-    ensures same { H.files host.new ≡ H.files host.old }
 {
     let mut disk = host.journal(alloc, journal.as_bytes())?;
     let Arguments { settings, paths } = *arguments;
@@ -190,7 +187,8 @@ fn outcome_of_done<H: Host>(
     output: &str,
     done: &CarriedOut,
 ) -> Result<Outcome, AllocError>
-    ensures { (at : Files) → H.files host.old ≡ Some at → IfOk result (λ outcome.
+    ensures printed { IfOk result (IsOutcomeOfSteps done.now.steps) }
+    ensures put { (at : Files) → H.files host.old ≡ Some at → IfOk result (λ outcome.
         IsOutcomeOfDone done.now.steps done.now.status.items output.now at (H.files host.new) outcome) }
 {
     match host.put(alloc, output.as_bytes(), done.status.as_slice()) {

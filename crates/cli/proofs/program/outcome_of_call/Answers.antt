@@ -12,3 +12,6 @@ returns-in-CheckPlan g c at known = rw c.in-CheckPlan.is (c.outcome_of_plan.ensu
 
 pub returns-in-CheckRefutation : goal.returns-in-CheckRefutation
 returns-in-CheckRefutation g c at known = rw c.in-CheckRefutation.is (c.outcome_of_lines.ensures at known)
+
+pub returns-in-Apply : goal.returns-in-Apply
+returns-in-Apply g c at known = rw c.in-Apply.is (c.outcome_of_applied.ensures at known)

@@ -1,0 +1,19 @@
+-- What is printed of words that spell no call.
+use Rattle.std.proofs.Common.{◌≡◌, ◌≢◌, MatchOption, None, Option, Some, inl, inr}
+use Rattle.clap.specs.Kinds.{HasKind, Kinds}
+use Rattle.clap.specs.Values.{kind_of}
+use Rattle.clap.specs.declared.error.Error.{Error}
+use Rattle.clap.specs.declared.error.kind.ErrorKind.TheVariants as kind
+use Rattle.cli.specs.Words.{IsOutcomeOfKind, IsOutcomeOfUsage}
+use Rattle.cli.specs.declared.outcome.Outcome.{Outcome}
+
+-- what is printed of an error that isn't want of memory is what is printed of one of its kinds
+pub usage_by : (kinds : Kinds) (e : Error) (found : Outcome) → HasKind kinds e
+    → (kind_of e ≢ kind.OutOfMemory) × IsOutcomeOfKind (kind_of e) found → IsOutcomeOfUsage kinds found
+usage_by kinds e found (inl memory) is = absurd (is.0 memory)
+usage_by kinds e found (inr among) is = (kind_of e, among, is.1)
+
+-- what holds where there is nothing
+pub holds_of_none : {A : Type 0} (found : Option A) (N : Type 0) (P : A → Type 0) → found ≡ None → MatchOption found N P → N
+holds_of_none None N P is holds = holds
+holds_of_none (Some a) N P is holds = absurd (let e : Some a ≡ None = is in cc)
