@@ -6,9 +6,8 @@ use Rattle.rules.specs.Database.{Record}
 use Rattle.rules.specs.Run.{IsGoodPlan}
 use Rattle.rules.specs.Universe.{Universe}
 use Rattle.rules.specs.declared.step.Step.{Step}
-use Rattle.status_store.specs.Slots.{slot_records}
+use Rattle.status_text.specs.Slot.{FileSlot, slot_records}
 use Rattle.status_store.specs.Text.{slots_text}
-use Rattle.status_text.specs.Slot.{FileSlot}
 use Rattle.journal.specs.Payload.{Recorded}
 use Rattle.apply.specs.Planned.{planned}
 use Rattle.run_plan.specs.Run.{IsEndText}

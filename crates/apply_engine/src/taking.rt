@@ -18,11 +18,12 @@ use cli_engine::{judge, read_steps};
 use disk::Disk;
 use index::KeptIndex;
 use inputs::{
-    Settings, Shelf, lend_indices, read_database, read_indices, read_preferences, read_sources,
-    read_sources_text, read_status, read_universe,
+    Settings, Shelf, lend_indices, read_indices, read_preferences, read_sources, read_sources_text,
+    read_status, read_status_file, read_universe,
 };
 use rules::{Release, Step, Verdict};
 use status_store::Database;
+use status_text::StatusFile;
 use std::alloc::Global;
 use universe::Universe;
 use unpack_texts::fetch_texts;
@@ -44,24 +45,25 @@ fn take<S: Shelf, D: Disk>(
     settings: &Settings<'_>,
     disk: &mut D,
     files: &[&[u8]],
-    database: &Database<'_>,
+    status_file: &StatusFile<'_>,
     universe: &Universe<'_, '_>,
     steps: &[Step],
 ) -> Result<Applied, ApplyRefusal>
     ensures done { IfOk result (λ applied. IfDone applied (IsCarriedOut (AreRecorded settings.now.arch.now (S.found shelf.old)
-        (map (λ file. file.now) files.now) universe.now steps.now database.now.slots) settings.now.arch.now)) }
+        (map (λ file. file.now) files.now) universe.now steps.now status_file.now.slots) settings.now.arch.now)) }
     ensures carried { IfOk result (λ applied. IfJudged applied ⊥) }
     ensures refused { (at : Shelved) → S.found shelf.old ≡ Some at → IfErr result (λ refused. IfText refused
         (IsTextsRefusal settings.now.arch.now at.index (map (λ file. file.now) files.now) universe.now steps.now)) }
     ensures untouched { IfErr result (λ refused. IfText refused (λ _. disk.new ≡ disk.old)) }
     ensures honest { D.honest disk.new ↔ D.honest disk.old }
     ensures left { D.honest disk.old → IsLeftSo (AreRecorded settings.now.arch.now (S.found shelf.old)
-        (map (λ file. file.now) files.now) universe.now steps.now database.now.slots) settings.now.arch.now (D.facts disk.old) (D.facts disk.new) result }
+        (map (λ file. file.now) files.now) universe.now steps.now status_file.now.slots) settings.now.arch.now (D.facts disk.old) (D.facts disk.new) result }
     ensures same { S.found shelf.new ≡ S.found shelf.old }
     ensures counted { CountsTexts result (S.faults shelf.old) (S.faults shelf.new) }
     ensures count { CountsDisk result (D.faults disk.old) (D.faults disk.new) }
 {
     let texts = fetch_texts(alloc, shelf, settings.arch, files, universe, steps)?;
+    let database = Database::of(alloc, status_file)?;
     let start = database.text(alloc)?;
     carry_out(
         alloc,
@@ -73,41 +75,48 @@ fn take<S: Shelf, D: Disk>(
     )
 }
 
-// Judges the plan by the indices that were kept, behind this database, and carries it out where it is good.
+// Judges the plan by the indices that were kept, behind this status file, and carries it out where it is good.
 fn apply_over<'k, 'a: 'k, S: Shelf, D: Disk>(
     alloc: Global,
     shelf: &mut S,
     settings: &Settings<'_>,
     disk: &mut D,
     files: &[&[u8]],
-    database: &Database<'a>,
+    status_file: &StatusFile<'a>,
     kept: &'k [KeptIndex],
     releases: Vec<Release>,
 ) -> Result<Applied, ApplyRefusal>
     requires { length kept.now ≡ length releases.items }
     ensures verdict { (at : Shelved) → S.found shelf.old ≡ Some at
-        → IsReadBefore (texts_of settings.now at) (map (λ file. file.now) files.now) database.now.slots (released releases.items kept.now)
+        → IsReadBefore (texts_of settings.now at) (map (λ file. file.now) files.now) status_file.now.slots (released releases.items kept.now)
         → IfOk result (λ applied. IsAnswer (texts_of settings.now at) at.judged (verdict_of applied)) }
     ensures judged { IfOk result (λ applied. IfJudged applied (verdict_of applied ≢ verdict.Yes)) }
     ensures left_alone { IfOk result (λ applied. IfJudged applied (disk.new ≡ disk.old)) }
     ensures done { IfOk result (λ applied. IfDone applied (IsCarriedOut (IsPlannedBehind settings.now (S.found shelf.old)
-        (map (λ file. file.now) files.now) database.now.slots (released releases.items kept.now)) settings.now.arch.now)) }
+        (map (λ file. file.now) files.now) status_file.now.slots (released releases.items kept.now)) settings.now.arch.now)) }
     ensures refused { (at : Shelved) → S.found shelf.old ≡ Some at
-        → IsReadBefore (texts_of settings.now at) (map (λ file. file.now) files.now) database.now.slots (released releases.items kept.now)
+        → IsReadBefore (texts_of settings.now at) (map (λ file. file.now) files.now) status_file.now.slots (released releases.items kept.now)
         → IfErr result (IsApplyRefusal (texts_of settings.now at) at.judged) }
     ensures untouched { IfErr result (λ refused. IfText refused (λ _. disk.new ≡ disk.old)) }
     ensures honest { D.honest disk.new ↔ D.honest disk.old }
     ensures left { D.honest disk.old → IsLeftSo (IsPlannedBehind settings.now (S.found shelf.old) (map (λ file. file.now) files.now)
-        database.now.slots (released releases.items kept.now)) settings.now.arch.now (D.facts disk.old) (D.facts disk.new) result }
+        status_file.now.slots (released releases.items kept.now)) settings.now.arch.now (D.facts disk.old) (D.facts disk.new) result }
     ensures same { S.found shelf.new ≡ S.found shelf.old }
     ensures counted { CountsTexts result (S.faults shelf.old) (S.faults shelf.new) }
     ensures count { CountsDisk result (D.faults disk.old) (D.faults disk.new) }
 {
     let indices = lend_indices(alloc, kept, releases)?;
     let prefs = read_preferences(alloc, shelf, settings)?;
-    let universe = read_universe(alloc, shelf, settings, database, indices.as_slice(), &prefs)?;
+    let universe = read_universe(
+        alloc,
+        shelf,
+        settings,
+        status_file,
+        indices.as_slice(),
+        &prefs,
+    )?;
     let steps = read_steps(alloc, shelf)?;
-    let verdict = judge(alloc, database, &universe, steps.as_slice())?;
+    let verdict = judge(alloc, status_file, &universe, steps.as_slice())?;
     if !is_yes(&verdict) {
         return Ok(Applied::Judged(verdict));
     }
@@ -117,7 +126,7 @@ fn apply_over<'k, 'a: 'k, S: Shelf, D: Disk>(
         settings,
         disk,
         files,
-        database,
+        status_file,
         &universe,
         steps.as_slice(),
     )
@@ -158,7 +167,7 @@ pub fn apply_from<S: Shelf, D: Disk>(
     ensures count { CountsDisk result (D.faults disk.old) (D.faults disk.new) }
 {
     let status = read_status(alloc, shelf, settings)?;
-    let database = read_database(alloc, &status)?;
+    let status_file = read_status_file(alloc, &status)?;
     let text = read_sources_text(alloc, shelf)?;
     let sources = read_sources(alloc, text.as_slice())?;
     let files = files_of(alloc, sources.as_slice())?;
@@ -169,7 +178,7 @@ pub fn apply_from<S: Shelf, D: Disk>(
         settings,
         disk,
         files.as_slice(),
-        &database,
+        &status_file,
         kept.as_slice(),
         releases,
     )

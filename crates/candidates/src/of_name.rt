@@ -22,7 +22,7 @@ use crate::rated::eligible_offers;
 use crate::recorded::{Recorded, records_in};
 use index::Index;
 use pins::Prefs;
-use status_record::FileRecord;
+use status_text::StatusRecord;
 use std::alloc::{AllocError, Global};
 
 fn named<'a>(offers: Vec<Offer<'a>>, name: &[u8]) -> Option<Offer<'a>>
@@ -35,7 +35,7 @@ fn named<'a>(offers: Vec<Offer<'a>>, name: &[u8]) -> Option<Offer<'a>>
 /// and these indices (apt_preferences(5)). It costs what `Offered::find` costs. Memory alone can fail.
 pub fn candidate<'a>(
     alloc: Global,
-    start: &[&FileRecord<'a>],
+    start: &[&StatusRecord<'a>],
     indices: &[Index<'a>],
     prefs: &Prefs,
     name: &[u8],
@@ -80,7 +80,7 @@ fn eligible_at<'a>(
 /// `Prefs::priority` costs. Memory alone can fail.
 pub fn eligible<'a>(
     alloc: Global,
-    start: &[&FileRecord<'a>],
+    start: &[&StatusRecord<'a>],
     indices: &[Index<'a>],
     prefs: &Prefs,
     name: &[u8],

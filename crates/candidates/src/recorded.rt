@@ -14,7 +14,7 @@ ghost use Rattle.candidates.specs.RecordedLaws.{record_cmp_total};
 
 use debversion::Version;
 use relation::Pkg;
-use status_record::FileRecord;
+use status_text::StatusRecord;
 use std::alloc::{AllocError, Global};
 use std::cmp::Ordering;
 use std::marker::Model;
@@ -23,7 +23,7 @@ use universe::Start;
 /// A record of the start. Records are ordered by the bytes of their names.
 #[derive(Drop)]
 pub struct Recorded<'p, 'a> {
-    record: &'p FileRecord<'a>,
+    record: &'p StatusRecord<'a>,
 }
 
 impl<'p, 'a> Model for Recorded<'p, 'a> {
@@ -130,7 +130,7 @@ impl<'p, 'a> Recorded<'p, 'a> {
 /// The records, in their order.
 pub fn records_in<'p, 'a>(
     alloc: Global,
-    start: &[&'p FileRecord<'a>],
+    start: &[&'p StatusRecord<'a>],
 ) -> Result<Vec<Recorded<'p, 'a>>, AllocError>
     ensures { IfOk result (λ recorded. recorded.items ≡ records_of (map (λ r. r.now) start.now)) }
 {

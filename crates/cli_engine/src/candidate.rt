@@ -7,33 +7,32 @@ ghost use Rattle.inputs.specs.Before.{IsRefusalBefore};
 ghost use Rattle.inputs.specs.Counting.{CountsRead};
 ghost use Rattle.inputs.specs.Inputs.{shelved};
 ghost use Rattle.inputs.specs.Texts.{Shelved, texts_of};
-ghost use Rattle.status_store.specs.Slots.{slot_records};
+ghost use Rattle.status_text.specs.Slot.{slot_records};
 ghost use Rattle.cli_engine.specs.Answer.{IsCandidateAnswer};
 
 use crate::offered::Candidate;
 use candidates::candidate;
 use index::Index;
 use inputs::{
-    Inputs, MemoryShelf, Refusal, Settings, Shelf, lend_indices, read_database, read_listed,
-    read_preferences, read_status,
+    Inputs, MemoryShelf, Refusal, Settings, Shelf, lend_indices, read_listed, read_preferences,
+    read_status, read_status_file,
 };
 use pins::Prefs;
-use status_store::Database;
+use status_text::StatusFile;
 use std::alloc::{AllocError, Global};
 
-// The candidate of the name over the records of the database.
+// The candidate of the name over the records of the status file.
 fn candidate_over(
     alloc: Global,
-    database: &Database<'_>,
+    status_file: &StatusFile<'_>,
     indices: &[Index<'_>],
     prefs: &Prefs,
     name: &[u8],
 ) -> Result<Option<Candidate>, AllocError>
     ensures { (request : Request) → IfOk result (λ found. IsCandidateOf
-        (inputs_of (slot_records database.now.slots) (indices_of indices.now) prefs.now request) name.now found) }
+        (inputs_of (slot_records status_file.now.slots) (indices_of indices.now) prefs.now request) name.now found) }
 {
-    let _names = database.names();
-    let records = database.records(alloc)?;
+    let records = status_file.records(alloc)?;
     match candidate(alloc, records.as_slice(), indices, prefs, name)? {
         None => Ok(None),
         Some(offer) => Ok(Some(Candidate::copied_from(alloc, &offer)?)),
@@ -58,11 +57,11 @@ pub fn candidate_from<S: Shelf>(
     ensures count { CountsRead result (S.faults shelf.old) (S.faults shelf.new) }
 {
     let status = read_status(alloc, shelf, settings)?;
-    let database = read_database(alloc, &status)?;
+    let status_file = read_status_file(alloc, &status)?;
     let (kept, releases) = read_listed(alloc, shelf, settings)?;
     let indices = lend_indices(alloc, kept.as_slice(), releases)?;
     let prefs = read_preferences(alloc, shelf, settings)?;
-    let found = candidate_over(alloc, &database, indices.as_slice(), &prefs, name)?;
+    let found = candidate_over(alloc, &status_file, indices.as_slice(), &prefs, name)?;
     Ok(found)
 }
 

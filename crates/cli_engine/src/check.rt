@@ -6,53 +6,53 @@ ghost use Rattle.inputs.specs.Indices.{released};
 ghost use Rattle.inputs.specs.Inputs.{shelved};
 ghost use Rattle.inputs.specs.Texts.{Shelved, texts_of};
 ghost use Rattle.rules.specs.Verdict.{IsBuiltOn, IsVerdict};
-ghost use Rattle.status_store.specs.Slots.{slot_records};
+ghost use Rattle.status_text.specs.Slot.{slot_records};
 ghost use Rattle.cli_engine.specs.Answer.{IsAnswer, IsFirstRefusal};
 
 use crate::plan::read_steps;
 use index::KeptIndex;
 use inputs::{
-    Inputs, MemoryShelf, Refusal, Settings, Shelf, lend_indices, read_database, read_listed,
-    read_preferences, read_status, read_universe,
+    Inputs, MemoryShelf, Refusal, Settings, Shelf, lend_indices, read_listed, read_preferences,
+    read_status, read_status_file, read_universe,
 };
 use plancheck::check_plan;
 use rules::{Release, Step, Verdict};
-use status_store::Database;
+use status_text::StatusFile;
 use status_view::{parse_packages, view};
 use std::alloc::{AllocError, Global};
 use universe::Universe;
 
-/// Judges the steps from this database on.
+/// Judges the steps from this status file on.
 pub fn judge<'a>(
     alloc: Global,
-    database: &Database<'a>,
+    status_file: &StatusFile<'a>,
     universe: &Universe<'_, 'a>,
     steps: &[Step],
 ) -> Result<Verdict, AllocError>
-    requires { IsBuiltOn (slot_records database.now.slots) universe.now }
-    ensures { IfOk result (λ verdict. IsVerdict universe.now (slot_records database.now.slots) steps.now verdict) }
+    requires { IsBuiltOn (slot_records status_file.now.slots) universe.now }
+    ensures { IfOk result (λ verdict. IsVerdict universe.now (slot_records status_file.now.slots) steps.now verdict) }
 {
-    let records = database.records(alloc)?;
+    let records = status_file.records(alloc)?;
     let packages = parse_packages(alloc, records.as_slice())?;
     let start = view(alloc, records.as_slice(), packages.as_slice())?;
     let answer = check_plan(alloc, &start, universe, steps)?;
     Ok(answer)
 }
 
-// Judges the plan by the indices that were kept, behind this database.
+// Judges the plan by the indices that were kept, behind this status file.
 fn check_over<'k, 'a: 'k, S: Shelf>(
     alloc: Global,
     shelf: &mut S,
     settings: &Settings<'_>,
-    database: &Database<'a>,
+    status_file: &StatusFile<'a>,
     kept: &'k [KeptIndex],
     releases: Vec<Release>,
 ) -> Result<Verdict, Refusal>
     requires { length kept.now ≡ length releases.items }
-    ensures answer { (at : Shelved) → S.found shelf.old ≡ Some at → HasStart (texts_of settings.now at) (slot_records database.now.slots)
+    ensures answer { (at : Shelved) → S.found shelf.old ≡ Some at → HasStart (texts_of settings.now at) (slot_records status_file.now.slots)
         → HasIndices (texts_of settings.now at) (released releases.items kept.now)
         → IfOk result (λ verdict. IsAnswer (texts_of settings.now at) at.judged verdict) }
-    ensures refused { (at : Shelved) → S.found shelf.old ≡ Some at → HasStart (texts_of settings.now at) (slot_records database.now.slots)
+    ensures refused { (at : Shelved) → S.found shelf.old ≡ Some at → HasStart (texts_of settings.now at) (slot_records status_file.now.slots)
         → HasIndices (texts_of settings.now at) (released releases.items kept.now)
         → IfErr result (λ refused. IsFirstRefusal (texts_of settings.now at) at.judged refused) }
     ensures same { S.found shelf.new ≡ S.found shelf.old }
@@ -60,9 +60,16 @@ fn check_over<'k, 'a: 'k, S: Shelf>(
 {
     let indices = lend_indices(alloc, kept, releases)?;
     let prefs = read_preferences(alloc, shelf, settings)?;
-    let universe = read_universe(alloc, shelf, settings, database, indices.as_slice(), &prefs)?;
+    let universe = read_universe(
+        alloc,
+        shelf,
+        settings,
+        status_file,
+        indices.as_slice(),
+        &prefs,
+    )?;
     let steps = read_steps(alloc, shelf)?;
-    let verdict = judge(alloc, database, &universe, steps.as_slice())?;
+    let verdict = judge(alloc, status_file, &universe, steps.as_slice())?;
     Ok(verdict)
 }
 
@@ -84,9 +91,16 @@ pub fn check_plan_from<S: Shelf>(
     ensures count { CountsRead result (S.faults shelf.old) (S.faults shelf.new) }
 {
     let status = read_status(alloc, shelf, settings)?;
-    let database = read_database(alloc, &status)?;
+    let status_file = read_status_file(alloc, &status)?;
     let (kept, releases) = read_listed(alloc, shelf, settings)?;
-    check_over(alloc, shelf, settings, &database, kept.as_slice(), releases)
+    check_over(
+        alloc,
+        shelf,
+        settings,
+        &status_file,
+        kept.as_slice(),
+        releases,
+    )
 }
 
 /// Judges the plan by the texts in memory, as `check_plan_from` judges it.

@@ -11,20 +11,20 @@ ghost use Rattle.inputs.specs.declared.refusal.Fault.TheVariants as fault;
 ghost use Rattle.refutecheck.specs.declared.verdict.Verdict.TheVariants as verdict;
 ghost use Rattle.rules.specs.Database.{Record};
 ghost use Rattle.rules.specs.Universe.{Universe as UniverseOf};
-ghost use Rattle.status_store.specs.Slots.{slot_records};
+ghost use Rattle.status_text.specs.Slot.{slot_records};
 ghost use Rattle.cli_engine.specs.Refuted.{AreRefuted, IsFirstRefutationRefusal, IsRefutationAnswer, refutation_of};
 
 use crate::laws::yes_refutes;
 use index::KeptIndex;
 use inputs::{
-    Fault, Input, Inputs, MemoryShelf, Part, Refusal, Settings, Shelf, lend_indices, read_database,
-    read_listed, read_part, read_preferences, read_status, read_universe, refused_at,
+    Fault, Input, Inputs, MemoryShelf, Part, Refusal, Settings, Shelf, lend_indices, read_listed,
+    read_part, read_preferences, read_status, read_status_file, read_universe, refused_at,
 };
 use refutation::Refutation;
 use refutation_text::{RefutationError, read_refutation};
 use refutecheck::{Verdict, check_refutation};
 use rules::Release;
-use status_store::Database;
+use status_text::StatusFile;
 use std::alloc::Global;
 
 // The lines of the refutation with this text.
@@ -55,20 +55,20 @@ fn read_lines<S: Shelf>(alloc: Global, shelf: &mut S) -> Result<Refutation, Refu
     }
 }
 
-// Judges the refutation by the indices that were kept, behind this database.
+// Judges the refutation by the indices that were kept, behind this status file.
 fn check_over<'k, 'a: 'k, S: Shelf>(
     alloc: Global,
     shelf: &mut S,
     settings: &Settings<'_>,
-    database: &Database<'a>,
+    status_file: &StatusFile<'a>,
     kept: &'k [KeptIndex],
     releases: Vec<Release>,
 ) -> Result<Verdict, Refusal>
     requires { length kept.now ≡ length releases.items }
-    ensures answer { (at : Shelved) → S.found shelf.old ≡ Some at → HasStart (texts_of settings.now at) (slot_records database.now.slots)
+    ensures answer { (at : Shelved) → S.found shelf.old ≡ Some at → HasStart (texts_of settings.now at) (slot_records status_file.now.slots)
         → HasIndices (texts_of settings.now at) (released releases.items kept.now)
         → IfOk result (λ found. IsRefutationAnswer (texts_of settings.now at) at.judged found) }
-    ensures refused { (at : Shelved) → S.found shelf.old ≡ Some at → HasStart (texts_of settings.now at) (slot_records database.now.slots)
+    ensures refused { (at : Shelved) → S.found shelf.old ≡ Some at → HasStart (texts_of settings.now at) (slot_records status_file.now.slots)
         → HasIndices (texts_of settings.now at) (released releases.items kept.now)
         → IfErr result (λ refused. IsFirstRefutationRefusal (texts_of settings.now at) at.judged refused) }
     ensures same { S.found shelf.new ≡ S.found shelf.old }
@@ -76,7 +76,14 @@ fn check_over<'k, 'a: 'k, S: Shelf>(
 {
     let indices = lend_indices(alloc, kept, releases)?;
     let prefs = read_preferences(alloc, shelf, settings)?;
-    let universe = read_universe(alloc, shelf, settings, database, indices.as_slice(), &prefs)?;
+    let universe = read_universe(
+        alloc,
+        shelf,
+        settings,
+        status_file,
+        indices.as_slice(),
+        &prefs,
+    )?;
     let refutation = read_lines(alloc, shelf)?;
     let found = check_refutation(alloc, &universe, &refutation)?;
     Ok(found)
@@ -105,9 +112,16 @@ pub fn check_refutation_from<S: Shelf>(
 {
     yes_refutes();
     let status = read_status(alloc, shelf, settings)?;
-    let database = read_database(alloc, &status)?;
+    let status_file = read_status_file(alloc, &status)?;
     let (kept, releases) = read_listed(alloc, shelf, settings)?;
-    check_over(alloc, shelf, settings, &database, kept.as_slice(), releases)
+    check_over(
+        alloc,
+        shelf,
+        settings,
+        &status_file,
+        kept.as_slice(),
+        releases,
+    )
 }
 
 /// Judges the refutation by the texts in memory, as `check_refutation_from` judges it.

@@ -9,18 +9,18 @@ ghost use Rattle.inputs.specs.Texts.{Shelved, texts_of};
 ghost use Rattle.fixed_order.specs.Names.{HasNames, HasPairNames};
 ghost use Rattle.solver.specs.Solvable.{IsSolvable};
 ghost use Rattle.solver.specs.Solved.{IsSolved};
-ghost use Rattle.status_store.specs.Slots.{slot_records};
+ghost use Rattle.status_text.specs.Slot.{slot_records};
 ghost use Rattle.cli_engine.specs.Solution.{IsSolution};
 
 use fixed_order::{has_names, has_pair_names};
 use index::KeptIndex;
 use inputs::{
-    Inputs, MemoryShelf, Refusal, Requested, Settings, Shelf, lend_indices, read_database,
-    read_listed, read_preferences, read_requested, read_status,
+    Inputs, MemoryShelf, Refusal, Requested, Settings, Shelf, lend_indices, read_listed,
+    read_preferences, read_requested, read_status, read_status_file,
 };
 use rules::Release;
 use solver::{Solved, solve};
-use status_store::Database;
+use status_text::StatusFile;
 use status_view::{parse_packages, view};
 use std::alloc::{AllocError, Global};
 use universe::Universe;
@@ -34,19 +34,19 @@ pub struct Answered {
     pub asks_all_versions: bool,
 }
 
-// Solves the request of the universe from this database on. What is read has package names alone, and of a shelf that doesn't
+// Solves the request of the universe from this status file on. What is read has package names alone, and of a shelf that doesn't
 // say what is found on it no contract says so: names are looked at once more, and one that is none is as want of memory.
 fn solve_over<'a>(
     alloc: Global,
-    database: &Database<'a>,
+    status_file: &StatusFile<'a>,
     universe: &Universe<'_, 'a>,
     limit: u32,
 ) -> Result<Solved, AllocError>
-    requires { HasNames (slot_records database.now.slots) → HasPairNames universe.now
-        → IsSolvable (slot_records database.now.slots) universe.now }
-    ensures { IfOk result (λ solved. IsSolved universe.now (slot_records database.now.slots) limit solved) }
+    requires { HasNames (slot_records status_file.now.slots) → HasPairNames universe.now
+        → IsSolvable (slot_records status_file.now.slots) universe.now }
+    ensures { IfOk result (λ solved. IsSolved universe.now (slot_records status_file.now.slots) limit solved) }
 {
-    let records = database.records(alloc)?;
+    let records = status_file.records(alloc)?;
     let packages = parse_packages(alloc, records.as_slice())?;
     let start = view(alloc, records.as_slice(), packages.as_slice())?;
     if !has_names(&start) || !has_pair_names(universe) {
@@ -56,21 +56,21 @@ fn solve_over<'a>(
     Ok(solved)
 }
 
-// Solves the request by the indices that were kept, behind this database.
+// Solves the request by the indices that were kept, behind this status file.
 fn solve_by<'k, 'a: 'k, S: Shelf>(
     alloc: Global,
     shelf: &mut S,
     settings: &Settings<'_>,
-    database: &Database<'a>,
+    status_file: &StatusFile<'a>,
     kept: &'k [KeptIndex],
     releases: Vec<Release>,
     limit: u32,
 ) -> Result<Answered, Refusal>
     requires { length kept.now ≡ length releases.items }
-    ensures answer { (at : Shelved) → S.found shelf.old ≡ Some at → HasStart (texts_of settings.now at) (slot_records database.now.slots)
+    ensures answer { (at : Shelved) → S.found shelf.old ≡ Some at → HasStart (texts_of settings.now at) (slot_records status_file.now.slots)
         → HasIndices (texts_of settings.now at) (released releases.items kept.now)
         → IfOk result (λ found. IsSolution (texts_of settings.now at) limit found) }
-    ensures refused { (at : Shelved) → S.found shelf.old ≡ Some at → HasStart (texts_of settings.now at) (slot_records database.now.slots)
+    ensures refused { (at : Shelved) → S.found shelf.old ≡ Some at → HasStart (texts_of settings.now at) (slot_records status_file.now.slots)
         → HasIndices (texts_of settings.now at) (released releases.items kept.now)
         → IfErr result (λ refused. IsRefusal (texts_of settings.now at) refused) }
     ensures same { S.found shelf.new ≡ S.found shelf.old }
@@ -81,8 +81,15 @@ fn solve_by<'k, 'a: 'k, S: Shelf>(
     let Requested {
         universe,
         asks_all_versions,
-    } = read_requested(alloc, shelf, settings, database, indices.as_slice(), &prefs)?;
-    let solved = solve_over(alloc, database, &universe, limit)?;
+    } = read_requested(
+        alloc,
+        shelf,
+        settings,
+        status_file,
+        indices.as_slice(),
+        &prefs,
+    )?;
+    let solved = solve_over(alloc, status_file, &universe, limit)?;
     Ok(Answered {
         solved,
         asks_all_versions,
@@ -107,13 +114,13 @@ pub fn solve_from<S: Shelf>(
     ensures count { CountsRead result (S.faults shelf.old) (S.faults shelf.new) }
 {
     let status = read_status(alloc, shelf, settings)?;
-    let database = read_database(alloc, &status)?;
+    let status_file = read_status_file(alloc, &status)?;
     let (kept, releases) = read_listed(alloc, shelf, settings)?;
     solve_by(
         alloc,
         shelf,
         settings,
-        &database,
+        &status_file,
         kept.as_slice(),
         releases,
         limit,

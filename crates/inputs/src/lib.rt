@@ -1,6 +1,6 @@
 //! The texts that a request is answered from, read into values: the status file, the sources, the indices, the preferences
 //! and the request, in this order, each at its turn from a shelf. It judges nothing and solves nothing. The main calls are
-//! `read_database`, `read_indices`, `read_preferences` and `read_universe`; begin with `specs/Texts.antt` and
+//! `read_status_file`, `read_indices`, `read_preferences` and `read_universe`; begin with `specs/Texts.antt` and
 //! `specs/Meaning.antt`.
 #![tactic(auto)]
 
@@ -27,6 +27,6 @@ pub use settings::Settings;
 pub use shelf::{Part, ReadError, Shelf};
 pub use sources::{read_sources, read_sources_text};
 pub use stanza::{ReadFailed, Source};
-pub use status_file::{StatusText, read_database, read_status};
+pub use status_file::{StatusText, read_status, read_status_file};
 pub use status_refusal::{NamedPackage, StatusRefusal};
 pub use texts::{open_index, read_part};

@@ -6,7 +6,7 @@ ghost use Rattle.rules.specs.Database.{HasDistinctNames};
 ghost use Rattle.rules.specs.FileRecord.{records_of};
 ghost use Rattle.rules.specs.Universe.{IsUniverse};
 ghost use Rattle.rules.specs.Verdict.{IsBuiltOn};
-ghost use Rattle.status_store.specs.Slots.{slot_records};
+ghost use Rattle.status_text.specs.Slot.{slot_records};
 ghost use Rattle.universe.specs.Universe.{HaveDistinctNames};
 ghost use Rattle.universe_build.specs.Error.{IsBuilt};
 ghost use Rattle.universe_request.specs.Request as Read;
@@ -25,8 +25,7 @@ use crate::texts::read_part;
 use index::Index;
 use pins::Prefs;
 use rules::universe_is_built;
-use status_record::FileRecord;
-use status_store::Database;
+use status_text::{StatusFile, StatusRecord};
 use std::alloc::Global;
 use universe::Universe;
 use universe_build::{UniverseError, build};
@@ -57,7 +56,7 @@ fn request_in(alloc: Global, text: &[u8], arch: &[u8]) -> Result<Request, Fault>
 // Builds the universe of the request.
 fn built<'p, 'a>(
     alloc: Global,
-    start: &[&FileRecord<'a>],
+    start: &[&StatusRecord<'a>],
     indices: &'p [Index<'a>],
     prefs: &Prefs,
     request: Request,
@@ -88,7 +87,7 @@ fn built<'p, 'a>(
 // The universe that the request with this text is answered from, over these records, whose names are distinct.
 fn universe_in<'p, 'a>(
     alloc: Global,
-    start: &[&FileRecord<'a>],
+    start: &[&StatusRecord<'a>],
     indices: &'p [Index<'a>],
     prefs: &Prefs,
     text: &[u8],
@@ -115,29 +114,28 @@ fn universe_in<'p, 'a>(
 fn universe_over<'p, 'a>(
     alloc: Global,
     settings: &Settings<'_>,
-    database: &Database<'a>,
+    status_file: &StatusFile<'a>,
     indices: &'p [Index<'a>],
     prefs: &Prefs,
     text: &[u8],
 ) -> Result<Requested<'p, 'a>, Refusal>
     ensures ok { (at : Shelved) → at.request ≡ Some text.now
-        → AreRead (texts_of settings.now at) (slot_records database.now.slots) (indices_of indices.now) prefs.now
+        → AreRead (texts_of settings.now at) (slot_records status_file.now.slots) (indices_of indices.now) prefs.now
         → IfOk result (λ found.
-        DenotesAsked (texts_of settings.now at) found.universe (slot_records database.now.slots) found.asks_all_versions) }
-    ensures built { IfOk result (λ found. IsBuiltOn (slot_records database.now.slots) found.universe) }
+        DenotesAsked (texts_of settings.now at) found.universe (slot_records status_file.now.slots) found.asks_all_versions) }
+    ensures built { IfOk result (λ found. IsBuiltOn (slot_records status_file.now.slots) found.universe) }
     ensures universe { IfOk result (λ found. (request : RequestOf)
-        × IsUniverse (inputs_of (slot_records database.now.slots) (indices_of indices.now) prefs.now request) found.universe) }
-    ensures start { IfOk result (λ _. HasDistinctNames (slot_records database.now.slots)) }
+        × IsUniverse (inputs_of (slot_records status_file.now.slots) (indices_of indices.now) prefs.now request) found.universe) }
+    ensures start { IfOk result (λ _. HasDistinctNames (slot_records status_file.now.slots)) }
     ensures few { IfOk result (λ found. length found.universe.pairs < 2 ^ 32) }
     ensures distinct { IfOk result (λ found. HaveDistinctNames found.universe.starts) }
     ensures refused { (at : Shelved) → at.request ≡ Some text.now
-        → AreRead (texts_of settings.now at) (slot_records database.now.slots) (indices_of indices.now) prefs.now
+        → AreRead (texts_of settings.now at) (slot_records status_file.now.slots) (indices_of indices.now) prefs.now
         → IfErr result (λ refused. IsRefusal (texts_of settings.now at) refused) }
     ensures known { IfErr result (λ refused. refused.fault ≢ fault.Read) }
 {
     universe_is_built();
-    let _names = database.names();
-    let records = database.records(alloc)?;
+    let records = status_file.records(alloc)?;
     match universe_in(
         alloc,
         records.as_slice(),
@@ -156,28 +154,35 @@ pub fn read_requested<'p, 'a, S: Shelf>(
     alloc: Global,
     shelf: &mut S,
     settings: &Settings<'_>,
-    database: &Database<'a>,
+    status_file: &StatusFile<'a>,
     indices: &'p [Index<'a>],
     prefs: &Prefs,
 ) -> Result<Requested<'p, 'a>, Refusal>
     ensures ok { (at : Shelved) → S.found shelf.old ≡ Some at
-        → AreRead (texts_of settings.now at) (slot_records database.now.slots) (indices_of indices.now) prefs.now
+        → AreRead (texts_of settings.now at) (slot_records status_file.now.slots) (indices_of indices.now) prefs.now
         → IfOk result (λ found.
-        DenotesAsked (texts_of settings.now at) found.universe (slot_records database.now.slots) found.asks_all_versions) }
-    ensures built { IfOk result (λ found. IsBuiltOn (slot_records database.now.slots) found.universe) }
+        DenotesAsked (texts_of settings.now at) found.universe (slot_records status_file.now.slots) found.asks_all_versions) }
+    ensures built { IfOk result (λ found. IsBuiltOn (slot_records status_file.now.slots) found.universe) }
     ensures universe { IfOk result (λ found. (request : RequestOf)
-        × IsUniverse (inputs_of (slot_records database.now.slots) (indices_of indices.now) prefs.now request) found.universe) }
-    ensures start { IfOk result (λ _. HasDistinctNames (slot_records database.now.slots)) }
+        × IsUniverse (inputs_of (slot_records status_file.now.slots) (indices_of indices.now) prefs.now request) found.universe) }
+    ensures start { IfOk result (λ _. HasDistinctNames (slot_records status_file.now.slots)) }
     ensures few { IfOk result (λ found. length found.universe.pairs < 2 ^ 32) }
     ensures distinct { IfOk result (λ found. HaveDistinctNames found.universe.starts) }
     ensures refused { (at : Shelved) → S.found shelf.old ≡ Some at
-        → AreRead (texts_of settings.now at) (slot_records database.now.slots) (indices_of indices.now) prefs.now
+        → AreRead (texts_of settings.now at) (slot_records status_file.now.slots) (indices_of indices.now) prefs.now
         → IfErr result (λ refused. IsRefusal (texts_of settings.now at) refused) }
     ensures same { S.found shelf.new ≡ S.found shelf.old }
     ensures count { CountsRead result (S.faults shelf.old) (S.faults shelf.new) }
 {
     let text = read_part(alloc, shelf, Part::Request, Input::Request)?;
-    universe_over(alloc, settings, database, indices, prefs, text.as_slice())
+    universe_over(
+        alloc,
+        settings,
+        status_file,
+        indices,
+        prefs,
+        text.as_slice(),
+    )
 }
 
 /// The universe that the request is answered from, over what the texts before it are read as.
@@ -185,27 +190,32 @@ pub fn read_universe<'p, 'a, S: Shelf>(
     alloc: Global,
     shelf: &mut S,
     settings: &Settings<'_>,
-    database: &Database<'a>,
+    status_file: &StatusFile<'a>,
     indices: &'p [Index<'a>],
     prefs: &Prefs,
 ) -> Result<Universe<'p, 'a>, Refusal>
     ensures ok { (at : Shelved) → S.found shelf.old ≡ Some at
-        → AreRead (texts_of settings.now at) (slot_records database.now.slots) (indices_of indices.now) prefs.now
-        → IfOk result (λ u. Denotes (texts_of settings.now at) u (slot_records database.now.slots)) }
-    ensures built { IfOk result (λ u. IsBuiltOn (slot_records database.now.slots) u) }
+        → AreRead (texts_of settings.now at) (slot_records status_file.now.slots) (indices_of indices.now) prefs.now
+        → IfOk result (λ u. Denotes (texts_of settings.now at) u (slot_records status_file.now.slots)) }
+    ensures built { IfOk result (λ u. IsBuiltOn (slot_records status_file.now.slots) u) }
     ensures universe { IfOk result (λ u. (request : RequestOf)
-        × IsUniverse (inputs_of (slot_records database.now.slots) (indices_of indices.now) prefs.now request) u) }
-    ensures start { IfOk result (λ _. HasDistinctNames (slot_records database.now.slots)) }
+        × IsUniverse (inputs_of (slot_records status_file.now.slots) (indices_of indices.now) prefs.now request) u) }
+    ensures start { IfOk result (λ _. HasDistinctNames (slot_records status_file.now.slots)) }
     ensures few { IfOk result (λ u. length u.pairs < 2 ^ 32) }
     ensures distinct { IfOk result (λ u. HaveDistinctNames u.starts) }
     ensures refused { (at : Shelved) → S.found shelf.old ≡ Some at
-        → AreRead (texts_of settings.now at) (slot_records database.now.slots) (indices_of indices.now) prefs.now
+        → AreRead (texts_of settings.now at) (slot_records status_file.now.slots) (indices_of indices.now) prefs.now
         → IfErr result (λ refused. IsRefusal (texts_of settings.now at) refused) }
     ensures same { S.found shelf.new ≡ S.found shelf.old }
     ensures count { CountsRead result (S.faults shelf.old) (S.faults shelf.new) }
 {
     let Requested { universe, .. } = read_requested(
-        alloc, shelf, settings, database, indices, prefs,
+        alloc,
+        shelf,
+        settings,
+        status_file,
+        indices,
+        prefs,
     )?;
     Ok(universe)
 }

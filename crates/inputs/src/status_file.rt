@@ -1,6 +1,6 @@
 //! The status file.
 ghost use Rattle.std.specs.Prelude.{◌≡◌, ◌≢◌, IfErr, IfOk, Ok, Some};
-ghost use Rattle.status_store.specs.Slots.{slot_records};
+ghost use Rattle.status_text.specs.Slot.{slot_records};
 ghost use Rattle.inputs.specs.Before.{HasStart, IsRefusalBefore};
 ghost use Rattle.inputs.specs.StatusText.{IsStatusText};
 ghost use Rattle.inputs.specs.Counting.{CountsRead};
@@ -13,8 +13,7 @@ use crate::settings::Settings;
 use crate::shelf::{Part, Shelf};
 use crate::status_refusal::owned;
 use crate::texts::read_part;
-use status_store::Database;
-use status_text::{StatusError, StatusFault};
+use status_text::{StatusError, StatusFault, StatusFile};
 use std::alloc::{AllocError, Global};
 
 fn fault_of(alloc: Global, refused: &StatusFault<'_>) -> Fault
@@ -26,14 +25,14 @@ fn fault_of(alloc: Global, refused: &StatusFault<'_>) -> Fault
     }
 }
 
-// The database that the status file is, for the configured architecture. Linear in the text.
-fn database_in<'a>(alloc: Global, text: &'a [u8], arch: &'a [u8]) -> Result<Database<'a>, Fault>
-    ensures ok { IfOk result (λ db. status_in arch.now text.now ≡ Ok db.slots) }
+// What the status file is read as, for the configured architecture. Linear in the text.
+fn file_in<'a>(alloc: Global, text: &'a [u8], arch: &'a [u8]) -> Result<StatusFile<'a>, Fault>
+    ensures ok { IfOk result (λ file. status_in arch.now text.now ≡ Ok file.slots) }
     ensures err { IfErr result (λ f. IsFaultOf (status_in arch.now text.now) f) }
     ensures known { IfErr result (λ f. f ≢ fault.Read) }
 {
-    match Database::read(alloc, text, arch) {
-        Ok(database) => Ok(database),
+    match StatusFile::read(alloc, text, arch) {
+        Ok(file) => Ok(file),
         Err(StatusError::Refused(refused)) => Err(fault_of(alloc, &refused)),
         Err(StatusError::OutOfMemory) => Err(Fault::OutOfMemory),
     }
@@ -67,15 +66,18 @@ pub fn read_status<S: Shelf>(
     }
 }
 
-/// The database that the text of the status file is. Linear in the text.
-pub fn read_database<'a>(alloc: Global, status: &'a StatusText) -> Result<Database<'a>, Refusal>
-    ensures ok { (texts : Texts) → IsStatusText texts status.now → IfOk result (λ db. HasStart texts (slot_records db.slots)) }
-    ensures slots { (texts : Texts) → IsStatusText texts status.now → IfOk result (λ db. status_file_of texts ≡ Ok db.slots) }
+/// What the text of the status file is read as. Linear in the text.
+pub fn read_status_file<'a>(
+    alloc: Global,
+    status: &'a StatusText,
+) -> Result<StatusFile<'a>, Refusal>
+    ensures ok { (texts : Texts) → IsStatusText texts status.now → IfOk result (λ file. HasStart texts (slot_records file.slots)) }
+    ensures slots { (texts : Texts) → IsStatusText texts status.now → IfOk result (λ file. status_file_of texts ≡ Ok file.slots) }
     ensures refused { (texts : Texts) → IsStatusText texts status.now → IfErr result (λ refused. IsRefusalBefore texts refused) }
     ensures known { IfErr result (λ refused. refused.fault ≢ fault.Read) }
 {
-    match database_in(alloc, status.text.as_slice(), status.arch.as_slice()) {
-        Ok(database) => Ok(database),
+    match file_in(alloc, status.text.as_slice(), status.arch.as_slice()) {
+        Ok(file) => Ok(file),
         Err(fault) => Err(refused_at(Input::Status, fault)),
     }
 }

@@ -4,8 +4,7 @@ use Rattle.std.specs.Prelude.{◌≡◌, ◌⊎◌, ℕ, ◌<◌, ◌≤◌, Lis
 use Rattle.rules.specs.declared.limits.TheConstants.{TEXT_BYTES}
 use Rattle.status_store.specs.Applicable.{handed_in, refused_name}
 use Rattle.status_store.specs.Left.{slots_after}
-use Rattle.status_store.specs.Slots.{slot_records}
-use Rattle.status_text.specs.Slot.{FileSlot}
+use Rattle.status_text.specs.Slot.{FileSlot, slot_records}
 use Rattle.status_text.specs.Status.{read_status}
 use Rattle.journal.specs.File.{Entry, HeaderFits, framed, front}
 use Rattle.journal.specs.Payload.{Recorded, Says}

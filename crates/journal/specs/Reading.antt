@@ -1,8 +1,7 @@
 -- What one step of reading a journal makes of what was read so far.
 use Rattle.std.specs.Prelude.{◌≡◌, ℕ, ◌+◌, List, ◌∷◌, ◌++◌, length, Option, Some, None, Ok, ⊤}
 use Rattle.rules.specs.declared.limits.TheConstants.{TEXT_BYTES}
-use Rattle.status_store.specs.Slots.{Store}
-use Rattle.status_text.specs.Slot.{FileSlot}
+use Rattle.status_text.specs.Slot.{FileSlot, Store}
 use Rattle.status_text.specs.Status.{read_status}
 use Rattle.journal.specs.File.{Entry, framed}
 use Rattle.journal.specs.Fault.{IsStuck, IsStuckAt}

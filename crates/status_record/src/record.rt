@@ -59,8 +59,8 @@ pub(crate) fn version_again<'a>(version: &Option<Version<'a>>) -> Option<Version
 
 impl<'a> FileRecord<'a> {
     /// The record as it was read: no action has touched its stanza.
-    pub fn read(found: StatusRecord<'a>) -> FileRecord<'a>
-        ensures { result ≡ found.entry }
+    pub fn read(found: &StatusRecord<'a>) -> FileRecord<'a>
+        ensures { result ≡ found.now }
     {
         let (stanza, arch) = found.origin();
         FileRecord {

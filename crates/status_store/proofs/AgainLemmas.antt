@@ -19,10 +19,10 @@ use Rattle.status_spelling.specs.Spelling.{closed, field_text, fields_text, file
 use Rattle.status_store.proofs.NameLemmas.{or-both-false, or-false-left, or-false-right, slots-distinct-from}
 use Rattle.status_store.specs.Faithful.{IsFaithful, IsFaithfulSlot, ReadsAsSlots, as_read, said}
 use Rattle.status_store.specs.Places.{AreDistinct}
-use Rattle.status_store.specs.Slots.{names_of, slot_records}
+use Rattle.status_text.specs.Slot.{FileSlot, names_with, slot_records, stanza_of}
+use Rattle.status_store.specs.Slots.{names_of}
 use Rattle.status_store.specs.Text.{slots_text}
 use Rattle.status_text.specs.Record.{is_seen, read_slot}
-use Rattle.status_text.specs.Slot.{FileSlot, names_with, stanza_of}
 use Rattle.status_text.specs.Status.{slot_then, slots_in, with_slots}
 use Rattle.status_text.specs.declared.error.StatusFault.{StatusFault}
 use Rattle.status_text.specs.declared.error.StatusFault.TheVariants as fault

@@ -6,12 +6,12 @@ use Rattle.rules.specs.Database.{Record}
 use Rattle.rules.specs.FileRecord.{FileRecord, IndexStanza}
 use Rattle.rules.specs.NamedLaws.{bytes_eq-true}
 use Rattle.rules.specs.Step.{is_named}
-use Rattle.status_text.specs.Slot.{FileSlot}
+use Rattle.status_text.specs.Slot.{FileSlot, slot_records}
 use Rattle.status_text.specs.declared.slot.Slot.TheVariants.{Recorded, Foreign}
 use Rattle.rules.specs.Version.{version_cmp}
 use Rattle.status_store.specs.Applicable.{has_record, is_indexed_as}
 use Rattle.status_store.specs.Places.{AreDistinct}
-use Rattle.status_store.specs.Slots.{changed_slots, entry_named, has_name, names_of, slot_records}
+use Rattle.status_store.specs.Slots.{changed_slots, entry_named, has_name, names_of}
 use Rattle.status_store.proofs.NameLemmas.{has_name-names, is_in, or-false-left, or-false-right, unnamed-changed}
 use Rattle.status_store.proofs.TableLemmas.{none-named}
 

@@ -5,11 +5,11 @@ use Rattle.rules.specs.Database.{Record}
 use Rattle.rules.specs.FileRecord.{FileRecord, touched_entry}
 use Rattle.rules.specs.NamedLaws.{bytes_eq-same, bytes_eq-true}
 use Rattle.rules.specs.Step.{configured, is_among, is_named}
-use Rattle.status_text.specs.Slot.{FileSlot}
+use Rattle.status_text.specs.Slot.{FileSlot, slot_records}
 use Rattle.status_text.specs.declared.slot.Slot.TheVariants.{Recorded, Foreign}
 use Rattle.status_store.specs.Applicable.{first_unready, has_record, is_configurable}
 use Rattle.status_store.specs.Places.{AreDistinct}
-use Rattle.status_store.specs.Slots.{changed_slots, names_of, slot_records}
+use Rattle.status_store.specs.Slots.{changed_slots, names_of}
 use Rattle.status_store.proofs.NameLemmas.{is_in}
 use Rattle.status_store.proofs.FoundLemmas.{and-none, or-none, unready}
 

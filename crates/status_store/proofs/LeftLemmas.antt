@@ -7,10 +7,10 @@ use Rattle.rules.specs.FileRecord.{FileRecord, IndexStanza, changed_entries, ent
 use Rattle.rules.specs.Step.{configured, deconfigured, is_among, is_named, removed}
 use Rattle.rules.specs.declared.step.Step.{Step}
 use Rattle.rules.specs.declared.step.Step.TheVariants as step
-use Rattle.status_text.specs.Slot.{FileSlot, entries_of, entry_in}
+use Rattle.status_text.specs.Slot.{FileSlot, entries_of, entry_in, slot_records}
 use Rattle.status_text.specs.declared.slot.Slot.TheVariants.{Recorded, Foreign}
 use Rattle.status_store.specs.Left.{slots_after, slots_after_unpack}
-use Rattle.status_store.specs.Slots.{changed_slots, has_name, is_slot_named, slot_records}
+use Rattle.status_store.specs.Slots.{changed_slots, has_name, is_slot_named}
 
 entries_changed : (test : Record → Bool) (change : FileRecord → FileRecord) (slots : List FileSlot)
     → entries_of (changed_slots test change slots) ≡ changed_entries test change (entries_of slots)

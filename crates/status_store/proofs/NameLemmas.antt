@@ -9,10 +9,10 @@ use Rattle.rules.specs.Database.{Record, HasDistinctNames}
 use Rattle.rules.specs.FileRecord.{FileRecord}
 use Rattle.rules.specs.NamedLaws.{bytes_eq-same, bytes_eq-true}
 use Rattle.rules.specs.Step.{is_named}
-use Rattle.status_text.specs.Slot.{FileSlot}
+use Rattle.status_text.specs.Slot.{FileSlot, slot_records}
 use Rattle.status_text.specs.declared.slot.Slot.TheVariants.{Recorded, Foreign}
 use Rattle.status_store.specs.Places.{AreDistinct}
-use Rattle.status_store.specs.Slots.{IsNew, changed_slots, has_name, is_slot_named, names_of, slot_records}
+use Rattle.status_store.specs.Slots.{IsNew, changed_slots, has_name, is_slot_named, names_of}
 
 pub bytes_eq-flip : (xs ys : List ℕ) → bytes_eq xs ys ≡ bytes_eq ys xs
 bytes_eq-flip xs ys = by (bytes_eq xs ys) (bytes_eq ys xs) refl refl

@@ -27,8 +27,8 @@ use Rattle.status_store.specs.Applicable.{first_unready, handed_in, has_record, 
 use Rattle.status_store.specs.Faithful.{IsFaithful, IsFaithfulSlot}
 use Rattle.status_store.specs.Left.{slots_after, slots_after_unpack}
 use Rattle.status_store.specs.Places.{AreDistinct}
-use Rattle.status_store.specs.Slots.{changed_slots, entry_named, has_name, is_slot_named, names_of, slot_records}
-use Rattle.status_text.specs.Slot.{FileSlot, entries_of}
+use Rattle.status_text.specs.Slot.{FileSlot, entries_of, slot_records}
+use Rattle.status_store.specs.Slots.{changed_slots, entry_named, has_name, is_slot_named, names_of}
 use Rattle.status_text.specs.declared.slot.Slot.TheVariants.{Recorded, Foreign}
 
 -- an entry that can be written and reads back

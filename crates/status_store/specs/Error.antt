@@ -3,10 +3,10 @@ use Rattle.std.specs.Prelude.{◌≡◌, false, List, Option, None, Some, Result
 use Rattle.rules.specs.FileRecord.{IndexStanza}
 use Rattle.rules.specs.declared.step.Step.{Step}
 use Rattle.rules.specs.declared.step.Step.TheVariants as step
-use Rattle.status_text.specs.Slot.{FileSlot}
+use Rattle.status_text.specs.Slot.{FileSlot, slot_records}
 use Rattle.status_store.specs.Applicable.{refused_name}
 use Rattle.status_store.specs.Left.{slots_after}
-use Rattle.status_store.specs.Slots.{has_name, slot_records}
+use Rattle.status_store.specs.Slots.{has_name}
 use Rattle.status_store.specs.declared.error.ApplyError.{ApplyError}
 use Rattle.status_store.specs.declared.error.ApplyError.TheVariants.{NotApplicable, OutOfMemory}
 

@@ -12,10 +12,9 @@ use Rattle.status_spelling.specs.ReadBack.{WasRead, as_written}
 use Rattle.status_spelling.specs.Touched.{IsWritableEntry}
 use Rattle.status_store.specs.Applicable.{handed_in, refused_name}
 use Rattle.status_store.specs.Left.{slots_after}
-use Rattle.status_store.specs.Slots.{slot_records}
+use Rattle.status_text.specs.Slot.{FileSlot, slot_records, stanza_of}
 use Rattle.status_store.specs.Text.{slots_text}
 use Rattle.status_text.specs.Record.{read_slot}
-use Rattle.status_text.specs.Slot.{FileSlot, stanza_of}
 use Rattle.status_text.specs.Status.{read_status}
 use Rattle.status_text.specs.declared.slot.Slot.TheVariants.{Recorded, Foreign}
 

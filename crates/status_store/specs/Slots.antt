@@ -2,19 +2,10 @@
 use Rattle.std.specs.Prelude.{◌≡◌, ℕ, Bool, false, List, map, Option, ⊤, if◌then◌else◌}
 use Rattle.std.specs.List.{find, list_any}
 use Rattle.rules.specs.Database.{Record}
-use Rattle.rules.specs.FileRecord.{FileRecord, records_of}
+use Rattle.rules.specs.FileRecord.{FileRecord}
 use Rattle.rules.specs.Step.{is_named}
 use Rattle.status_text.specs.Slot.{FileSlot, entries_of}
 use Rattle.status_text.specs.declared.slot.Slot.TheVariants.{Recorded, Foreign}
-
--- the status file as it is stored: its slots in their order, for an architecture
-pub record Store : Type 0 where
-  pub arch : List ℕ
-  pub slots : List FileSlot
-
--- the records of slots
-abbrev pub slot_records : List FileSlot → List Record
-slot_records slots = records_of (entries_of slots)
 
 -- the names of the records of slots
 abbrev pub names_of : List FileSlot → List (List ℕ)

@@ -4,7 +4,7 @@ ghost use Rattle.rules.specs.declared.limits.TheConstants.{TEXT_BYTES};
 ghost use Rattle.std.specs.Option.{option_copied};
 ghost use Rattle.rules.specs.Database.{HasDistinctNames};
 ghost use Rattle.status_text.specs.Error.{IsStatusFault};
-ghost use Rattle.status_text.specs.Slot.{entries_of};
+ghost use Rattle.status_text.specs.Slot.{entries_of, slot_records};
 ghost use Rattle.status_text.specs.Status as Text;
 ghost use Rattle.status_text.specs.declared.error.StatusError.TheVariants as error;
 ghost use Rattle.status_text.specs.declared.error.StatusFault.TheVariants as fault;
@@ -12,7 +12,7 @@ ghost use Rattle.status_store.specs.Applicable.{handed_in, refused_name};
 ghost use Rattle.status_store.specs.Error.{IsApplyFault};
 ghost use Rattle.status_store.specs.Faithful.{ReadsAsIfShort};
 ghost use Rattle.status_store.specs.Left.{slots_after};
-ghost use Rattle.status_store.specs.Slots.{IsNew, entry_named, names_of, slot_records};
+ghost use Rattle.status_store.specs.Slots.{IsNew, entry_named, names_of};
 ghost use Rattle.status_store.specs.Text.{slots_text};
 
 use crate::apply::take;
@@ -23,7 +23,7 @@ use crate::laws::{
 use crate::table::Table;
 use rules::Step;
 use status_record::FileRecord;
-use status_text::{Slot, StatusError, StatusRecord, read_status};
+use status_text::{Slot, StatusError, StatusFile, StatusRecord};
 use std::alloc::{AllocError, Global};
 use std::marker::Model;
 
@@ -36,7 +36,7 @@ pub struct Database<'a> {
 
 impl<'a> Model for Database<'a> {
     ghost use Rattle.status_store.specs.Faithful.{IsFaithful};
-    ghost use Rattle.status_store.specs.Slots.{Store};
+    ghost use Rattle.status_text.specs.Slot.{Store};
 
     ghost Value = { Store };
 
@@ -46,22 +46,22 @@ impl<'a> Model for Database<'a> {
 }
 
 // The slot as it was read, as actions may change it.
-fn kept<'a>(slot: Slot<'a, StatusRecord<'a>>) -> Slot<'a, FileRecord<'a>>
-    ensures { result ≡ slot.entry }
+fn kept<'a>(slot: &Slot<'a, StatusRecord<'a>>) -> Slot<'a, FileRecord<'a>>
+    ensures { result ≡ slot.now }
 {
     match slot {
         Slot::Recorded(found) => Slot::Recorded(FileRecord::read(found)),
-        Slot::Foreign(stanza) => Slot::Foreign(stanza),
+        Slot::Foreign(stanza) => Slot::Foreign(stanza.again()),
     }
 }
 
 // The slots, whose records have distinct names, as a table.
 fn table_of<'a>(
     alloc: Global,
-    slots: Vec<Slot<'a, StatusRecord<'a>>>,
+    slots: &[Slot<'a, StatusRecord<'a>>],
 ) -> Result<Table<'a>, AllocError>
-    requires { HasDistinctNames (slot_records slots.items) }
-    ensures { IfOk result (λ table. table ≡ slots.entry.items) }
+    requires { HasDistinctNames (slot_records slots.now) }
+    ensures { IfOk result (λ table. table ≡ slots.now) }
 {
     let mut table = Table::new(alloc);
     for slot in slots {
@@ -83,10 +83,27 @@ impl<'a> Database<'a> {
         ensures err { IfErr result (λ e. IsStatusFault e (Text.read_status arch.now text.now)) }
         ensures too_long { TEXT_BYTES < length text.now → result ≡ Err (error.Refused fault.TooLarge) }
     {
-        let slots = read_status(alloc, text, arch)?;
-        let table = table_of(alloc, slots)?;
+        let file = StatusFile::read(alloc, text, arch)?;
+        Ok(Database::of(alloc, &file)?)
+    }
+
+    /// The database that this status file is. Memory alone can fail. Linear in the stanzas.
+    pub fn of(alloc: Global, file: &StatusFile<'a>) -> Result<Database<'a>, AllocError>
+        ensures { IfOk result (λ db. db ≡ file.now) }
+    {
         what_was_read_is_faithful();
-        Ok(Database { arch, table })
+        let table = table_of(alloc, file.slots())?;
+        Ok(Database {
+            arch: file.arch(),
+            table,
+        })
+    }
+
+    /// The configured architecture.
+    pub fn arch(&self) -> &'a [u8]
+        ensures { result.now ≡ self.now.arch }
+    {
+        self.arch
     }
 
     /// The names of the records, in the order of the file. No two are the same.

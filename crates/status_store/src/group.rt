@@ -6,7 +6,8 @@ ghost use Rattle.rules.specs.Step.{configured, is_among, is_named};
 ghost use Rattle.status_store.specs.Applicable as Spec;
 ghost use Rattle.status_store.specs.Applicable.{first_unready, has_record};
 ghost use Rattle.status_store.specs.Places.{AreDistinct};
-ghost use Rattle.status_store.specs.Slots.{changed_slots, names_of, slot_records};
+ghost use Rattle.status_text.specs.Slot.{slot_records};
+ghost use Rattle.status_store.specs.Slots.{changed_slots, names_of};
 
 use crate::table::Table;
 use rules::Name;

@@ -6,7 +6,8 @@ ghost use Rattle.rules.specs.Step.{deconfigured, is_named, removed};
 ghost use Rattle.status_store.specs.Applicable as Spec;
 ghost use Rattle.status_store.specs.Applicable.{has_record};
 ghost use Rattle.status_store.specs.Left.{slots_after_unpack};
-ghost use Rattle.status_store.specs.Slots.{changed_slots, has_name, is_slot_named, slot_records};
+ghost use Rattle.status_text.specs.Slot.{slot_records};
+ghost use Rattle.status_store.specs.Slots.{changed_slots, has_name, is_slot_named};
 
 use crate::table::Table;
 use index::IndexStanza;

@@ -3,7 +3,8 @@
 use Rattle.std.specs.Prelude.{ℕ, List, [], ◌∷◌, ◌++◌}
 use Rattle.std.specs.List.{flat_map}
 use Rattle.package_stanza.specs.Stanza.{read_stanza}
-use Rattle.rules.specs.FileRecord.{FileRecord}
+use Rattle.rules.specs.Database.{Record}
+use Rattle.rules.specs.FileRecord.{FileRecord, records_of}
 use Rattle.rules.specs.Stanza.{Stanza}
 use Rattle.status_text.specs.declared.slot.Slot.{Slot}
 use Rattle.status_text.specs.declared.slot.Slot.TheVariants.{Recorded, Foreign}
@@ -20,6 +21,15 @@ entry_in (Foreign stanza) = []
 -- the entries of the slots
 abbrev pub entries_of : List FileSlot → List FileRecord
 entries_of slots = flat_map entry_in slots
+
+-- the records of slots
+abbrev pub slot_records : List FileSlot → List Record
+slot_records slots = records_of (entries_of slots)
+
+-- the status file as it is stored: its slots in their order, for an architecture
+pub record Store : Type 0 where
+  pub arch : List ℕ
+  pub slots : List FileSlot
 
 -- the stanza of a slot
 abbrev pub stanza_of : FileSlot → Stanza

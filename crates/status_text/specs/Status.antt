@@ -1,6 +1,6 @@
 -- The status file (dpkg(1); Policy 5.1): its slots in the order of the text. What is refused, and in what order, is this
 -- project's own.
-use Rattle.std.specs.Prelude.{ℕ, false, List, [], ◌∷◌, ◌++◌, length, nat_lt, Result, Ok, Err, if◌then◌else◌}
+use Rattle.std.specs.Prelude.{◌≡◌, ℕ, false, List, [], ◌∷◌, ◌++◌, length, nat_lt, Result, Ok, Err, if◌then◌else◌}
 use Rattle.rules.specs.declared.limits.TheConstants.{TEXT_BYTES}
 use Rattle.stanza.specs.Stanza.{StanzaText, items_of}
 use Rattle.stanza.specs.declared.error.StanzaError.{StanzaError}
@@ -32,3 +32,8 @@ slots_in arch (item ∷ items) seen = slot_then seen (read_item arch seen item) 
 -- the slots of a status file for an architecture, or its first refusal
 abbrev pub read_status : List ℕ → List ℕ → Result (List FileSlot) StatusFault
 read_status arch text = if nat_lt TEXT_BYTES (length text) then Err fault.TooLarge else slots_in arch (items_of false text) []
+
+-- the slots are what some text is read as for an architecture
+pub record WereRead (arch : List ℕ) (slots : List FileSlot) : Type 0 where
+  pub text : List ℕ
+  pub read : read_status arch text ≡ Ok slots

@@ -5,6 +5,7 @@
 
 mod entry;
 mod error;
+mod file;
 mod mark;
 mod name;
 mod read;
@@ -14,6 +15,7 @@ mod slot;
 mod words;
 
 pub use error::{RequiredField, StatusError, StatusFault};
+pub use file::StatusFile;
 pub use mark::Mark;
 pub use name::PackageName;
 pub use read::read_status;

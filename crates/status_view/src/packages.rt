@@ -3,11 +3,11 @@ ghost use Rattle.std.specs.Prelude.{◌≡◌, IfOk, map};
 ghost use Rattle.status_view.specs.Packages.{packages_of, present_pkg};
 
 use relation::Pkg;
-use status_record::FileRecord;
+use status_text::StatusRecord;
 use std::alloc::{AllocError, Global};
 
 // The package of the record, if it is present.
-fn present_pkg<'a>(alloc: Global, record: &FileRecord<'a>) -> Result<Option<Pkg<'a>>, AllocError>
+fn present_pkg<'a>(alloc: Global, record: &StatusRecord<'a>) -> Result<Option<Pkg<'a>>, AllocError>
     ensures { IfOk result (λ pkg. pkg ≡ present_pkg «record».now.found) }
 {
     if !record.is_present() {
@@ -23,7 +23,7 @@ fn present_pkg<'a>(alloc: Global, record: &FileRecord<'a>) -> Result<Option<Pkg<
 /// stanzas. Memory alone can fail.
 pub fn parse_packages<'a>(
     alloc: Global,
-    records: &[&FileRecord<'a>],
+    records: &[&StatusRecord<'a>],
 ) -> Result<Vec<Option<Pkg<'a>>>, AllocError>
     ensures { IfOk result (λ packages. packages.items ≡ packages_of (map (λ found. found.now) records.now)) }
 {

@@ -7,7 +7,7 @@ ghost use Rattle.status_view.specs.Packages.{packages_of, present_pkg};
 use debversion::Version;
 use relation::Pkg;
 use status::{Records, StateRecord};
-use status_record::FileRecord;
+use status_text::StatusRecord;
 use std::alloc::{AllocError, Global};
 
 fn version_again<'a>(version: &Option<Version<'a>>) -> Option<Version<'a>>
@@ -20,7 +20,7 @@ fn version_again<'a>(version: &Option<Version<'a>>) -> Option<Version<'a>>
 }
 
 // The record of a package, which is present.
-fn with_package<'p, 'a>(record: &FileRecord<'a>, pkg: &'p Pkg<'a>) -> StateRecord<'p, 'a>
+fn with_package<'p, 'a>(record: &StatusRecord<'a>, pkg: &'p Pkg<'a>) -> StateRecord<'p, 'a>
     requires { present_pkg «record».now.found ≡ Some pkg.now }
     ensures { result ≡ «record».now.found }
 {
@@ -35,7 +35,7 @@ fn with_package<'p, 'a>(record: &FileRecord<'a>, pkg: &'p Pkg<'a>) -> StateRecor
 }
 
 // The record of a package that isn't present.
-fn without_package<'p, 'a>(record: &FileRecord<'a>) -> StateRecord<'p, 'a>
+fn without_package<'p, 'a>(record: &StatusRecord<'a>) -> StateRecord<'p, 'a>
     requires { present_pkg «record».now.found ≡ None }
     ensures { result ≡ «record».now.found }
 {
@@ -52,7 +52,10 @@ fn without_package<'p, 'a>(record: &FileRecord<'a>) -> StateRecord<'p, 'a>
 }
 
 // The record with its package, if it is present.
-fn package_record<'p, 'a>(record: &FileRecord<'a>, pkg: &'p Option<Pkg<'a>>) -> StateRecord<'p, 'a>
+fn package_record<'p, 'a>(
+    record: &StatusRecord<'a>,
+    pkg: &'p Option<Pkg<'a>>,
+) -> StateRecord<'p, 'a>
     requires { pkg.now ≡ present_pkg «record».now.found }
     ensures { result ≡ «record».now.found }
 {
@@ -65,7 +68,7 @@ fn package_record<'p, 'a>(record: &FileRecord<'a>, pkg: &'p Option<Pkg<'a>>) -> 
 // The records, each with its package.
 fn package_records<'p, 'a>(
     alloc: Global,
-    records: &[&FileRecord<'a>],
+    records: &[&StatusRecord<'a>],
     packages: &'p [Option<Pkg<'a>>],
 ) -> Result<Vec<StateRecord<'p, 'a>>, AllocError>
     requires { packages.now ≡ packages_of (map (λ found. found.now) records.now) }
@@ -84,7 +87,7 @@ fn package_records<'p, 'a>(
 /// Linear in the records and in what they provide. Memory alone can fail.
 pub fn view<'p, 'a>(
     alloc: Global,
-    records: &[&FileRecord<'a>],
+    records: &[&StatusRecord<'a>],
     packages: &'p [Option<Pkg<'a>>],
 ) -> Result<Records<'p, 'a>, AllocError>
     requires { packages.now ≡ packages_of (map (λ found. found.now) records.now) }

@@ -10,7 +10,7 @@ use pins::Prefs;
 use relation::Pkg;
 use rules::{Step, universe_is_built};
 use status::Records;
-use status_store::{Database, FileRecord};
+use status_text::{StatusFile, StatusRecord};
 use status_view::{parse_packages, view};
 use std::alloc::Global;
 use std::test::Fail;
@@ -47,7 +47,7 @@ fn ordered_on<'p, 'a>(
 // The same from these records on, with their packages.
 fn ordered_with<'p, 'a>(
     alloc: Global,
-    records: &[&FileRecord<'a>],
+    records: &[&StatusRecord<'a>],
     packages: &'p [Option<Pkg<'a>>],
     request: &str,
     selection: &[u32],
@@ -67,15 +67,14 @@ fn ordered_with<'p, 'a>(
     }
 }
 
-// The same from this database on.
+// The same from this status file on.
 fn ordered_from(
     alloc: Global,
-    database: &Database<'_>,
+    status_file: &StatusFile<'_>,
     request: &str,
     selection: &[u32],
 ) -> Result<Ordered, Fail> {
-    let _names = database.names();
-    let records = database.records(alloc)?;
+    let records = status_file.records(alloc)?;
     let packages = parse_packages(alloc, records.as_slice())?;
     ordered_with(
         alloc,
@@ -86,15 +85,15 @@ fn ordered_from(
     )
 }
 
-// The same from this status file on.
+// The same from the text of a status file on.
 fn ordered(
     alloc: Global,
     status: &[u8],
     request: &str,
     selection: &[u32],
 ) -> Result<Ordered, Fail> {
-    let database = Database::read(alloc, status, ARCH)?;
-    ordered_from(alloc, &database, request, selection)
+    let status_file = StatusFile::read(alloc, status, ARCH)?;
+    ordered_from(alloc, &status_file, request, selection)
 }
 
 const UNMET: &[u8] =

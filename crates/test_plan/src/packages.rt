@@ -13,7 +13,7 @@ use crate::versions::are_eligible;
 use relation::Pkg;
 use rules::Rule;
 use status::Records;
-use status_store::{Database, FileRecord};
+use status_text::{StatusFile, StatusRecord};
 use status_view::{parse_packages, view};
 use std::alloc::Global;
 use std::test::Fail;
@@ -54,25 +54,24 @@ pub(crate) fn is_answered(alloc: Global, status: &[u8], rest: &str) -> Result<bo
 
 // Whether this is the answer of the status file to the question.
 fn is_answer(alloc: Global, status: &[u8], asked: &str, wanted: &str) -> Result<bool, Fail> {
-    let database = Database::read(alloc, status, ARCH)?;
-    is_answer_of(alloc, &database, asked, wanted)
+    let status_file = StatusFile::read(alloc, status, ARCH)?;
+    is_answer_of(alloc, &status_file, asked, wanted)
 }
 
 fn is_answer_of(
     alloc: Global,
-    database: &Database<'_>,
+    status_file: &StatusFile<'_>,
     asked: &str,
     wanted: &str,
 ) -> Result<bool, Fail> {
-    let _names = database.names();
-    let records = database.records(alloc)?;
+    let records = status_file.records(alloc)?;
     is_answer_over(alloc, records.as_slice(), asked, wanted)
 }
 
 // The first word of the question says what is asked.
 fn is_answer_over(
     alloc: Global,
-    records: &[&FileRecord<'_>],
+    records: &[&StatusRecord<'_>],
     asked: &str,
     wanted: &str,
 ) -> Result<bool, Fail>
@@ -91,7 +90,7 @@ fn is_answer_over(
 
 fn is_judged(
     alloc: Global,
-    records: &[&FileRecord<'_>],
+    records: &[&StatusRecord<'_>],
     asked: &str,
     wanted: &str,
 ) -> Result<bool, Fail> {
@@ -101,7 +100,7 @@ fn is_judged(
 
 fn is_judged_with<'p, 'a>(
     alloc: Global,
-    records: &[&FileRecord<'a>],
+    records: &[&StatusRecord<'a>],
     packages: &'p [Option<Pkg<'a>>],
     asked: &str,
     wanted: &str,

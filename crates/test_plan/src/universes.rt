@@ -10,7 +10,7 @@ use debversion::Version;
 use index::Index;
 use pins::Prefs;
 use rules::{Release, Text};
-use status_store::FileRecord;
+use status_text::StatusRecord;
 use std::alloc::{AllocError, Global};
 use std::test::Fail;
 use universe::Universe;
@@ -66,7 +66,7 @@ pub(crate) fn indices_of<'a>(alloc: Global, words: &str) -> Result<Vec<Index<'a>
 /// Whether this is the universe of the records and of what the words say: the indices, the preferences and the request.
 pub(crate) fn is_built(
     alloc: Global,
-    records: &[&FileRecord<'_>],
+    records: &[&StatusRecord<'_>],
     words: &str,
     wanted: &str,
 ) -> Result<bool, Fail>
@@ -81,7 +81,7 @@ pub(crate) fn is_built(
 /// Whether the universe of the records and one index answers the question so.
 pub(crate) fn is_looked_up(
     alloc: Global,
-    records: &[&FileRecord<'_>],
+    records: &[&StatusRecord<'_>],
     asked: &str,
     wanted: &str,
 ) -> Result<bool, Fail>
@@ -93,7 +93,7 @@ pub(crate) fn is_looked_up(
 
 fn says_by(
     alloc: Global,
-    records: &[&FileRecord<'_>],
+    records: &[&StatusRecord<'_>],
     indices: &str,
     prefs: &Prefs,
     request: &str,
@@ -116,7 +116,7 @@ fn says_by(
 
 fn says_over(
     alloc: Global,
-    records: &[&FileRecord<'_>],
+    records: &[&StatusRecord<'_>],
     indices: &[Index<'_>],
     prefs: &Prefs,
     request: &str,

@@ -7,7 +7,7 @@ ghost use Rattle.rules.specs.FileRecord.{records_of};
 use crate::universes::{all_hold, indices_of};
 use candidates::{Offer, eligible};
 use pins::Prefs;
-use status_store::FileRecord;
+use status_text::StatusRecord;
 use std::alloc::Global;
 use std::test::Fail;
 
@@ -15,7 +15,7 @@ use std::test::Fail;
 /// preferences and the name.
 pub(crate) fn are_eligible(
     alloc: Global,
-    records: &[&FileRecord<'_>],
+    records: &[&StatusRecord<'_>],
     words: &str,
     wanted: &str,
 ) -> Result<bool, Fail>

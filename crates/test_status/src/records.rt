@@ -28,7 +28,7 @@ fn after<'a>(record: &FileRecord<'a>, indexed: &IndexStanza<'a>, action: u8) -> 
 fn record_of(alloc: Global, text: &[u8]) -> Result<Option<FileRecord<'_>>, StatusError<'_>> {
     let mut slots = read_status(alloc, text, ARCH)?;
     match slots.pop() {
-        Some(Slot::Recorded(found)) => Ok(Some(FileRecord::read(found))),
+        Some(Slot::Recorded(found)) => Ok(Some(FileRecord::read(&found))),
         _ => Ok(None),
     }
 }

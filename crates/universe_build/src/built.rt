@@ -21,7 +21,7 @@ use candidates::{Found, Known, Offer, Offered, Recorded, has_name, is_recorded, 
 use index::Index;
 use pins::Prefs;
 use rules::{Goal, GoalLine, PAIRS};
-use status_record::FileRecord;
+use status_text::StatusRecord;
 use std::alloc::{AllocError, Global};
 use universe::{Candidate, Candidates, Pair, Pairs, Start, Starts, Universe};
 
@@ -185,7 +185,7 @@ fn chosen<'p, 'a>(
 /// each version what `Prefs::priority` costs, and for m goals about m log n and n log m comparisons more.
 pub fn build<'p, 'a>(
     alloc: Global,
-    start: &[&FileRecord<'a>],
+    start: &[&StatusRecord<'a>],
     indices: &'p [Index<'a>],
     prefs: &Prefs,
     goals: Vec<GoalLine>,

@@ -1,5 +1,5 @@
 use Rattle.std.proofs.Common.{◌≡◌, ◌∙◌, ◌∷◌, [], ◌++◌, ◌+◌, ap, refl}
-use Rattle.status_store.specs.Slots.{Store}
+use Rattle.status_text.specs.Slot.{Store}
 use Rattle.journal.specs.declared.ledger.Ledger.{Ledger}
 use Rattle.journal.specs.Adding.{recorded_of}
 use Rattle.journal.specs.History.{followed}

@@ -2,7 +2,7 @@ use Rattle.std.proofs.Common.{◌≡◌, ◌∙◌, ◌∷◌, [], ◌++◌, ◌
 use Rattle.std.specs.Option.{option_copied, unwrap_or}
 use Rattle.plantext.specs.StepLine.{step_line}
 use Rattle.rules.specs.declared.limits.TheConstants.{TEXT_BYTES}
-use Rattle.status_store.specs.Slots.{Store}
+use Rattle.status_text.specs.Slot.{Store}
 use Rattle.journal.specs.Adding.{recorded_of, text_for}
 use Rattle.journal.specs.File.{framed}
 use Rattle.journal.specs.History.{IsApplicable, slots_left}

@@ -1,5 +1,5 @@
 use Rattle.std.proofs.Common.{◌≡◌, ◌+◌, ◌∷◌, [], ◌++◌, List, ℕ, ap, refl}
-use Rattle.status_store.specs.Slots.{Store}
+use Rattle.status_text.specs.Slot.{Store}
 use Rattle.journal.specs.File.{Entry}
 use Rattle.journal.specs.Payload.{Recorded}
 use Rattle.journal.specs.Reading.{IsTaken}

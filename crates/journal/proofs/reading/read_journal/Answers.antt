@@ -1,5 +1,5 @@
 use Rattle.std.proofs.Common.{◌≡◌, ◌∙◌, ◌++◌, ◌≤◌, List, ℕ, length, ap, sym}
-use Rattle.status_store.specs.Slots.{Store}
+use Rattle.status_text.specs.Slot.{Store}
 use Rattle.std.specs.Option.{option_copied}
 use Rattle.journal.specs.Fault.{HasHeader, IsMarked}
 use Rattle.journal.specs.File.{magic_of}

@@ -1,6 +1,6 @@
 use Rattle.std.proofs.Common.{◌≡◌, drop}
 use Rattle.status_store.specs.Applicable.{first_unready, is_configurable}
-use Rattle.status_store.specs.Slots.{slot_records}
+use Rattle.status_text.specs.Slot.{slot_records}
 use Rattle.status_store.proofs.group.first_unready.Given as goal
 
 -- what is left of the names answers for all of them
