@@ -89,6 +89,13 @@ impl<'a> Database<'a> {
         Ok(Database { arch, table })
     }
 
+    /// The configured architecture.
+    pub fn arch(&self) -> &'a [u8]
+        ensures { result.now ≡ self.now.arch }
+    {
+        self.arch
+    }
+
     /// The names of the records, in the order of the file. No two are the same.
     pub fn names(&self) -> &[&'a [u8]]
         ensures names { map (λ name. name.now) result.now ≡ names_of self.now.slots }
