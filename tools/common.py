@@ -17,7 +17,10 @@ import tempfile
 
 TOP = pathlib.Path(__file__).resolve().parent.parent
 RELATIONS = ("Pre-Depends", "Depends", "Conflicts", "Breaks", "Provides")
-PRESENT = ("half-installed", "unpacked", "half-configured", "triggers-awaited", "triggers-pending", "installed")
+# The states in which triggers are left to be processed (deb-triggers(5)), of what waits to be configured, and of what is there.
+TRIGGERED = ("triggers-awaited", "triggers-pending")
+UNCONFIGURED = ("unpacked", "half-configured", *TRIGGERED)
+PRESENT = ("half-installed", *UNCONFIGURED, "installed")
 ATOM = re.compile(r"\s*([A-Za-z0-9][A-Za-z0-9+.-]*)(?::([A-Za-z0-9-]+))?\s*(?:\(\s*(<<|<=|=|>=|>>|<|>)\s*([^\s)]+)\s*\))?\s*")
 Atom = collections.namedtuple("Atom", "name qualifier operator version")
 
@@ -373,13 +376,14 @@ class Database:
         fields = self.records[name]
         flag = fields["Status"].split()[1]
         fields["Status"] = f"{want or fields['Status'].split()[0]} {flag} {state}"
-        fields.pop("Config-Version", None)
+        for key in ("Config-Version", "Triggers-Pending", "Triggers-Awaited"):
+            fields.pop(key, None)
         if config and state != "installed":
             fields["Config-Version"] = config
 
     def configured_version(self, name):
         """The version last configured, or None."""
-        if self.state(name) == "installed":
+        if self.state(name) in ("installed", *TRIGGERED):
             return self.records[name]["Version"]
         return self.records.get(name, {}).get("Config-Version")
 

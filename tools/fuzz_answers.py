@@ -32,7 +32,7 @@ REFUSALS = {
         rb"%s: E6 BadVersion %s %s" % (PACKAGES, LINE, KIND), rb"%s: E(?:7 BadRelation|8 BadName) %s [0-9]+" % (PACKAGES, LINE),
         rb"%s: E9 MissingField %s [A-Za-z-]+" % (CONTROL, LINE), rb"(?:%s|journal): E10 TooLarge" % TEXT,
         rb"preferences: E11 BadPin %s" % LINE, rb"status: E12 BadStatus %s" % LINE,
-        rb"status: E(?:13 DuplicatePackage|14 ForeignArchitecture|15 TriggerState) %s" % NAME,
+        rb"status: E(?:13 DuplicatePackage|14 ForeignArchitecture) %s" % NAME,
         rb"request: E(?:16 BadRequest|17 UnknownName) %s" % LINE, rb"plan: E18 BadPlan %s" % LINE,
         rb"refutation: E19 BadRefutation %s" % LINE,
         rb"journal: E(?:21 NotAJournal|22 Damaged [0-9]+|25 JournalMismatch|29 OtherArchitecture)"],

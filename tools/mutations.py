@@ -8,7 +8,8 @@ NUMBERS = ["0", "00", "1", "-1", "+1", "007", "65535", "65536", "1000", "1001", 
            *(str((1 << power) + more) for power in (31, 32, 63, 64) for more in (-1, 0, 1)), "9" * 40, "0" * 400 + "1"]
 FIELDS = ["Package", "Version", "Architecture", "Status", "Config-Version", "Pre-Depends", "Depends", "Conflicts", "Breaks", "Provides",
           "Essential", "Protected", "Conffiles", "Explanation", "Pin", "Pin-Priority", "File", "Suite", "Archive", "Codename", "Component",
-          "Origin", "Label", "Host", "NotAutomatic", "ButAutomaticUpgrades", "Filename", "SHA256", "Size", "Multi-Arch", "X"]
+          "Origin", "Label", "Host", "NotAutomatic", "ButAutomaticUpgrades", "Filename", "SHA256", "Size", "Multi-Arch",
+          "Triggers-Pending", "Triggers-Awaited", "X"]
 RELATIONS = ["Pre-Depends", "Depends", "Conflicts", "Breaks", "Provides"]
 VALUES = ["", "yes", "no", "all", "amd64", "i386", "*", "x", "install ok installed", "hold ok installed", "install ok unpacked",
           "install reinstreq half-installed", "deinstall ok config-files", "install ok half-configured", "purge ok not-installed",

@@ -91,11 +91,11 @@ class Offered:
         known[1].append(keys)
 
     def add_standing(self, fields):
-        """A package of the status file counts where it stands: unpacked, half-configured or installed, and sound."""
+        """A package of the status file counts where it stands: unconfigured or installed, and sound."""
         want, flag, state = (fields.get("Status", "").split() + ["", "", ""])[:3]
         if want == "hold":
             self.held.add(fields["Package"])
-        if flag == "ok" and state in ("unpacked", "half-configured", "installed"):
+        if flag == "ok" and state in (*common.UNCONFIGURED, "installed"):
             self.standing[fields["Package"]] = fields
             self.add(fields, {IS_STATUS: "yes"})
 

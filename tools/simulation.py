@@ -3,7 +3,7 @@ import collections
 import re
 
 import common
-from common import PRESENT, Database, Failure, matches
+from common import PRESENT, TRIGGERED, UNCONFIGURED, Database, Failure, matches
 
 ILLEGAL = re.compile(r"no step (\d+) (F\d+) ")
 
@@ -71,12 +71,12 @@ class Simulation:
         found = set()
         for clause in common.clauses_in(self.database.records[name], "Pre-Depends", "Depends"):
             if not any(self.meeting(atom, "installed") for atom in clause):
-                found.update(other for atom in clause for other in self.meeting(atom, "unpacked", "half-configured"))
+                found.update(other for atom in clause for other in self.meeting(atom, *UNCONFIGURED))
         return (found & set(self.waiting)) - {name}
 
     def is_met(self, clause, group):
         """Whether a clause is met by what is installed or by one of the group."""
-        return any(self.meeting(atom, "installed") or self.meeting(atom, "unpacked", "half-configured") & group for atom in clause)
+        return any(self.meeting(atom, "installed") or self.meeting(atom, *UNCONFIGURED) & group for atom in clause)
 
     def part_of(self, names):
         """The greatest part of these names that can be configured together by itself."""
@@ -171,6 +171,11 @@ class Simulation:
         if kind == "Purg":
             self.add("purge", name)
 
+    def begin(self):
+        """Configures what has triggers that are left to be processed: dpkg does so with the next call."""
+        self.waiting = [name for name in self.database.records if self.database.state(name) in TRIGGERED]
+        self.configure()
+
     def end(self):
         """Configures what waits, and then what dpkg has deconfigured."""
         self.configure()
@@ -181,6 +186,7 @@ class Simulation:
 def simulation_of(inputs, lines, offered, forced=False):
     """The plan that a simulation is; with `forced` what needs a package is deconfigured before that is removed."""
     simulation = Simulation(inputs, offered, forced)
+    simulation.begin()
     for line in lines:
         simulation.take(*line)
     simulation.end()

@@ -37,7 +37,7 @@ use Rattle.status_text.specs.Record as slot_read
 use Rattle.status_text.specs.Slot.{FileSlot, entries_of}
 use Rattle.status_text.specs.Status as status
 use Rattle.status_text.specs.declared.error.StatusFault.{StatusFault}
-use Rattle.status_text.specs.declared.mark.Mark.{Mark}
+use Rattle.status_text.specs.declared.words.Mark.{Mark}
 use Rattle.status_text.specs.declared.slot.Slot.TheVariants.{Recorded, Foreign}
 use mathlib.Core.Logic.{inl, inr}
 

@@ -63,7 +63,6 @@ status_refusal (from.MissingField line field) = refusal.MissingField line field
 status_refusal (from.BadStatus line) = refusal.BadStatus line
 status_refusal (from.DuplicatePackage name) = refusal.DuplicatePackage name
 status_refusal (from.ForeignArchitecture name) = refusal.ForeignArchitecture name
-status_refusal (from.TriggerState name) = refusal.TriggerState name
 status_refusal from.TooLarge = refusal.TooLarge
 
 -- what a status file is read as for an architecture: its stanzas with their records

@@ -75,9 +75,6 @@ pub enum StatusRefusal {
     /// This package is of another architecture, and isn't not-installed.
     #[error("E14 ForeignArchitecture {0}")]
     ForeignArchitecture(NamedPackage),
-    /// Triggers of this package, or that it waits for, are left to be processed.
-    #[error("E15 TriggerState {0}")]
-    TriggerState(NamedPackage),
     /// A text of more bytes than are read.
     #[error("E10 TooLarge")]
     TooLarge,
@@ -104,7 +101,6 @@ pub(crate) fn owned(alloc: Global, refused: &StatusFault<'_>) -> Result<StatusRe
         StatusFault::ForeignArchitecture(name) => {
             Ok(StatusRefusal::ForeignArchitecture(named(alloc, name)?))
         }
-        StatusFault::TriggerState(name) => Ok(StatusRefusal::TriggerState(named(alloc, name)?)),
         StatusFault::TooLarge => Ok(StatusRefusal::TooLarge),
     }
 }

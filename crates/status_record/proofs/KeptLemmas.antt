@@ -23,7 +23,7 @@ use Rattle.status_record.specs.declared.origin.StanzaOrigin.{StanzaOrigin}
 use Rattle.status_record.specs.declared.origin.StanzaOrigin.TheVariants.{Untouched}
 use Rattle.status_text.specs.Kept.{IsKept, kept_record}
 use Rattle.status_text.specs.Record.{relations_at}
-use Rattle.status_text.specs.declared.mark.Mark.{Mark}
+use Rattle.status_text.specs.declared.words.Mark.{Mark}
 
 -- a stanza without a version is refused
 is_versioned : (line : ℕ) (field : Option FieldText) → version_fault_in line field ≡ None → value_in field ≡ [] → ⊥

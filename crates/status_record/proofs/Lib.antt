@@ -5,8 +5,8 @@ pub mod KeptLemmas
 pub mod WrittenLemmas
 pub mod PassLemmas
 pub mod WordRows
-pub mod PlainLemmas
 pub mod ValueLemmas
+pub mod TriggerLemmas
 pub mod SaysLemmas
 pub mod ReadLemmas
 pub mod ReadBackLemmas

@@ -76,7 +76,7 @@ passes_called name status config pack conffiles anew only = record {
 }
 
 -- the test whether a field marks its package essential
-one_of_both : (P : Type 0) (a b c : Bool) → ((a || (b || false)) && c) ≡ true → (a ≡ true → P) → (b ≡ true → P) → P
+pub one_of_both : (P : Type 0) (a b c : Bool) → ((a || (b || false)) && c) ≡ true → (a ≡ true → P) → (b ≡ true → P) → P
 one_of_both P true b c h first second = first refl
 one_of_both P false true c h first second = second refl
 one_of_both P false false c h first second = absurd (true≢false (sym h))

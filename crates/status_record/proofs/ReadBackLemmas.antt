@@ -8,10 +8,10 @@ use Rattle.relation.specs.PkgFields.{fields_of}
 use Rattle.relation.specs.PkgText.{pkg_fault, pkg_name_fault, pkg_of, pkg_version_fault, relations_fault, unless_fault}
 use Rattle.relation.specs.declared.error.PkgFault.{PkgFault}
 use Rattle.rules.specs.Database.{Record}
-use Rattle.rules.specs.FileRecord.{FileRecord, IndexStanza, status_of, touched_entry, touched_stanza, written_config_version}
+use Rattle.rules.specs.FileRecord.{FileRecord, IndexStanza, status_of, touched_entry, written_config_version}
 use Rattle.rules.specs.Package.{Pkg, Relations}
-use Rattle.rules.specs.Stanza.{Field, Stanza, unpacked_fields}
-use Rattle.rules.specs.State.{has_configured_version, is_installed_state, is_present_state, is_trigger_state, is_unconfigured_state}
+use Rattle.rules.specs.Stanza.{Field, Stanza, lasting_fields, unpacked_fields}
+use Rattle.rules.specs.State.{has_configured_version, is_installed_state, is_present_state, is_unconfigured_state}
 use Rattle.rules.specs.Step.{configured, deconfigured, kept_config_version, last_configured, no_relations, removed, unpacked_with}
 use Rattle.rules.specs.VersionFault.{first_fault}
 use Rattle.rules.specs.declared.index_place.IndexPlace.{IndexPlace}
@@ -22,8 +22,7 @@ use Rattle.stanza.specs.Stanza.{StanzaText}
 use Rattle.status_record.proofs.SaysLemmas.{AreSound, Says, counts_value, none-back, none-front, relations-same, relations_in, sound-name, sound-relations, sound-there, text-value}
 use Rattle.status_record.proofs.ReadLemmas.{read_says, says_read}
 use Rattle.status_record.proofs.ValueLemmas.{Values, behind_version, values-read, values-touched, values-unpacked, values_in, values_of, written_values}
-use Rattle.status_record.proofs.OriginLemmas.{lasting-all}
-use Rattle.status_record.proofs.PlainLemmas.{plain-status}
+use Rattle.status_record.proofs.TriggerLemmas.{values-lasting}
 use Rattle.status_record.proofs.WordRows.{words-read}
 use Rattle.status_record.specs.ReadBack.{ReadReadsBack, ReadsBack, TouchedReadsBack, UnpackedReadsBack}
 use Rattle.status_text.specs.Record.{config_version_at}
@@ -68,7 +67,6 @@ sound-written status config_version values sound = record {
 
 -- what an action makes of a present record
 record Follows (old next : Record) : Type 0 where
-  past : is_trigger_state next.state ≡ false
   name : next.name ≡ old.name
   version : next.version ≡ old.version
   essential : next.is_essential ≡ old.is_essential
@@ -85,7 +83,7 @@ says-later arch values old next present says follows =
     record {
       name = says.name ∙ ap Some (sym follows.name);
       valid = ap Rattle.rules.specs.Name.is_name follows.name ∙ says.valid;
-      status = words-read next.want next.flag next.state follows.past;
+      status = words-read next.want next.flag next.state;
       counted = counts-later arch old.state next.state values.architecture present says.counted;
       version = says.version ∙ sym follows.version;
       there = λ _. there;
@@ -116,14 +114,14 @@ last-read arch values old present says = last-sound (has_configured_version old.
 
 follows_deconfigured : (arch : List ℕ) (values : Values) (old : Record) → is_present_state old.state ≡ true → Says arch values old → Follows old (deconfigured old)
 follows_deconfigured arch values old present says =
-    record { past = refl; name = refl; version = refl; essential = refl; relations = refl; config_version = refl; sound = version-read arch values old present says }
+    record { name = refl; version = refl; essential = refl; relations = refl; config_version = refl; sound = version-read arch values old present says }
 
 follows_configured : (old : Record) → Follows old (configured old)
-follows_configured old = record { past = refl; name = refl; version = refl; essential = refl; relations = refl; config_version = refl; sound = refl }
+follows_configured old = record { name = refl; version = refl; essential = refl; relations = refl; config_version = refl; sound = refl }
 
 follows_removed : (arch : List ℕ) (values : Values) (old : Record) → is_present_state old.state ≡ true → Says arch values old → Follows old (removed old)
 follows_removed arch values old present says =
-    record { past = refl; name = refl; version = refl; essential = refl; relations = refl; config_version = refl; sound = last-read arch values old present says }
+    record { name = refl; version = refl; essential = refl; relations = refl; config_version = refl; sound = last-read arch values old present says }
 
 -- an entry whose fields say its record
 abbrev IsSaid : List ℕ → FileRecord → Type 0
@@ -160,11 +158,10 @@ touched_said : (arch : List ℕ) (entry : FileRecord) (next : Record) → is_pre
     → ReadsBack arch (touched_entry (λ _. next) entry)
 touched_said arch entry next present said follows =
     said_back arch (touched_entry (λ _. next) entry)
-    (subst (λ (fields : List Field). Says arch (values_of (touched_stanza next fields).fields) next)
-    (sym (lasting-all entry.found.state entry.stanza.fields (plain-status (values_of entry.stanza.fields).status _ entry.found.state said.status refl)))
     (subst (λ (values : Values). Says arch values next)
-    (sym (values-touched next (written_config_version next.state next.config_version) entry.stanza.fields))
-    (says-later arch (values_of entry.stanza.fields) entry.found next present said follows)))
+    (sym (values-touched next (written_config_version next.state next.config_version) (lasting_fields entry.found.state entry.stanza.fields)
+    ∙ ap (written_values (status_of next).value (written_config_version next.state next.config_version)) (values-lasting entry.found.state entry.stanza.fields)))
+    (says-later arch (values_of entry.stanza.fields) entry.found next present said follows))
 
 pub touched_reads_back : TouchedReadsBack
 touched_reads_back arch entry present back =
@@ -212,7 +209,7 @@ says-unpacked arch place stanza config_version sound faultless counted =
     record {
       name = name.0;
       valid = name.1;
-      status = words-read found.want found.flag found.state refl;
+      status = words-read found.want found.flag found.state;
       counted = counted;
       version = sym (text-value fields.version);
       there = λ _. version.0 refl;

@@ -14,44 +14,29 @@ use Rattle.rules.specs.declared.status.State.{State}
 use Rattle.stanza.specs.Field.{FieldText, value_named}
 use Rattle.stanza.specs.Stanza.{StanzaText}
 use Rattle.status_record.proofs.ValueLemmas.{values_in}
-use Rattle.status_text.specs.Mark.{counts, counts_by, mark_by, mark_in, mark_of, name_in, read_mark, unless_fault}
+use Rattle.status_text.specs.Mark.{counts, counts_by, mark_by, mark_in, name_in, read_mark, unless_fault}
 use Rattle.status_text.specs.Record.{config_version_at, config_version_field, config_version_fault, entry_of, is_seen, later_fault, read_counted, read_marked, read_new, read_slot, record_of, relations_fault_at, text_in, version_fault_at, version_field}
 use Rattle.status_text.specs.Slot.{FileSlot}
 use Rattle.status_text.specs.Words.{read_words}
 use Rattle.status_text.specs.declared.error.StatusFault.{StatusFault}
 use Rattle.status_text.specs.declared.error.StatusFault.TheVariants as fault
-use Rattle.status_text.specs.declared.mark.Mark.{Mark}
+use Rattle.status_text.specs.declared.words.Mark.{Mark}
 use Rattle.status_text.specs.declared.slot.Slot.TheVariants.{Recorded, Foreign}
-use Rattle.status_text.specs.declared.words.StateWord.{StateWord}
-use Rattle.status_text.specs.declared.words.StateWord.TheVariants.{Plain, Triggers}
-use Rattle.status_text.specs.declared.words.StatusWords.{StatusWords}
 use Rattle.status_record.proofs.SaysLemmas.{Says, counts_value, none-front, none-back, none-both, sound-version, version-sound, sound-name, name-sound, value-text, sound-there, there-sound, sound-relations, relations-sound, relations-same}
 
 -- what the words of a mark are
-mark-words : (name : List ℕ) (words : StatusWords) (state : StateWord) (mark : Mark) → words.state ≡ state → mark_of name words state ≡ Ok mark
-    → words ≡ record { want = mark.want; flag = mark.flag; state = Plain mark.state }
-mark-words name words Triggers mark is h = absurd (let e = h in cc)
-mark-words name words (Plain state) mark is h =
-    let read : ◌≡◌ {A = Mark} (record { want = words.want; flag = words.flag; state = state }) mark = let e = h in cc in
-    let w : words.want ≡ mark.want = ap (λ (m : Mark). m.want) read in
-    let f : words.flag ≡ mark.flag = ap (λ (m : Mark). m.flag) read in
-    let s : words.state ≡ Plain mark.state = is ∙ ap (λ (m : Mark). Plain m.state) read in
-    let same : ◌≡◌ {A = StatusWords} (record { want = words.want; flag = words.flag; state = words.state }) (record { want = mark.want; flag = mark.flag; state = Plain mark.state }) = rw (w, f, s) refl in
-    same
-
-mark-by : (name : List ℕ) (line : ℕ) (words : Option StatusWords) (mark : Mark) → mark_by name line words ≡ Ok mark
-    → words ≡ Some (record { want = mark.want; flag = mark.flag; state = Plain mark.state })
-mark-by name line None mark h = absurd (let e = h in cc)
-mark-by name line (Some words) mark h = ap Some (mark-words name words words.state mark refl h)
+mark-by : (line : ℕ) (words : Option Mark) (mark : Mark) → mark_by line words ≡ Ok mark → words ≡ Some mark
+mark-by line None mark h = absurd (let e = h in cc)
+mark-by line (Some words) mark h = let e = h in cc
 
 -- the status of a stanza by its value
 mark-value : (stanza : StanzaText) (field : Option FieldText) (mark : Mark) → mark_in stanza field ≡ Ok mark
-    → option_and_then read_words (text_in field) ≡ Some (record { want = mark.want; flag = mark.flag; state = Plain mark.state })
+    → option_and_then read_words (text_in field) ≡ Some (record { want = mark.want; flag = mark.flag; state = mark.state })
 mark-value stanza None mark h = absurd (let e = h in cc)
-mark-value stanza (Some field) mark h = mark-by (name_in stanza) field.line (read_words field.value) mark h
+mark-value stanza (Some field) mark h = mark-by field.line (read_words field.value) mark h
 
 value-mark : (stanza : StanzaText) (field : Option FieldText) (mark : Mark)
-    → option_and_then read_words (text_in field) ≡ Some (record { want = mark.want; flag = mark.flag; state = Plain mark.state })
+    → option_and_then read_words (text_in field) ≡ Some (record { want = mark.want; flag = mark.flag; state = mark.state })
     → mark_in stanza field ≡ Ok mark
 value-mark stanza None mark h = absurd (let e = h in cc)
 value-mark stanza (Some field) mark h = rw h refl

@@ -23,7 +23,6 @@ use Rattle.stanza.specs.Stanza.{StanzaText}
 use Rattle.status_record.proofs.ValueLemmas.{Values, values_in}
 use Rattle.status_text.specs.Record.{config_version_at, text_in}
 use Rattle.status_text.specs.Words.{read_words}
-use Rattle.status_text.specs.declared.words.StateWord.TheVariants.{Plain}
 
 -- a value of Architecture counts for a package in this state
 abbrev pub counts_value : List ℕ → State → Option (List ℕ) → Bool
@@ -52,7 +51,7 @@ pub record AreSound (values : Values) : Type 0 where
 pub record Says (arch : List ℕ) (values : Values) (found : Record) : Type 0 where
   pub name : values.name ≡ Some found.name
   pub valid : is_name found.name ≡ true
-  pub status : option_and_then read_words values.status ≡ Some (record { want = found.want; flag = found.flag; state = Plain found.state })
+  pub status : option_and_then read_words values.status ≡ Some (record { want = found.want; flag = found.flag; state = found.state })
   pub counted : counts_value arch found.state values.architecture ≡ true
   pub version : unwrap_or values.version [] ≡ found.version
   pub there : is_present_state found.state ≡ true → is_some values.version ≡ true

@@ -10,7 +10,7 @@ use Rattle.rules.specs.declared.status.State.{State}
 use Rattle.stanza.specs.Stanza.{StanzaText}
 use Rattle.status_record.specs.declared.origin.StanzaOrigin.{StanzaOrigin}
 use Rattle.status_record.specs.declared.origin.StanzaOrigin.TheVariants.{Untouched, Touched, Triggered, Unpacked}
-use Rattle.status_text.specs.declared.mark.Mark.{Mark}
+use Rattle.status_text.specs.declared.words.Mark.{Mark}
 
 -- the fields of a stanza that was read
 abbrev pub fields_of : StanzaText → List Field

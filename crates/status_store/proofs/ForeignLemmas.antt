@@ -12,37 +12,30 @@ use Rattle.stanza.specs.Stanza.{StanzaText}
 use Rattle.status_record.proofs.SaysLemmas.{name-sound, sound-name}
 use Rattle.status_record.proofs.ValueLemmas.{Values, values-read, values_in, values_of}
 use Rattle.status_store.specs.Faithful.{StaysForeign}
-use Rattle.status_text.specs.Mark.{counts, counts_by, mark_by, mark_in, mark_of, name_in, read_mark, unless_fault}
+use Rattle.status_text.specs.Mark.{counts, counts_by, mark_by, mark_in, name_in, read_mark, unless_fault}
 use Rattle.status_text.specs.Record.{entry_of, is_seen, later_fault, read_counted, read_marked, read_slot, text_in}
 use Rattle.status_text.specs.Slot.{FileSlot}
 use Rattle.status_text.specs.Words.{read_words}
 use Rattle.status_text.specs.declared.error.StatusFault.{StatusFault}
 use Rattle.status_text.specs.declared.error.StatusFault.TheVariants as fault
-use Rattle.status_text.specs.declared.mark.Mark.{Mark}
+use Rattle.status_text.specs.declared.words.Mark.{Mark}
 use Rattle.status_text.specs.declared.slot.Slot.TheVariants.{Recorded, Foreign}
-use Rattle.status_text.specs.declared.words.StateWord.{StateWord}
-use Rattle.status_text.specs.declared.words.StateWord.TheVariants.{Plain, Triggers}
-use Rattle.status_text.specs.declared.words.StatusWords.{StatusWords}
 
 -- the name, and what Status says, by the values of the fields
 name-again : (line again : ℕ) (a b : Option FieldText) → text_in b ≡ text_in a → name_fault_in line a ≡ None → name_fault_in again b ≡ None
 name-again line again a b same h = let sound = sound-name line a h in name-sound again b (value_in a) (same ∙ sound.0) sound.1
 
-words-again : (name other : List ℕ) (words : StatusWords) (state : StateWord) (mark : Mark) → mark_of name words state ≡ Ok mark → mark_of other words state ≡ Ok mark
-words-again name other words Triggers mark h = absurd (let e = h in cc)
-words-again name other words (Plain state) mark h = h
-
-by-again : (name other : List ℕ) (line again : ℕ) (words : Option StatusWords) (mark : Mark) → mark_by name line words ≡ Ok mark → mark_by other again words ≡ Ok mark
-by-again name other line again None mark h = absurd (let e = h in cc)
-by-again name other line again (Some words) mark h = words-again name other words words.state mark h
+by-again : (line again : ℕ) (words : Option Mark) (mark : Mark) → mark_by line words ≡ Ok mark → mark_by again words ≡ Ok mark
+by-again line again None mark h = absurd (let e = h in cc)
+by-again line again (Some words) mark h = h
 
 status-again : (stanza again : StanzaText) (a b : Option FieldText) (mark : Mark) → text_in b ≡ text_in a → mark_in stanza a ≡ Ok mark → mark_in again b ≡ Ok mark
 status-again stanza again None b mark same h = absurd (let e = h in cc)
 status-again stanza again (Some field) None mark same h = absurd (let e = same in cc)
 status-again stanza again (Some field) (Some other) mark same h =
     let value : other.value ≡ field.value = let e = same in cc in
-    ap (λ v. mark_by (name_in again) other.line (read_words v)) value
-    ∙ by-again (name_in stanza) (name_in again) field.line other.line (read_words field.value) mark h
+    ap (λ v. mark_by other.line (read_words v)) value
+    ∙ by-again field.line other.line (read_words field.value) mark h
 
 -- the steps of reading
 mark-read : (refused : Option PkgFault) (later : Result Mark StatusFault) (mark : Mark) → unless_fault refused later ≡ Ok mark → (refused ≡ None) × (later ≡ Ok mark)

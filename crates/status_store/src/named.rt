@@ -15,6 +15,12 @@ use status_record::FileRecord;
 use status_text::Slot;
 use std::alloc::AllocError;
 
+fn is_deconfigurable(record: &FileRecord<'_>) -> bool
+    ensures { result ≡ Spec.is_deconfigurable «record».now.found }
+{
+    record.state().is_installed()
+}
+
 fn is_removable(record: &FileRecord<'_>) -> bool
     ensures { result ≡ Spec.is_removable «record».now.found }
 {
@@ -45,7 +51,7 @@ pub fn deconfigure_named(table: &mut Table<'_>, name: &[u8]) -> bool
 {
     match table.find(name) {
         Some(old) => {
-            if !old.is_installed() {
+            if !is_deconfigurable(old) {
                 return false;
             }
             let left = old.deconfigured();

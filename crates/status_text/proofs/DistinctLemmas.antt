@@ -16,7 +16,7 @@ use Rattle.status_text.specs.Record.{entry_of, is_seen, later_fault, read_counte
 use Rattle.status_text.specs.Slot.{FileSlot, entries_of, names_with}
 use Rattle.status_text.specs.Status.{read_item, slot_then, slots_in, with_slots}
 use Rattle.status_text.specs.declared.error.StatusFault.{StatusFault}
-use Rattle.status_text.specs.declared.mark.Mark.{Mark}
+use Rattle.status_text.specs.declared.words.Mark.{Mark}
 use Rattle.status_text.specs.declared.slot.Slot.TheVariants.{Recorded, Foreign}
 
 -- the record's name isn't among these

@@ -13,7 +13,7 @@ use Rattle.stanza.specs.Stanza.{StanzaText}
 use Rattle.status_text.specs.Kept.{IsKept, kept_record}
 use Rattle.status_text.specs.Mark.{name_in}
 use Rattle.status_text.specs.Record.{config_version_fault, later_fault, text_in, version_field}
-use Rattle.status_text.specs.declared.mark.Mark.{Mark}
+use Rattle.status_text.specs.declared.words.Mark.{Mark}
 
 none-front : (first second : Option PkgFault) → option_or first second ≡ None → first ≡ None
 none-front None second h = refl

@@ -6,7 +6,7 @@ use Rattle.rules.specs.Name.{is_name}
 use Rattle.rules.specs.State.{is_present_state}
 use Rattle.stanza.specs.Stanza.{StanzaText}
 use Rattle.status_text.specs.Record.{relations_at}
-use Rattle.status_text.specs.declared.mark.Mark.{Mark}
+use Rattle.status_text.specs.declared.words.Mark.{Mark}
 
 -- the record with these parts, and with the relations of its stanza
 abbrev pub kept_record : List ℕ → StanzaText → List ℕ → Mark → Option (List ℕ) → Option (List ℕ) → Bool → Record

@@ -13,10 +13,7 @@ use Rattle.status_text.specs.Words.{read_words}
 use Rattle.status_text.specs.declared.error.RequiredField.TheVariants as required
 use Rattle.status_text.specs.declared.error.StatusFault.{StatusFault}
 use Rattle.status_text.specs.declared.error.StatusFault.TheVariants as fault
-use Rattle.status_text.specs.declared.mark.Mark.{Mark}
-use Rattle.status_text.specs.declared.words.StateWord.{StateWord}
-use Rattle.status_text.specs.declared.words.StateWord.TheVariants.{Plain, Triggers}
-use Rattle.status_text.specs.declared.words.StatusWords.{StatusWords}
+use Rattle.status_text.specs.declared.words.Mark.{Mark}
 
 -- the refusal of a package's field, or else what comes after it
 abbrev pub unless_fault : {A : Type 0} → Option PkgFault → Result A StatusFault → Result A StatusFault
@@ -27,20 +24,15 @@ unless_fault None later = later
 abbrev pub name_in : StanzaText → List ℕ
 name_in stanza = value_in (fields_of stanza).name
 
--- what the words say, whose third says this of the state: the trigger states are refused
-abbrev pub mark_of : List ℕ → StatusWords → StateWord → Result Mark StatusFault
-mark_of name words Triggers = Err (fault.TriggerState name)
-mark_of name words (Plain state) = Ok (record { want = words.want; flag = words.flag; state = state })
-
--- what a value of the field Status on this line says, or its refusal
-abbrev pub mark_by : List ℕ → ℕ → Option StatusWords → Result Mark StatusFault
-mark_by name line None = Err (fault.BadStatus line)
-mark_by name line (Some words) = mark_of name words words.state
+-- what a field Status on this line says, or its refusal where its words say nothing
+abbrev pub mark_by : ℕ → Option Mark → Result Mark StatusFault
+mark_by line None = Err (fault.BadStatus line)
+mark_by line (Some mark) = Ok mark
 
 -- what this field Status says of a stanza's package, or its refusal
 abbrev pub mark_in : StanzaText → Option FieldText → Result Mark StatusFault
 mark_in stanza None = Err (fault.MissingField stanza.line required.Status)
-mark_in stanza (Some field) = mark_by (name_in stanza) field.line (read_words field.value)
+mark_in stanza (Some field) = mark_by field.line (read_words field.value)
 
 -- what a stanza says of its package, or its first refusal: of Package, then Status
 abbrev pub read_mark : StanzaText → Result Mark StatusFault

@@ -21,7 +21,7 @@ use Rattle.status_text.specs.Mark.{counts, name_in, read_mark, unless_fault}
 use Rattle.status_text.specs.Slot.{FileSlot}
 use Rattle.status_text.specs.declared.error.StatusFault.{StatusFault}
 use Rattle.status_text.specs.declared.error.StatusFault.TheVariants as fault
-use Rattle.status_text.specs.declared.mark.Mark.{Mark}
+use Rattle.status_text.specs.declared.words.Mark.{Mark}
 use Rattle.status_text.specs.declared.slot.Slot.TheVariants.{Recorded, Foreign}
 
 -- the text of a field, if there is one

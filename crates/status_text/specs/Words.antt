@@ -1,5 +1,5 @@
 -- The field Status of a package: three words, parted by spaces or tabs (dpkg(1), "Package states").
-use Rattle.std.specs.Prelude.{ℕ, Bool, true, false, ◌||◌, List, [], ◌∷◌, filter, Option, Some, None, codes, bytes_eq, if◌then◌else◌}
+use Rattle.std.specs.Prelude.{ℕ, Bool, true, false, List, [], ◌∷◌, filter, Option, None, bytes_eq}
 use Rattle.std.specs.List.{find, slice_split}
 use Rattle.std.specs.Option.{option_and_then, option_map}
 use Rattle.stanza.specs.Line.{is_white}
@@ -7,12 +7,10 @@ use Rattle.rules.specs.Stanza.{flag_word, state_word, want_word}
 use Rattle.rules.specs.declared.status.Flag.{Flag}
 use Rattle.rules.specs.declared.status.Flag.TheVariants as flags
 use Rattle.rules.specs.declared.status.State.{State}
-use Rattle.rules.specs.declared.status.State.TheVariants.{NotInstalled, ConfigFiles, HalfInstalled, Unpacked, HalfConfigured, Installed}
+use Rattle.rules.specs.declared.status.State.TheVariants.{NotInstalled, ConfigFiles, HalfInstalled, Unpacked, HalfConfigured, TriggersAwaited, TriggersPending, Installed}
 use Rattle.rules.specs.declared.status.Want.{Want}
 use Rattle.rules.specs.declared.status.Want.TheVariants.{Unknown, Install, Hold, Deinstall, Purge}
-use Rattle.status_text.specs.declared.words.StateWord.{StateWord}
-use Rattle.status_text.specs.declared.words.StateWord.TheVariants.{Plain, Triggers}
-use Rattle.status_text.specs.declared.words.StatusWords.{StatusWords}
+use Rattle.status_text.specs.declared.words.Mark.{Mark}
 
 -- a word has a byte at least
 abbrev pub is_some_word : List ℕ → Bool
@@ -31,28 +29,20 @@ want_named word = find (λ want. bytes_eq word (want_word want)) (Unknown ∷ In
 abbrev pub flag_named : List ℕ → Option Flag
 flag_named word = find (λ flag. bytes_eq word (flag_word flag)) (flags.Ok ∷ flags.ReinstallRequired ∷ [])
 
--- the state that the word names, if plans know it
-abbrev pub plain_state_named : List ℕ → Option State
-plain_state_named word =
+-- the state that the word names
+abbrev pub state_named : List ℕ → Option State
+state_named word =
     find (λ state. bytes_eq word (state_word state))
-    (NotInstalled ∷ ConfigFiles ∷ HalfInstalled ∷ Unpacked ∷ HalfConfigured ∷ Installed ∷ [])
+    (NotInstalled ∷ ConfigFiles ∷ HalfInstalled ∷ Unpacked ∷ HalfConfigured ∷ TriggersAwaited ∷ TriggersPending ∷ Installed ∷ [])
 
--- the word names a state in which triggers are left to be processed
-abbrev pub is_trigger_word : List ℕ → Bool
-is_trigger_word word = bytes_eq word (codes "triggers-awaited") || bytes_eq word (codes "triggers-pending")
-
--- what the word says of the state
-abbrev pub state_named : List ℕ → Option StateWord
-state_named word = if is_trigger_word word then Some Triggers else option_map (λ state. Plain state) (plain_state_named word)
-
--- these words, if each names what stands in its place
-abbrev pub status_of : List ℕ → List ℕ → List ℕ → Option StatusWords
+-- what these words say, if each names what stands in its place
+abbrev pub status_of : List ℕ → List ℕ → List ℕ → Option Mark
 status_of want flag state =
     option_and_then (λ wanted. option_and_then (λ flagged. option_map (λ stated. record { want = wanted; flag = flagged; state = stated })
     (state_named state)) (flag_named flag)) (want_named want)
 
 -- what the words say, if they are three
-abbrev pub status_in : List (List ℕ) → Option StatusWords
+abbrev pub status_in : List (List ℕ) → Option Mark
 status_in [] = None
 status_in (want ∷ []) = None
 status_in (want ∷ flag ∷ []) = None
@@ -60,5 +50,5 @@ status_in (want ∷ flag ∷ state ∷ []) = status_of want flag state
 status_in (want ∷ flag ∷ state ∷ more ∷ later) = None
 
 -- what a value of the field Status says, if it says anything
-unfoldable pub read_words : List ℕ → Option StatusWords
+unfoldable pub read_words : List ℕ → Option Mark
 read_words value = status_in (words_of value)

@@ -12,11 +12,12 @@ ghost use Rattle.status_text.specs.Slot.{names_with};
 ghost use Rattle.status_text.specs.declared.slot.Slot.TheVariants as slot;
 
 use crate::error::{StatusError, StatusFault};
-use crate::mark::{Mark, counts, field_named, mark_in};
+use crate::mark::{counts, field_named, mark_in};
 use crate::name::PackageName;
 use crate::record::StatusRecord;
 use crate::seen::Seen;
 use crate::slot::Slot;
+use crate::words::Mark;
 use debversion::Version;
 use package_stanza::is_essential;
 use relation::{PkgFault, PkgFields, RequiredField};
@@ -155,7 +156,7 @@ pub fn read_slot<'a>(
 {
     let fields = PkgFields::in_stanza(stanza);
     let name = fields.name()?;
-    let mark = mark_in(name, stanza)?;
+    let mark = mark_in(stanza)?;
     if !counts(arch, name, stanza, mark.state)? {
         return Ok(Slot::Foreign(stanza.again()));
     }

@@ -54,9 +54,6 @@ pub enum StatusFault<'a> {
     /// This package is of another architecture, and isn't not-installed.
     #[error("E14 ForeignArchitecture {0}")]
     ForeignArchitecture(PackageName<'a>),
-    /// Triggers of this package, or that it waits for, are left to be processed.
-    #[error("E15 TriggerState {0}")]
-    TriggerState(PackageName<'a>),
     /// A text of more bytes than are read.
     #[error("E10 TooLarge")]
     TooLarge,

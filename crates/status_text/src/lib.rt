@@ -16,8 +16,8 @@ mod words;
 
 pub use error::{RequiredField, StatusError, StatusFault};
 pub use file::StatusFile;
-pub use mark::Mark;
 pub use name::PackageName;
 pub use read::read_status;
 pub use record::StatusRecord;
 pub use slot::Slot;
+pub use words::Mark;

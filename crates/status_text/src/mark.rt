@@ -7,22 +7,11 @@ ghost use Rattle.status_text.specs.Mark.{name_in};
 
 use crate::error::{RequiredField, StatusFault};
 use crate::name::PackageName;
-use crate::words::{StateWord, StatusWords, read_words};
+use crate::words::{Mark, read_words};
 use package_stanza::counts_for;
 use relation::PkgFields;
-use rules::{Flag, State, Want};
+use rules::State;
 use stanza::{Field, Stanza};
-
-/// What a stanza's field Status says of its package.
-#[derive(Clone, Copy, PartialEq, Eq)]
-pub struct Mark {
-    /// What is wanted of the package.
-    pub want: Want,
-    /// Whether it is to be installed again.
-    pub flag: Flag,
-    /// How far it is.
-    pub state: State,
-}
 
 fn same_name(name: &[u8], other: &[u8]) -> bool
     ensures { result ≡ FieldSpec.same_name name.now other.now }
@@ -42,29 +31,15 @@ pub fn field_named<'a>(stanza: &Stanza<'a>, name: &[u8]) -> Option<Field<'a>>
     None
 }
 
-fn mark_of<'a>(name: &'a [u8], words: StatusWords) -> Result<Mark, StatusFault<'a>>
-    ensures { result ≡ Spec.mark_of name.now words words.state }
-{
-    match words.state {
-        StateWord::Triggers => Err(StatusFault::TriggerState(PackageName::new(name))),
-        StateWord::Plain(state) => Ok(Mark {
-            want: words.want,
-            flag: words.flag,
-            state,
-        }),
-    }
-}
-
-/// What the stanza of the package of this name says in its field Status.
-pub fn mark_in<'a>(name: &'a [u8], stanza: &Stanza<'a>) -> Result<Mark, StatusFault<'a>>
-    requires { name.now ≡ name_in stanza.now }
+/// What the stanza says in its field Status.
+pub fn mark_in<'a>(stanza: &Stanza<'a>) -> Result<Mark, StatusFault<'a>>
     ensures { result ≡ Spec.mark_in stanza.now (field_named (codes "Status") stanza.now.fields) }
 {
     match field_named(stanza, b"Status") {
         None => Err(StatusFault::MissingField(stanza.line(), RequiredField::Status)),
         Some(field) => match read_words(field.value()) {
             None => Err(StatusFault::BadStatus(field.line())),
-            Some(words) => mark_of(name, words),
+            Some(mark) => Ok(mark),
         },
     }
 }

@@ -8,7 +8,7 @@ ghost use Rattle.rules.specs.Step.{no_relations};
 ghost use Rattle.status_text.specs.Kept.{IsKept, kept_record};
 ghost use Rattle.status_text.specs.Record.{relations_at};
 
-use crate::mark::Mark;
+use crate::words::Mark;
 use debversion::Version;
 use relation::{Pkg, PkgError};
 use rules::{Flag, State, Want};

@@ -7,24 +7,15 @@ ghost use Rattle.status_text.specs.Words.{words_of};
 
 use rules::{Flag, State, Want};
 
-/// What the third word of `Status` says.
+/// What a stanza's field Status says of its package.
 #[derive(Clone, Copy, PartialEq, Eq)]
-pub enum StateWord {
-    /// A state that plans know.
-    Plain(State),
-    /// `triggers-awaited` or `triggers-pending`.
-    Triggers,
-}
-
-/// What the three words of `Status` say.
-#[derive(Clone, Copy, PartialEq, Eq)]
-pub struct StatusWords {
+pub struct Mark {
     /// What is wanted of the package.
     pub want: Want,
     /// Whether it is to be installed again.
     pub flag: Flag,
     /// How far it is.
-    pub state: StateWord,
+    pub state: State,
 }
 
 fn is_white(byte: u8) -> bool
@@ -94,8 +85,8 @@ fn flag_named(word: &[u8]) -> Option<Flag>
     }
 }
 
-fn plain_state_named(word: &[u8]) -> Option<State>
-    ensures { result ≡ Spec.plain_state_named word.now }
+fn state_named(word: &[u8]) -> Option<State>
+    ensures { result ≡ Spec.state_named word.now }
 {
     if is_word(word, b"not-installed") {
         Some(State::NotInstalled)
@@ -107,6 +98,10 @@ fn plain_state_named(word: &[u8]) -> Option<State>
         Some(State::Unpacked)
     } else if is_word(word, b"half-configured") {
         Some(State::HalfConfigured)
+    } else if is_word(word, b"triggers-awaited") {
+        Some(State::TriggersAwaited)
+    } else if is_word(word, b"triggers-pending") {
+        Some(State::TriggersPending)
     } else if is_word(word, b"installed") {
         Some(State::Installed)
     } else {
@@ -114,26 +109,10 @@ fn plain_state_named(word: &[u8]) -> Option<State>
     }
 }
 
-fn is_trigger_word(word: &[u8]) -> bool
-    ensures { result ≡ Spec.is_trigger_word word.now }
-{
-    is_word(word, b"triggers-awaited") || is_word(word, b"triggers-pending")
-}
-
-fn state_named(word: &[u8]) -> Option<StateWord>
-    ensures { result ≡ Spec.state_named word.now }
-{
-    if is_trigger_word(word) {
-        Some(StateWord::Triggers)
-    } else {
-        plain_state_named(word).map(StateWord::Plain)
-    }
-}
-
-fn status_of(want: &[u8], flag: &[u8], state: &[u8]) -> Option<StatusWords>
+fn status_of(want: &[u8], flag: &[u8], state: &[u8]) -> Option<Mark>
     ensures { result ≡ Spec.status_of want.now flag.now state.now }
 {
-    Some(StatusWords {
+    Some(Mark {
         want: want_named(want)?,
         flag: flag_named(flag)?,
         state: state_named(state)?,
@@ -143,7 +122,7 @@ fn status_of(want: &[u8], flag: &[u8], state: &[u8]) -> Option<StatusWords>
 /// What a value of the field Status says: exactly three words, parted by spaces or tabs, each of its own list.
 /// None of any other value. No memory; linear in the value.
 #[tactic(auto, unfolding(crate::specs::Words::read_words))]
-pub fn read_words(value: &[u8]) -> Option<StatusWords>
+pub fn read_words(value: &[u8]) -> Option<Mark>
     ensures { result ≡ Spec.read_words value.now }
 {
     let (want, rest) = cut_word(value)?;

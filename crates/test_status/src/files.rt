@@ -72,6 +72,8 @@ Package: a$Status: hold\tok not-installed→a Hold Sound NotInstalled;
 Package: a$Status: hold\treinstreq half-installed$Version: 1$Architecture: all→a Hold ReinstallRequired HalfInstalled 1;
 Package: a$Status: deinstall \t ok unpacked$Version: 1$Architecture: all→a Deinstall Sound Unpacked 1;
 Package: a$Status: purge ok half-configured$Version: 1$Architecture: all→a Purge Sound HalfConfigured 1;
+Package: a$Status: install ok triggers-awaited$Version: 1$Architecture: all→a Install Sound TriggersAwaited 1 config 1;
+Package: a$Status: hold reinstreq triggers-pending$Version: 1$Architecture: all→a Hold ReinstallRequired TriggersPending 1 config 1;
 Package: a$Status: install ok installed$Version: 1$Architecture: all→a Install Sound Installed 1 config 1;
 ";
 
@@ -88,6 +90,7 @@ const RECORDS: &str = "\
 →
 Package: x$Status: install ok installed$Architecture: amd64$Version: 1$Config-Version: 2$Essential: yes$→x Install Sound Installed 1 config 1 essential;
 Package: x$Status: install reinstreq unpacked$Architecture: all$Version: 2$Config-Version: 1$$Package: y$Status: deinstall ok config-files$Config-Version: 1$→x Install ReinstallRequired Unpacked 2 config 1;y Deinstall Sound ConfigFiles config 1;
+Package: x$Status: install ok triggers-pending$Architecture: amd64$Version: 1$Config-Version: 2$Triggers-Pending: /usr/lib$→x Install Sound TriggersPending 1 config 1;
 Package: x$Status: hold ok not-installed$Config-Version: 1$Depends: _$→x Hold Sound NotInstalled;
 Package: x$Status: unknown ok not-installed$Architecture: i386$Version: _$$Package: x$Status: install ok installed$Architecture: all$Version: 1$→foreign at 1;x Install Sound Installed 1 config 1;
 ";
@@ -109,8 +112,11 @@ Package: x$Status: install ok installed ok$→E12 BadStatus 2
 Package: x$Status: Install ok installed$→E12 BadStatus 2
 Package: x$Status: install$ ok installed$→E12 BadStatus 2
 Package: x$Status: install ok installe$→E12 BadStatus 2
-Package: x$Status: install ok triggers-awaited$→E15 TriggerState x
-Package: x$Status: install ok triggers-pending$→E15 TriggerState x
+Package: x$Status: install ok triggers$→E12 BadStatus 2
+Package: x$Status: install ok triggers-pending$→E9 MissingField 1 Architecture
+Package: x$Status: install ok triggers-awaited$Architecture: i386$→E14 ForeignArchitecture x
+Package: x$Status: install ok triggers-awaited$Architecture: all$→E9 MissingField 1 Version
+Package: x$Status: install ok triggers-pending$Architecture: all$Version: 1$Config-Version: _$→E6 BadVersion 5 BadByte
 Package: x$Version: 1$Status: install ok installed$Architecture: i386$→E14 ForeignArchitecture x
 Package: x$Status: purge ok config-files$Architecture: i386$→E14 ForeignArchitecture x
 Package: x$Status: install ok installed$Architecture: all$Version: 1$$Package: x$Status: install ok installed$Architecture: all$Version: _$→E13 DuplicatePackage x

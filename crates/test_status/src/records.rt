@@ -108,6 +108,9 @@ Status: hold ok installed$Version:1$package: x$Architecture: all→d→package: 
 Package: x$Status: install reinstreq half-installed$Config-Version: 0$Version: 1$Architecture: all$Tag:$ a$→c→Package: x$Status: install reinstreq installed$Version: 1$Architecture: all$Tag:$ a$
 Package: x$Status: hold ok installed$Architecture: all$Version: 1$Conffiles:$ /etc/x m$→u→Package: x$Status: install ok unpacked$Version: 2$Config-Version: 1$Architecture: all$Depends: y, z$Description: d$ more$Conffiles:$ /etc/x m$
 Package: x$Status: deinstall ok config-files$Config-Version: 1$→u→Package: x$Status: install ok unpacked$Version: 2$Architecture: all$Depends: y, z$Description: d$ more$
+Package: x$Status: install ok triggers-pending$Version: 1$triggers-pending: y$Architecture: all$Triggers-Awaited:$ z$→c→Package: x$Status: install ok installed$Version: 1$Architecture: all$
+Package: x$Status: install ok triggers-awaited$Version: 1$Triggers-Awaited: z$Architecture: all$→cd→Package: x$Status: install ok half-configured$Version: 1$Config-Version: 1$Architecture: all$
+Package: x$Status: install ok installed$Version: 1$Triggers-Awaited: z$Architecture: all$→r→Package: x$Status: deinstall ok config-files$Version: 1$Config-Version: 1$Triggers-Awaited: z$Architecture: all$
 Package: x$Status: install ok installed$Architecture: all$Version: 1$Conffiles:$ /etc/x m$→uur→Package: x$Status: deinstall ok config-files$Version: 2$Config-Version: 1$Architecture: all$Depends: y, z$Description: d$ more$Conffiles:$ /etc/x m$
 ";
 
@@ -121,6 +124,9 @@ fn stanzas_are_written_as_actions_leave_them(rt: HostRuntime) -> Result<(), Fail
 
 // The same, with the words of the record that the text is read as.
 const READ_BACK: &str = "\
+Package: x$Status: hold ok triggers-awaited$Architecture: all$Version: 1$Config-Version: 0$Triggers-Awaited: y$→→Hold Sound TriggersAwaited 1 config 1
+Package: x$Status: hold ok triggers-pending$Architecture: all$Version: 1$Config-Version: 0$→r→Deinstall Sound ConfigFiles 1 config 1
+Package: x$Status: install ok triggers-pending$Architecture: all$Version: 1$→u→Install Sound Unpacked 2 config 1
 Package: x$Status: hold reinstreq half-installed$Architecture: all$Version: 1$Config-Version: 0$→→Hold ReinstallRequired HalfInstalled 1 config 0
 Package: x$Status: hold reinstreq installed$Architecture: all$Version: 1$Essential: yes$→d→Hold ReinstallRequired HalfConfigured 1 config 1 essential
 Package: x$Status: purge ok unpacked$Architecture: all$Version: 1$Config-Version: 0$→c→Purge Sound Installed 1 config 1

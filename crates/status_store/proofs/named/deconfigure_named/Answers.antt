@@ -6,18 +6,18 @@ use Rattle.status_store.specs.Applicable.{is_deconfigurable}
 use Rattle.status_store.specs.Slots.{changed_slots}
 use Rattle.status_store.proofs.named.deconfigure_named.Goals as goal
 
-pub returns-then-not-is_installed-clause-ready : goal.returns-then-not-is_installed-clause-ready
-returns-then-not-is_installed-clause-ready c =
-    sym c.if-not-is_installed.true ∙ c.is_installed.ensures
+pub returns-then-not-is_deconfigurable-clause-ready : goal.returns-then-not-is_deconfigurable-clause-ready
+returns-then-not-is_deconfigurable-clause-ready c =
+    sym c.if-not-is_deconfigurable.true ∙ c.is_deconfigurable.ensures
     ∙ sym (ready-some c.args.name.now is_deconfigurable c.args.table.now c.in-Some.old.now c.in-Some.ensures.distinct (sym c.in-Some.ensures.record))
 
-pub returns-else-not-is_installed-clause-ready : goal.returns-else-not-is_installed-clause-ready
-returns-else-not-is_installed-clause-ready c =
-    sym c.if-not-is_installed.false ∙ c.is_installed.ensures
+pub returns-else-not-is_deconfigurable-clause-ready : goal.returns-else-not-is_deconfigurable-clause-ready
+returns-else-not-is_deconfigurable-clause-ready c =
+    sym c.if-not-is_deconfigurable.false ∙ c.is_deconfigurable.ensures
     ∙ sym (ready-some c.args.name.now is_deconfigurable c.args.table.now c.in-Some.old.now c.in-Some.ensures.distinct (sym c.in-Some.ensures.record))
 
-pub returns-else-not-is_installed-clause-left : goal.returns-else-not-is_installed-clause-left
-returns-else-not-is_installed-clause-left c =
+pub returns-else-not-is_deconfigurable-clause-left : goal.returns-else-not-is_deconfigurable-clause-left
+returns-else-not-is_deconfigurable-clause-left c =
     let name = c.args.name.now in
     let old = c.in-Some.old.now in
     let found = sym c.in-Some.ensures.record in
