@@ -1,4 +1,5 @@
 pub mod WordLemmas
+pub mod WalkLemmas
 pub mod KeptLemmas
 pub mod SeenLemmas
 pub mod SlotsLemmas

@@ -1,8 +1,9 @@
 -- What a record keeps of its stanza.
-use Rattle.std.specs.Prelude.{◌≡◌, ℕ, Bool, true, List, [], Option, Ok, IsTrue, unwrap_or}
+use Rattle.std.specs.Prelude.{◌≡◌, ℕ, Bool, true, List, [], Option, Some, Ok, IsTrue, unwrap_or}
 use Rattle.relation.specs.PkgText.{read_pkg}
 use Rattle.rules.specs.Database.{Record, pkg_of}
 use Rattle.rules.specs.Name.{is_name}
+use Rattle.rules.specs.Package.{Pkg}
 use Rattle.rules.specs.State.{is_present_state}
 use Rattle.stanza.specs.Stanza.{StanzaText}
 use Rattle.status_text.specs.Record.{relations_at}
@@ -25,3 +26,7 @@ kept_record arch stanza name mark version config_version is_essential = record {
 pub record IsKept (arch : List ℕ) (stanza : StanzaText) (found : Record) : Type 0 where
   pub name : IsTrue (is_name found.name)
   pub pkg : is_present_state found.state ≡ true → read_pkg arch stanza ≡ Ok (pkg_of found)
+
+-- this is the package of the record, where it is present, as it was tested
+abbrev pub IsTested : Record → Option Pkg → Type 0
+IsTested found tested = is_present_state found.state ≡ true → tested ≡ Some (pkg_of found)

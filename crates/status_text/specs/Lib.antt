@@ -1,4 +1,5 @@
 pub mod Words
+pub mod Walk
 pub mod Mark
 pub mod Slot
 pub mod Record

@@ -1,26 +1,29 @@
 //! One stanza of the status file: its slot, or its first refusal.
-ghost use Rattle.std.specs.Prelude.{◌≡◌, IfErr, IfOk, IsTrue, MatchResult, None, Ok, Some};
+ghost use Rattle.std.specs.Prelude.{◌≡◌, IfErr, IfOk, IsTrue, MatchResult, None, Ok, Some, true};
 ghost use Rattle.std.specs.Option.{option_and_then};
 ghost use Rattle.relation.specs.PkgFields.{fields_of};
-ghost use Rattle.relation.specs.PkgText.{pkg_name_fault, version_fault};
+ghost use Rattle.relation.specs.PkgText.{pkg_name_fault, pkg_of, pkg_version_fault, version_fault};
 ghost use Rattle.rules.specs.Name.{is_name};
+ghost use Rattle.rules.specs.State.{is_present_state};
 ghost use Rattle.status_text.specs.Error.{IsStatusFault};
-ghost use Rattle.status_text.specs.Mark.{name_in};
+ghost use Rattle.status_text.specs.Mark.{counts, name_in};
 ghost use Rattle.status_text.specs.Record as Spec;
 ghost use Rattle.status_text.specs.Record.{config_version_field, text_in, version_field};
 ghost use Rattle.status_text.specs.Slot.{names_with};
+ghost use Rattle.status_text.specs.Walk.{found_of};
 ghost use Rattle.status_text.specs.declared.slot.Slot.TheVariants as slot;
 
 use crate::error::{StatusError, StatusFault};
-use crate::mark::{counts, field_named, mark_in};
+use crate::mark::{counts_by, mark_in};
 use crate::name::PackageName;
+use crate::package::TestedPkg;
 use crate::record::StatusRecord;
 use crate::seen::Seen;
 use crate::slot::Slot;
+use crate::walk::Found;
 use crate::words::Mark;
 use debversion::Version;
-use package_stanza::is_essential;
-use relation::{PkgFault, PkgFields, RequiredField};
+use relation::{PkgFault, PkgFields};
 use rules::State;
 use stanza::{Field, Stanza};
 
@@ -39,18 +42,21 @@ fn version_in<'a>(field: &Option<Field<'a>>) -> Result<Option<Version<'a>>, PkgF
     }
 }
 
-// The version of a package in this state.
-fn version_at<'a>(stanza: &Stanza<'a>, state: State) -> Result<Option<Version<'a>>, PkgFault>
+// The version of a package in this state, whose fields are these.
+fn version_at<'a>(
+    stanza: &Stanza<'a>,
+    fields: &PkgFields<'a>,
+    state: State,
+) -> Result<Option<Version<'a>>, PkgFault>
+    requires { fields.now ≡ fields_of stanza.now }
     ensures { MatchResult result
         (λ version. (Spec.version_fault_at state stanza.now ≡ None) × (version ≡ text_in (version_field stanza.now)))
         (λ refused. Spec.version_fault_at state stanza.now ≡ Some refused) }
 {
-    match field_named(stanza, b"Version") {
-        None if state.is_present() => Err(PkgFault::MissingField(
-            stanza.line(),
-            RequiredField::Version,
-        )),
-        field => version_in(&field),
+    match fields.version() {
+        Ok(version) => Ok(Some(version)),
+        Err(PkgFault::MissingField(_, _)) if !state.is_present() => Ok(None),
+        Err(refused) => Err(refused),
     }
 }
 
@@ -63,18 +69,18 @@ fn version_again<'a>(version: &Option<Version<'a>>) -> Option<Version<'a>>
     }
 }
 
-// The version that was configured last, of a package in this state with this version.
+// The version that was configured last, of a package in this state with this version and this field Config-Version.
 fn config_version_at<'a>(
-    stanza: &Stanza<'a>,
+    field: &Option<Field<'a>>,
     state: State,
     version: &Option<Version<'a>>,
 ) -> Result<Option<Version<'a>>, PkgFault>
     ensures { MatchResult result
-        (λ configured. (Spec.config_version_fault stanza.now ≡ None)
-        × (configured ≡ Spec.config_version_at state version.now (text_in (config_version_field stanza.now))))
-        (λ refused. Spec.config_version_fault stanza.now ≡ Some refused) }
+        (λ configured. (option_and_then version_fault field.now ≡ None)
+        × (configured ≡ Spec.config_version_at state version.now (text_in field.now)))
+        (λ refused. option_and_then version_fault field.now ≡ Some refused) }
 {
-    let configured = version_in(&field_named(stanza, b"Config-Version"))?;
+    let configured = version_in(field)?;
     match state {
         State::NotInstalled => Ok(None),
         State::TriggersAwaited | State::TriggersPending | State::Installed => {
@@ -86,46 +92,67 @@ fn config_version_at<'a>(
     }
 }
 
-fn check_relations_at(fields: &PkgFields<'_>, state: State) -> Result<(), PkgFault>
-    ensures { MatchResult result (λ _. Spec.relations_fault_at state fields.now ≡ None) (λ refused. Spec.relations_fault_at state fields.now ≡ Some refused) }
+// The package of these fields in this state, whose relation fields are tested; none where it isn't present.
+fn package_at<'a>(
+    fields: &PkgFields<'a>,
+    state: State,
+    arch: &'a [u8],
+) -> Result<Option<TestedPkg<'a>>, PkgFault>
+    requires named { pkg_name_fault fields.now ≡ None }
+    requires versioned { is_present_state state ≡ true → pkg_version_fault fields.now ≡ None }
+    ensures { MatchResult result
+        (λ tested. (Spec.relations_fault_at state fields.now ≡ None)
+        × (is_present_state state ≡ true → tested ≡ Some (pkg_of arch.now fields.now)))
+        (λ refused. Spec.relations_fault_at state fields.now ≡ Some refused) }
 {
     if state.is_present() {
-        fields.check_relations()
+        let values = fields.values()?;
+        Ok(Some(TestedPkg::new(values, arch)))
     } else {
-        Ok(())
+        Ok(None)
     }
 }
 
-// The version and the config version of a package in this state, whose relation fields are tested behind them.
-fn versions_at<'a>(
+// What a stanza says of its package in this state behind the name: its version, its config version, and the package.
+fn rest_at<'a>(
     stanza: &Stanza<'a>,
-    fields: &PkgFields<'a>,
+    found: &Found<'a>,
     state: State,
-) -> Result<(Option<Version<'a>>, Option<Version<'a>>), PkgFault>
-    requires { fields.now ≡ fields_of stanza.now }
+    arch: &'a [u8],
+) -> Result<
+    (
+        Option<Version<'a>>,
+        Option<Version<'a>>,
+        Option<TestedPkg<'a>>,
+    ),
+    PkgFault,
+>
+    requires found { found.now ≡ found_of stanza.now }
+    requires named { pkg_name_fault (fields_of stanza.now) ≡ None }
     ensures { MatchResult result
-        (λ versions. (Spec.later_fault state stanza.now ≡ None) × (versions.0 ≡ text_in (version_field stanza.now))
-        × (versions.1 ≡ Spec.config_version_at state versions.0 (text_in (config_version_field stanza.now))))
+        (λ rest. (Spec.later_fault state stanza.now ≡ None) × (rest.0 ≡ text_in (version_field stanza.now))
+        × (rest.1 ≡ Spec.config_version_at state rest.0 (text_in (config_version_field stanza.now)))
+        × (is_present_state state ≡ true → rest.2 ≡ Some (pkg_of arch.now (fields_of stanza.now))))
         (λ refused. Spec.later_fault state stanza.now ≡ Some refused) }
 {
-    let version = version_at(stanza, state)?;
-    let configured = config_version_at(stanza, state, &version)?;
-    check_relations_at(fields, state)?;
-    Ok((version, configured))
+    let version = version_at(stanza, &found.pkg, state)?;
+    let configured = config_version_at(&found.config_version, state, &version)?;
+    let tested = package_at(&found.pkg, state, arch)?;
+    Ok((version, configured, tested))
 }
 
 // The record of a stanza that counts, whose name is noted.
 fn read_new<'a>(
     seen: &mut Seen<'a>,
     stanza: &Stanza<'a>,
-    fields: &PkgFields<'a>,
+    found: &Found<'a>,
     name: &'a [u8],
     mark: Mark,
     arch: &'a [u8],
 ) -> Result<StatusRecord<'a>, StatusError<'a>>
-    requires fields { fields.now ≡ fields_of stanza.now }
+    requires found { found.now ≡ found_of stanza.now }
     requires name { name.now ≡ name_in stanza.now }
-    requires named { pkg_name_fault fields.now ≡ None }
+    requires named { pkg_name_fault (fields_of stanza.now) ≡ None }
     requires valid { IsTrue (is_name name.now) }
     ensures ok { IfOk result (λ entry. (Spec.read_new arch.now seen.old stanza.now mark ≡ Ok (slot.Recorded entry)) × (seen.new ≡ names_with seen.old (slot.Recorded entry))) }
     ensures err { IfErr result (λ e. IsStatusFault e (Spec.read_new arch.now seen.old stanza.now mark)) }
@@ -133,7 +160,7 @@ fn read_new<'a>(
     if !seen.insert(name)? {
         return Err(StatusFault::DuplicatePackage(PackageName::new(name)).into());
     }
-    let (version, configured) = versions_at(stanza, fields, mark.state)?;
+    let (version, configured, tested) = rest_at(stanza, found, mark.state, arch)?;
     Ok(StatusRecord::new(
         arch,
         stanza.again(),
@@ -141,8 +168,24 @@ fn read_new<'a>(
         mark,
         version,
         configured,
-        is_essential(stanza),
+        tested,
+        found.is_essential,
     ))
+}
+
+// Whether the stanza of the package of this name, which is in this state, has a record.
+fn counts<'a>(
+    arch: &[u8],
+    name: &'a [u8],
+    stanza: &Stanza<'a>,
+    found: &Found<'a>,
+    state: State,
+) -> Result<bool, StatusFault<'a>>
+    requires found { found.now ≡ found_of stanza.now }
+    requires name { name.now ≡ name_in stanza.now }
+    ensures { result ≡ counts arch.now stanza.now state }
+{
+    counts_by(arch, name, stanza, &found.architecture, state)
 }
 
 /// The slot of a stanza behind others, whose names are noted. Its own name is noted too, if it has a record.
@@ -154,11 +197,11 @@ pub fn read_slot<'a>(
     ensures ok { IfOk result (λ slot. (Spec.read_slot arch.now seen.old stanza.now ≡ Ok slot) × (seen.new ≡ names_with seen.old slot)) }
     ensures err { IfErr result (λ e. IsStatusFault e (Spec.read_slot arch.now seen.old stanza.now)) }
 {
-    let fields = PkgFields::in_stanza(stanza);
-    let name = fields.name()?;
-    let mark = mark_in(stanza)?;
-    if !counts(arch, name, stanza, mark.state)? {
+    let found = Found::in_stanza(stanza);
+    let name = found.pkg.name()?;
+    let mark = mark_in(stanza, &found.status)?;
+    if !counts(arch, name, stanza, &found, mark.state)? {
         return Ok(Slot::Foreign(stanza.again()));
     }
-    Ok(Slot::Recorded(read_new(seen, stanza, &fields, name, mark, arch)?))
+    Ok(Slot::Recorded(read_new(seen, stanza, &found, name, mark, arch)?))
 }

@@ -8,15 +8,18 @@ mod error;
 mod file;
 mod mark;
 mod name;
+mod package;
 mod read;
 mod record;
 mod seen;
 mod slot;
+mod walk;
 mod words;
 
 pub use error::{RequiredField, StatusError, StatusFault};
 pub use file::StatusFile;
 pub use name::PackageName;
+pub use package::TestedPkg;
 pub use read::read_status;
 pub use record::StatusRecord;
 pub use slot::Slot;

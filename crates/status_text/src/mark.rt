@@ -1,7 +1,6 @@
 //! What the field Status of a stanza says of its package, and whether the stanza counts.
-ghost use Rattle.std.specs.Prelude.{◌≡◌, codes};
-ghost use Rattle.stanza.specs.Field as FieldSpec;
-ghost use Rattle.relation.specs.PkgFields.{field_named};
+ghost use Rattle.std.specs.Prelude.{◌≡◌};
+ghost use Rattle.std.specs.Option.{option_map};
 ghost use Rattle.status_text.specs.Mark as Spec;
 ghost use Rattle.status_text.specs.Mark.{name_in};
 
@@ -9,33 +8,14 @@ use crate::error::{RequiredField, StatusFault};
 use crate::name::PackageName;
 use crate::words::{Mark, read_words};
 use package_stanza::counts_for;
-use relation::PkgFields;
 use rules::State;
 use stanza::{Field, Stanza};
 
-fn same_name(name: &[u8], other: &[u8]) -> bool
-    ensures { result ≡ FieldSpec.same_name name.now other.now }
+/// What the stanza says of its package in this field Status.
+pub fn mark_in<'a>(stanza: &Stanza<'a>, status: &Option<Field<'a>>) -> Result<Mark, StatusFault<'a>>
+    ensures { result ≡ Spec.mark_in stanza.now status.now }
 {
-    name.eq_ignore_ascii_case(other)
-}
-
-/// The first field of this name. It walks over the stanza's lines.
-pub fn field_named<'a>(stanza: &Stanza<'a>, name: &[u8]) -> Option<Field<'a>>
-    ensures { result ≡ field_named name.now stanza.now.fields }
-{
-    for field in stanza.fields() {
-        if same_name(field.name(), name) {
-            return Some(field);
-        }
-    }
-    None
-}
-
-/// What the stanza says in its field Status.
-pub fn mark_in<'a>(stanza: &Stanza<'a>) -> Result<Mark, StatusFault<'a>>
-    ensures { result ≡ Spec.mark_in stanza.now (field_named (codes "Status") stanza.now.fields) }
-{
-    match field_named(stanza, b"Status") {
+    match status {
         None => Err(StatusFault::MissingField(stanza.line(), RequiredField::Status)),
         Some(field) => match read_words(field.value()) {
             None => Err(StatusFault::BadStatus(field.line())),
@@ -44,23 +24,24 @@ pub fn mark_in<'a>(stanza: &Stanza<'a>) -> Result<Mark, StatusFault<'a>>
     }
 }
 
-/// Whether the stanza of the package of this name, which is in this state, has a record.
-pub fn counts<'a>(
+/// Whether the stanza of the package of this name, which is in this state and has this field Architecture, has a record.
+pub fn counts_by<'a>(
     arch: &[u8],
     name: &'a [u8],
     stanza: &Stanza<'a>,
+    architecture: &Option<Field<'a>>,
     state: State,
 ) -> Result<bool, StatusFault<'a>>
     requires { name.now ≡ name_in stanza.now }
-    ensures { result ≡ Spec.counts arch.now stanza.now state }
+    ensures { result ≡ Spec.counts_by arch.now stanza.now state (option_map (λ field. field.value) architecture.now) }
 {
-    match stanza.get(b"Architecture") {
+    match architecture {
         None if state.is_present() => Err(StatusFault::MissingField(
             stanza.line(),
             RequiredField::Architecture,
         )),
         None => Ok(true),
-        Some(value) if counts_for(arch, value) => Ok(true),
+        Some(field) if counts_for(arch, field.value()) => Ok(true),
         Some(_) if state.is_not_installed() => Ok(false),
         Some(_) => Err(StatusFault::ForeignArchitecture(PackageName::new(name))),
     }

@@ -5,12 +5,13 @@ ghost use Rattle.rules.specs.Database.{IsPresent, pkg_of, stands};
 ghost use Rattle.rules.specs.Name.{is_name};
 ghost use Rattle.rules.specs.State.{is_hold, is_installed_state, is_present_state};
 ghost use Rattle.rules.specs.Step.{no_relations};
-ghost use Rattle.status_text.specs.Kept.{IsKept, kept_record};
+ghost use Rattle.status_text.specs.Kept.{IsKept, IsTested, kept_record};
 ghost use Rattle.status_text.specs.Record.{relations_at};
 
+use crate::package::TestedPkg;
 use crate::words::Mark;
 use debversion::Version;
-use relation::{Pkg, PkgError};
+use relation::Pkg;
 use rules::{Flag, State, Want};
 use stanza::Stanza;
 use std::alloc::{AllocError, Global};
@@ -25,13 +26,14 @@ pub struct StatusRecord<'a> {
     mark: Mark,
     version: Option<Version<'a>>,
     config_version: Option<Version<'a>>,
+    tested: Option<TestedPkg<'a>>,
     is_essential: bool,
 }
 
 impl<'a> Model for StatusRecord<'a> {
     ghost use Rattle.package_stanza.specs.Stanza.{read_stanza};
     ghost use Rattle.rules.specs.FileRecord.{FileRecord as FileRecordValue};
-    ghost use Rattle.status_text.specs.Kept.{IsKept, kept_record};
+    ghost use Rattle.status_text.specs.Kept.{IsKept, IsTested, kept_record};
 
     ghost Value = { FileRecordValue };
 
@@ -41,7 +43,8 @@ impl<'a> Model for StatusRecord<'a> {
     } };
 
     ghost invariant = { λ r. IsKept r.arch.now r.stanza
-        (kept_record r.arch.now r.stanza r.name.now r.mark r.version r.config_version r.is_essential) };
+        (kept_record r.arch.now r.stanza r.name.now r.mark r.version r.config_version r.is_essential)
+        × IsTested (kept_record r.arch.now r.stanza r.name.now r.mark r.version r.config_version r.is_essential) r.tested };
 }
 
 impl<'a> StatusRecord<'a> {
@@ -53,9 +56,11 @@ impl<'a> StatusRecord<'a> {
         mark: Mark,
         version: Option<Version<'a>>,
         config_version: Option<Version<'a>>,
+        tested: Option<TestedPkg<'a>>,
         is_essential: bool,
     ) -> StatusRecord<'a>
-        requires { IsKept arch.now stanza (kept_record arch.now stanza name.now mark version config_version is_essential) }
+        requires kept { IsKept arch.now stanza (kept_record arch.now stanza name.now mark version config_version is_essential) }
+        requires tested { IsTested (kept_record arch.now stanza name.now mark version config_version is_essential) tested }
         ensures { result ≡ record {
           found = kept_record arch.now stanza.entry name.now mark version.entry config_version.entry is_essential;
           stanza = read_stanza stanza.entry;
@@ -68,6 +73,7 @@ impl<'a> StatusRecord<'a> {
             mark,
             version,
             config_version,
+            tested,
             is_essential,
         }
     }
@@ -169,15 +175,22 @@ impl<'a> StatusRecord<'a> {
         (self.state().is_unconfigured() || self.state().is_installed()) && self.flag().is_sound()
     }
 
-    /// The package of a present record. Memory alone can fail. Linear in the stanza.
+    /// The package of a present record, whose relation fields have been tested.
+    pub fn into_tested(self) -> Option<TestedPkg<'a>>
+        ensures { IsTested self.entry.found result }
+    {
+        let StatusRecord { tested, .. } = self;
+        tested
+    }
+
+    /// The package of a present record. Memory alone can fail. Linear in the relation fields.
     pub fn pkg(&self, alloc: Global) -> Result<Pkg<'a>, AllocError>
         requires { IsPresent self.now.found }
         ensures { IfOk result (λ pkg. pkg ≡ pkg_of self.now.found) }
     {
-        match Pkg::from_stanza(alloc, &self.stanza, self.arch) {
-            Ok(pkg) => Ok(pkg),
-            Err(PkgError::OutOfMemory) => Err(AllocError),
-            Err(_) => unreachable!(),
+        match &self.tested {
+            Some(tested) => tested.pkg(alloc),
+            None => unreachable!(),
         }
     }
 }
