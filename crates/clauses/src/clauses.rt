@@ -1,6 +1,6 @@
 // Clauses, and beside them what tells a search where to begin.
 
-ghost use Rattle.std.specs.Prelude.{◌≡◌, ◌++◌, ◌∷◌, [], OnOk, length, slice_index_or};
+ghost use Rattle.std.specs.Prelude.{◌≡◌, ◌++◌, ◌∷◌, [], OnErr, OnOk, length, slice_index_or};
 
 use crate::lists::Lists;
 use crate::span::Span;
@@ -68,11 +68,12 @@ impl Clauses {
         self.clauses.at(place)
     }
 
-    /// Puts a literal at the end of the clause that isn't ended.
+    /// Puts a literal at the end of the clause that isn't ended. An error is want of memory, here and in all calls.
     pub fn push(&mut self, literal: i32) -> Result<(), AllocError>
         ensures numbers { self.new.numbers ≡ self.old.numbers }
         ensures clauses { self.new.clauses ≡ self.old.clauses }
         ensures pushed { OnOk result (self.new.open_clause ≡ self.old.open_clause ++ literal ∷ []) }
+        ensures unchanged { OnErr result (self.new ≡ self.old) }
     {
         self.clauses.push(literal)
     }
@@ -82,6 +83,7 @@ impl Clauses {
         ensures numbers { self.new.numbers ≡ self.old.numbers }
         ensures ended { OnOk result (self.new.clauses ≡ self.old.clauses ++ self.old.open_clause ∷ []) }
         ensures opened { OnOk result (self.new.open_clause ≡ []) }
+        ensures unchanged { OnErr result (self.new ≡ self.old) }
     {
         self.clauses.end()
     }

@@ -1,6 +1,6 @@
 // Lists that lie one behind another in the order in which they were ended, and the list that isn't ended yet.
 
-ghost use Rattle.std.specs.Prelude.{◌≡◌, ◌++◌, ◌∷◌, [], ◌+◌, OnOk, length, slice_index, slice_index_or};
+ghost use Rattle.std.specs.Prelude.{◌≡◌, ◌++◌, ◌∷◌, [], ◌+◌, OnErr, OnOk, length, slice_index, slice_index_or};
 
 use std::alloc::{AllocError, Global};
 use std::marker::Model;
@@ -9,7 +9,7 @@ use std::marker::Model;
 #[derive(Drop)]
 pub struct Lists<T> {
     items: Vec<T>,
-    ends: Vec<u32>,
+    ends: Vec<usize>,
 }
 
 impl<T> Model for Lists<T> {
@@ -24,17 +24,17 @@ impl<T> Model for Lists<T> {
 }
 
 // Where the list at a place ends; 0 where there is none.
-fn end_at(ends: &Vec<u32>, place: usize) -> usize
+fn end_at(ends: &Vec<usize>, place: usize) -> usize
     ensures { result ≡ slice_index ends.now.items place }
 {
     match ends.get(place) {
-        Some(end) => *end as usize,
+        Some(end) => *end,
         None => 0,
     }
 }
 
 // Where the list at a place begins.
-fn start_at(ends: &Vec<u32>, place: usize) -> usize
+fn start_at(ends: &Vec<usize>, place: usize) -> usize
     ensures { result ≡ slice_index (0 ∷ ends.now.items) place }
 {
     match place {
@@ -67,23 +67,23 @@ impl<T: Copy + Drop> Lists<T> {
         self.ends.is_empty()
     }
 
-    /// Puts an item at the end of the list that isn't ended.
+    /// Puts an item at the end of the list that isn't ended. An error is want of memory.
     pub fn push(&mut self, item: T) -> Result<(), AllocError>
         ensures closed { self.new.closed ≡ self.old.closed }
         ensures pushed { OnOk result (self.new.open_items ≡ self.old.open_items ++ item ∷ []) }
+        ensures unchanged { OnErr result (self.new ≡ self.old) }
     {
         self.items.push(item)?;
         Ok(())
     }
 
-    /// Ends the list, so that what is pushed next is in the list behind it. There is room for 4,294,967,295 items.
+    /// Ends the list, so that what is pushed next is in the list behind it. An error is want of memory.
     pub fn end(&mut self) -> Result<(), AllocError>
         ensures ended { OnOk result (self.new.closed ≡ self.old.closed ++ self.old.open_items ∷ []) }
         ensures opened { OnOk result (self.new.open_items ≡ []) }
+        ensures unchanged { OnErr result (self.new ≡ self.old) }
     {
-        let Ok(end) = u32::try_from(self.items.len()) else {
-            return Err(AllocError);
-        };
+        let end = self.items.len();
         self.ends.push(end)?;
         Ok(())
     }

@@ -69,7 +69,8 @@ abbrev pub IsOutcomeOfSpelled : Option Files → List Text → Outcome → Type 
 IsOutcomeOfSpelled files words found = (asked : Asked) × (called : Call) × (spelled (joined words) ≡ Some asked)
     × IsCallOf asked called × ((at : Files) → files ≡ Some at → IsOutcomeOfCall at called found)
 
--- The outcome is that of the words: of the call that they spell, or usage exactly where they spell none or one of them isn't UTF-8.
+-- the outcome is that of the words: of the call that they spell, or usage exactly where they spell none or one of them
+-- isn't UTF-8
 abbrev pub IsOutcomeOfWords : Option Files → List Text → Outcome → Type 0
 IsOutcomeOfWords files words found = (All IsUtf8 words × IsOutcomeOfSpelled files words found)
     ⊎ ((All IsUtf8 words × IsOutcomeOfUsage (faults_of (joined words)) found)

@@ -1,4 +1,4 @@
--- What each call of a disk makes of the facts of its file. docs/FORMATS.md, section 12, says the same in words.
+-- What each call of a disk makes of the facts of its file. docs/FORMATS.md, "What is assumed of the disk", says the same in words.
 use Rattle.std.specs.Prelude.{◌≡◌, ◌⊎◌, ◌↔◌, ℕ, ◌+◌, ◌-◌, ◌^◌, ◌≤◌, min, List, ◌++◌, length, take, drop, Result, OnOk, OnErr, MatchResult}
 use Rattle.disk.specs.Facts.{DiskFacts, Only}
 

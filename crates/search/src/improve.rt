@@ -161,7 +161,7 @@ fn decide(alloc: Global, state: &mut State<'_>, limit: u32) -> Result<Outcome, A
 }
 
 // The number of a clause that is false before all decisions, if there is one.
-fn first_conflict(state: &mut State<'_>, conflict: Option<u32>) -> Option<u32> {
+fn first_conflict(state: &mut State<'_>, conflict: Option<usize>) -> Option<usize> {
     match conflict {
         Some(_) => conflict,
         None => state.propagate(),

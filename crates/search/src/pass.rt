@@ -1,6 +1,6 @@
 // The pass over all clauses that decides an answer: whether a set makes each true.
 
-ghost use Rattle.std.specs.Prelude.{◌≡◌, ◌↔◌, ◌+◌, ◌++◌, ◌∷◌, [], false, IfOk, IsTrue, OnOk, length};
+ghost use Rattle.std.specs.Prelude.{◌≡◌, ◌↔◌, ◌+◌, ◌++◌, ◌∷◌, ◌<◌, ◌≤◌, ◌^◌, [], false, IfOk, IsTrue, OnOk, length};
 ghost use Rattle.search.specs.Set.{AreMadeTrue, IsMadeTrue, holds, is_true_in, numbers_from};
 
 use clauses::Clauses;
@@ -36,13 +36,15 @@ pub(crate) fn makes_all_true(set: &Vec<bool>, given: &Clauses) -> bool
 
 /// Whether the set has a place for each of the numbers, and doesn't hold 0.
 pub(crate) fn fits(set: &Vec<bool>, given: &Clauses) -> bool
-    ensures { IsTrue result ↔ ((length set.now.items ≡ given.now.numbers + 1) × (holds set.now.items 0 ≡ false)) }
+    ensures fits { IsTrue result ↔ ((length set.now.items ≡ given.now.numbers + 1) × (holds set.now.items 0 ≡ false)) }
+    ensures few { IsTrue result → length set.now.items ≤ 2 ^ 32 }
 {
     set.as_slice().len() == given.numbers() as usize + 1 && !at(set, 0, false)
 }
 
 /// The numbers in the set, ascending.
 pub(crate) fn members(alloc: Global, set: &Vec<bool>) -> Result<Vec<u32>, AllocError>
+    requires { length set.now.items ≤ 2 ^ 32 }
     ensures { IfOk result (λ numbers. numbers.items ≡ numbers_from 0 set.now.items) }
 {
     let mut numbers = Vec::new(alloc);
@@ -54,13 +56,11 @@ pub(crate) fn members(alloc: Global, set: &Vec<bool>) -> Result<Vec<u32>, AllocE
     Ok(numbers)
 }
 
-// Adds a number, which takes memory and fits 32 bits.
+// Adds a number, which takes memory.
 fn push_number(numbers: &mut Vec<u32>, number: usize) -> Result<(), AllocError>
+    requires { number < 2 ^ 32 }
     ensures { OnOk result (numbers.new.items ≡ numbers.old.items ++ number ∷ []) }
 {
-    let Ok(number) = u32::try_from(number) else {
-        return Err(AllocError);
-    };
-    numbers.push(number)?;
+    numbers.push(number as u32)?;
     Ok(())
 }

@@ -14,7 +14,7 @@ pub(crate) enum Ended {
 }
 
 // Propagates and decides until a clause is false; none where nothing is left to be decided.
-fn next_conflict(state: &mut State<'_>) -> Result<Option<u32>, AllocError> {
+fn next_conflict(state: &mut State<'_>) -> Result<Option<usize>, AllocError> {
     for _ in 0..state.trail.room() {
         let conflict = state.propagate();
         if conflict.is_some() {
@@ -31,10 +31,10 @@ fn next_conflict(state: &mut State<'_>) -> Result<Option<u32>, AllocError> {
 pub(crate) fn refute(
     alloc: Global,
     state: &mut State<'_>,
-    conflict: u32,
+    conflict: usize,
 ) -> Result<Refutation, AllocError> {
-    if state.store.clause(conflict as usize).is_empty() {
-        return refutation_of(alloc, &state.store, conflict as usize);
+    if state.store.clause(conflict).is_empty() {
+        return refutation_of(alloc, &state.store, conflict);
     }
     let learned = state.analyze(alloc, conflict)?;
     let last = state.log(&learned)?;
@@ -45,7 +45,7 @@ pub(crate) fn refute(
 fn after_conflict(
     alloc: Global,
     state: &mut State<'_>,
-    conflict: u32,
+    conflict: usize,
     left: &mut u32,
 ) -> Result<Option<Ended>, AllocError> {
     if state.trail.level() == 0 {

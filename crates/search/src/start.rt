@@ -75,22 +75,19 @@ fn take_up(
     watches: &mut Watches,
     clause: &[i32],
     number: usize,
-) -> Result<Option<u32>, AllocError> {
-    let Ok(reason) = u32::try_from(number) else {
-        return Err(AllocError);
-    };
+) -> Result<Option<usize>, AllocError> {
     let [first, others @ ..] = clause else {
-        return Ok(Some(reason));
+        return Ok(Some(number));
     };
     let Some(second) = another(*first, others) else {
-        return Ok(make_true(trail, *first, reason));
+        return Ok(make_true(trail, *first, number));
     };
     watch(watches, number, *first, second, others)?;
     Ok(None)
 }
 
 // Makes the literal of a clause of one true, and answers the clause where it is false.
-fn make_true(trail: &mut Trail, literal: i32, clause: u32) -> Option<u32> {
+fn make_true(trail: &mut Trail, literal: i32, clause: usize) -> Option<usize> {
     match trail.value(literal) {
         Some(true) => None,
         Some(false) => Some(clause),
@@ -106,7 +103,7 @@ fn take_up_all(
     store: &Store<'_>,
     trail: &mut Trail,
     watches: &mut Watches,
-) -> Result<Option<u32>, AllocError> {
+) -> Result<Option<usize>, AllocError> {
     for number in 1..store.len().saturating_add(1) {
         let conflict = take_up(trail, watches, store.clause(number), number)?;
         if conflict.is_some() {
@@ -120,7 +117,7 @@ fn take_up_all(
 pub(crate) fn start<'c>(
     alloc: Global,
     given: &'c Clauses,
-) -> Result<(State<'c>, Option<u32>), AllocError> {
+) -> Result<(State<'c>, Option<usize>), AllocError> {
     let mut store = Store::new(alloc, given);
     let literals = wished(alloc, &mut store)?;
     let numbers = (given.numbers() as usize).saturating_add(literals.len());

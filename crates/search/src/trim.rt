@@ -34,9 +34,9 @@ impl Refutation {
     }
 }
 
-fn mark_all(needed: &mut Vec<bool>, hints: &[u32]) {
+fn mark_all(needed: &mut Vec<bool>, hints: &[usize]) {
     for hint in hints {
-        put(needed, *hint as usize, true);
+        put(needed, *hint, true);
     }
 }
 
@@ -61,6 +61,7 @@ struct Writing {
 }
 
 impl Writing {
+    // The count stays at 4,294,967,295, far above the lines that a text may have; what is written is judged by a checker.
     fn number(&mut self, clause: usize) {
         self.count = self.count.saturating_add(1);
         put(&mut self.numbers, clause, self.count);
@@ -73,10 +74,10 @@ impl Writing {
     }
 
     // The numbers under which the hints are written.
-    fn hints_of(&self, alloc: Global, hints: &[u32]) -> Result<Vec<u32>, AllocError> {
+    fn hints_of(&self, alloc: Global, hints: &[usize]) -> Result<Vec<u32>, AllocError> {
         hints
             .iter()
-            .map(|hint| at(&self.numbers, *hint as usize, 0))
+            .map(|hint| at(&self.numbers, *hint, 0))
             .collect(alloc)
     }
 

@@ -13,7 +13,7 @@ use std::alloc::{AllocError, Global};
 #[derive(Drop)]
 pub struct Learned {
     pub(crate) literals: Vec<i32>,
-    pub(crate) hints: Vec<u32>,
+    pub(crate) hints: Vec<usize>,
     pub(crate) level: u32,
 }
 
@@ -73,7 +73,7 @@ fn resolve(
     number: usize,
 ) -> Result<(), AllocError> {
     if let Some(reason) = trail.reason_of(number) {
-        marks.mark_all(trail, store.clause(reason as usize));
+        marks.mark_all(trail, store.clause(reason));
         learned.hints.push(reason)?;
     }
     Ok(())
@@ -113,7 +113,7 @@ pub(crate) fn analyze(
     alloc: Global,
     store: &Store<'_>,
     trail: &Trail,
-    conflict: u32,
+    conflict: usize,
 ) -> Result<Learned, AllocError> {
     let mut marks = Marks {
         marked: vec![in alloc; false; trail.room()]?,
@@ -125,7 +125,7 @@ pub(crate) fn analyze(
         hints: Vec::new(alloc),
         level: 0,
     };
-    marks.mark_all(trail, store.clause(conflict as usize));
+    marks.mark_all(trail, store.clause(conflict));
     for place in (0..trail.len()).rev() {
         step(store, trail, &mut marks, &mut learned, trail.literal(place))?;
     }

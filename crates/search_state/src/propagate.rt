@@ -10,7 +10,7 @@ use crate::watch::{Watches, clause_of};
 enum Looked {
     Stays,
     Moves(i32),
-    Conflict(u32),
+    Conflict(usize),
 }
 
 // A literal of the clause that isn't false, other than the watched one.
@@ -20,7 +20,7 @@ fn another(clause: &[i32], trail: &Trail, watched: i32) -> Option<i32> {
 }
 
 // The clause has no literal but this one that isn't false.
-fn only(trail: &mut Trail, literal: i32, clause: u32) -> Looked {
+fn only(trail: &mut Trail, literal: i32, clause: usize) -> Looked {
     match trail.value(literal) {
         Some(false) => Looked::Conflict(clause),
         Some(true) => Looked::Stays,
@@ -31,20 +31,25 @@ fn only(trail: &mut Trail, literal: i32, clause: u32) -> Looked {
     }
 }
 
-fn visit(store: &Store<'_>, trail: &mut Trail, watches: &Watches, watch: u32) -> Looked {
+fn visit(store: &Store<'_>, trail: &mut Trail, watches: &Watches, watch: usize) -> Looked {
     let partner = watches.partner(watch);
     if trail.value(partner) == Some(true) {
         return Looked::Stays;
     }
     let clause = clause_of(watch);
-    match another(store.clause(clause as usize), trail, partner) {
+    match another(store.clause(clause), trail, partner) {
         Some(literal) => Looked::Moves(literal),
         None => only(trail, partner, clause),
     }
 }
 
 // Walks over the watches of a literal that became false.
-fn walk(store: &Store<'_>, trail: &mut Trail, watches: &mut Watches, literal: i32) -> Option<u32> {
+fn walk(
+    store: &Store<'_>,
+    trail: &mut Trail,
+    watches: &mut Watches,
+    literal: i32,
+) -> Option<usize> {
     let mut before = None;
     let mut next = watches.first(literal);
     for _ in 0..watches.room() {
@@ -67,7 +72,7 @@ pub(crate) fn propagate(
     store: &Store<'_>,
     trail: &mut Trail,
     watches: &mut Watches,
-) -> Option<u32> {
+) -> Option<usize> {
     for _ in 0..trail.room() {
         let Some(literal) = trail.next() else {
             return None;

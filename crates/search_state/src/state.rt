@@ -24,7 +24,7 @@ pub struct State<'c> {
 impl State<'_> {
     /// Makes true what has to be, and answers the number of a clause that is false, if there is one. No longer than the
     /// lists of watches of the literals that become true, with their clauses.
-    pub fn propagate(&mut self) -> Option<u32> {
+    pub fn propagate(&mut self) -> Option<usize> {
         propagate(&self.store, &mut self.trail, &mut self.watches)
     }
 
@@ -43,8 +43,8 @@ impl State<'_> {
 
     // Makes the first literal of a learned clause true.
     fn assert(&mut self, clause: usize, literals: &Vec<i32>) {
-        if let (Some(first), Ok(reason)) = (literals.first(), u32::try_from(clause)) {
-            self.trail.enqueue(*first, Some(reason));
+        if let Some(first) = literals.first() {
+            self.trail.enqueue(*first, Some(clause));
         }
     }
 
@@ -56,13 +56,13 @@ impl State<'_> {
 
     /// What is to be learned from the clause of this number, which is false. Linear in the trail and in the clauses
     /// that it names. An error is want of memory.
-    pub fn analyze(&self, alloc: Global, conflict: u32) -> Result<Learned, AllocError> {
+    pub fn analyze(&self, alloc: Global, conflict: usize) -> Result<Learned, AllocError> {
         analyze(alloc, &self.store, &self.trail, conflict)
     }
 
     /// Learns from the clause of this number, which is false above level 0, jumps back and makes the learned clause's
     /// first literal true. An error is want of memory.
-    pub fn learn(&mut self, alloc: Global, conflict: u32) -> Result<(), AllocError> {
+    pub fn learn(&mut self, alloc: Global, conflict: usize) -> Result<(), AllocError> {
         let learned = self.analyze(alloc, conflict)?;
         let clause = self.log(&learned)?;
         self.back_to(learned.level);

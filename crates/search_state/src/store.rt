@@ -10,7 +10,7 @@ pub struct Store<'c> {
     given: &'c Clauses,
     added: Lists<i32>,
     before_learned: usize,
-    hints: Lists<u32>,
+    hints: Lists<usize>,
 }
 
 impl<'c> Store<'c> {
@@ -50,7 +50,7 @@ impl<'c> Store<'c> {
     }
 
     /// The hints of a learned clause, numbers of clauses before it; none of another one.
-    pub fn hints(&self, number: usize) -> &[u32] {
+    pub fn hints(&self, number: usize) -> &[usize] {
         if number > self.before_learned {
             self.hints.at(number - self.before_learned - 1)
         } else {
@@ -71,7 +71,7 @@ impl<'c> Store<'c> {
     }
 
     /// Adds a learned clause with its hints, and answers its number.
-    pub(crate) fn learn(&mut self, literals: &[i32], hints: &[u32]) -> Result<usize, AllocError> {
+    pub(crate) fn learn(&mut self, literals: &[i32], hints: &[usize]) -> Result<usize, AllocError> {
         for literal in literals {
             self.added.push(*literal)?;
         }

@@ -1,5 +1,5 @@
-// Reading and writing a list at places that needn't be there. What finds answers goes by these, so that none of its
-// places needs a proof.
+// Reading and writing a list at places that needn't be there, and numbers that needn't be there either. What finds
+// answers goes by these, so that none of its places needs a proof.
 
 ghost use Rattle.std.specs.Prelude.{◌≡◌, slice_index_or};
 
@@ -17,5 +17,18 @@ pub fn at<T: Copy + Drop>(list: &Vec<T>, place: usize, otherwise: T) -> T
 pub fn put<T: Drop>(list: &mut Vec<T>, place: usize, value: T) {
     if place < list.len() {
         list[place] = value;
+    }
+}
+
+/// A number from 1 on as a list keeps it, where 0 is none.
+pub(crate) fn stored(number: Option<usize>) -> usize {
+    number.unwrap_or(0)
+}
+
+/// The number that a list keeps so.
+pub(crate) fn unstored(stored: usize) -> Option<usize> {
+    match stored {
+        0 => None,
+        _ => Some(stored),
     }
 }

@@ -2,7 +2,7 @@
 // the jump back to a level. Why literals become true stands in `propagate` and `agenda`.
 
 use crate::literal::number_of;
-use crate::table::{at, put};
+use crate::table::{at, put, stored, unstored};
 use std::alloc::{AllocError, Global};
 
 /// The literals that are true, in the order in which they became so. Level 0 is before all decisions.
@@ -10,7 +10,7 @@ use std::alloc::{AllocError, Global};
 pub struct Trail {
     values: Vec<Option<bool>>,
     levels: Vec<u32>,
-    reasons: Vec<Option<u32>>,
+    reasons: Vec<usize>,
     literals: Vec<i32>,
     len: usize,
     propagated: usize,
@@ -24,7 +24,7 @@ impl Trail {
         Ok(Trail {
             values: vec![in alloc; None; room]?,
             levels: vec![in alloc; 0; room]?,
-            reasons: vec![in alloc; None; room]?,
+            reasons: vec![in alloc; 0; room]?,
             literals: vec![in alloc; 0; room]?,
             len: 0,
             propagated: 0,
@@ -66,8 +66,8 @@ impl Trail {
     }
 
     /// The number of the clause by which the number had to be decided so; none of a decision.
-    pub(crate) fn reason_of(&self, number: usize) -> Option<u32> {
-        at(&self.reasons, number, None)
+    pub(crate) fn reason_of(&self, number: usize) -> Option<usize> {
+        unstored(at(&self.reasons, number, 0))
     }
 
     /// The level of the last decision.
@@ -77,12 +77,12 @@ impl Trail {
 
     /// Makes a literal true at the level of the last decision, by the clause of this number; by none if it is decided.
     /// That the literal had no value is for the caller.
-    pub fn enqueue(&mut self, literal: i32, reason: Option<u32>) {
+    pub fn enqueue(&mut self, literal: i32, reason: Option<usize>) {
         let number = number_of(literal);
         let level = self.level();
         put(&mut self.values, number, Some(literal > 0));
         put(&mut self.levels, number, level);
-        put(&mut self.reasons, number, reason);
+        put(&mut self.reasons, number, stored(reason));
         put(&mut self.literals, self.len, literal);
         self.len = self.len.saturating_add(1);
     }

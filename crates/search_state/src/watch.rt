@@ -2,35 +2,23 @@
 // `2 * clause + 1`, where clauses count from 1, so 0 is no watch. When a watch moves stands in `propagate`.
 
 use crate::literal::place_of;
-use crate::table::{at, put};
+use crate::table::{at, put, stored, unstored};
 use std::alloc::{AllocError, Global};
 
 /// Which literal each watch looks at, and the lists of the watches that look at one literal.
 #[derive(Drop)]
 pub struct Watches {
-    firsts: Vec<u32>,
-    nexts: Vec<u32>,
+    firsts: Vec<usize>,
+    nexts: Vec<usize>,
     literals: Vec<i32>,
 }
 
-// A watch as it is stored, where 0 is none.
-fn stored(watch: Option<u32>) -> u32 {
-    watch.unwrap_or(0)
-}
-
-fn unstored(watch: u32) -> Option<u32> {
-    match watch {
-        0 => None,
-        _ => Some(watch),
-    }
-}
-
 /// The number of the clause of a watch.
-pub(crate) fn clause_of(watch: u32) -> u32 {
+pub(crate) fn clause_of(watch: usize) -> usize {
     watch / 2
 }
 
-fn partner_of(watch: u32) -> u32 {
+fn partner_of(watch: usize) -> usize {
     watch ^ 1
 }
 
@@ -51,39 +39,39 @@ impl Watches {
     }
 
     /// The first watch that looks at the literal.
-    pub(crate) fn first(&self, literal: i32) -> Option<u32> {
+    pub(crate) fn first(&self, literal: i32) -> Option<usize> {
         unstored(at(&self.firsts, place_of(literal), 0))
     }
 
     /// The watch behind this one, of those that look at the same literal.
-    pub(crate) fn after(&self, watch: u32) -> Option<u32> {
-        unstored(at(&self.nexts, watch as usize, 0))
+    pub(crate) fn after(&self, watch: usize) -> Option<usize> {
+        unstored(at(&self.nexts, watch, 0))
     }
 
     /// The literal that the clause's other watch looks at.
-    pub(crate) fn partner(&self, watch: u32) -> i32 {
-        at(&self.literals, partner_of(watch) as usize, 0)
+    pub(crate) fn partner(&self, watch: usize) -> i32 {
+        at(&self.literals, partner_of(watch), 0)
     }
 
     // Puts a watch in front of those that look at the literal.
-    fn link(&mut self, watch: u32, literal: i32) {
+    fn link(&mut self, watch: usize, literal: i32) {
         let place = place_of(literal);
         let first = at(&self.firsts, place, 0);
-        put(&mut self.nexts, watch as usize, first);
+        put(&mut self.nexts, watch, first);
         put(&mut self.firsts, place, watch);
-        put(&mut self.literals, watch as usize, literal);
+        put(&mut self.literals, watch, literal);
     }
 
     // Leaves out of the list of the literal what stood between a watch, or the front, and another one.
-    fn unlink(&mut self, literal: i32, before: Option<u32>, after: Option<u32>) {
+    fn unlink(&mut self, literal: i32, before: Option<usize>, after: Option<usize>) {
         match before {
             None => put(&mut self.firsts, place_of(literal), stored(after)),
-            Some(before) => put(&mut self.nexts, before as usize, stored(after)),
+            Some(before) => put(&mut self.nexts, before, stored(after)),
         }
     }
 
     /// Moves a watch, which stood behind another one or in front, from one literal to another.
-    pub(crate) fn move_to(&mut self, watch: u32, before: Option<u32>, from: i32, to: i32) {
+    pub(crate) fn move_to(&mut self, watch: usize, before: Option<usize>, from: i32, to: i32) {
         let after = self.after(watch);
         self.unlink(from, before, after);
         self.link(watch, to);
@@ -98,13 +86,10 @@ impl Watches {
         Ok(())
     }
 
-    /// Watches two literals of a clause, each once. An error is want of memory, also where the clause's number is above
-    /// 2,147,483,647.
+    /// Watches two literals of a clause, each once. An error is want of memory.
     pub fn attach(&mut self, clause: usize, first: i32, second: i32) -> Result<(), AllocError> {
-        let Ok(watch) = u32::try_from(clause.saturating_mul(2)) else {
-            return Err(AllocError);
-        };
-        self.make_room((watch as usize).saturating_add(2))?;
+        let watch = clause.saturating_mul(2);
+        self.make_room(watch.saturating_add(2))?;
         self.link(watch, first);
         self.link(partner_of(watch), second);
         Ok(())

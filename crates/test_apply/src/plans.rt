@@ -1,4 +1,4 @@
-//! One plan of three steps, taken in every way. The wanted texts are made by hand after docs/FORMATS.md, "The command `apply`".
+//! One plan of three steps, taken in every way. The wanted texts are made by hand after docs/FORMATS.md, section 17.
 use apply::{begin_or_open, catch_up};
 use disk::{Failing, Fuse, MemoryDisk, Unsynced};
 use journal::{Ledger, Step, read_all};

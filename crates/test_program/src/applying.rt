@@ -16,7 +16,7 @@ Package: foo$Version: 1.0$Architecture: all$Depends: bar$";
 
 const PLAN: &str = "plan 1$unpack bar 1.0$unpack foo 1.0$configure bar$configure foo$";
 
-// The status file behind the plan. docs/FORMATS.md, section 11.
+// The status file behind the plan. docs/FORMATS.md, section 17.
 const END: &str = "\
 Package: bar$Status: install ok installed$Version: 1.0$Architecture: all$$\
 Package: foo$Status: install ok installed$Version: 1.0$Architecture: all$Depends: bar$$";

@@ -1,7 +1,7 @@
 //! What a call of the program shows and a command line over files doesn't: which files are opened and in which order, words
-//! that are empty or no text, failing readers and writers, and the calls below `run`. What the program answers over
-//! files stands in the folder `scenarios`. This crate has tests alone, so that `cli` isn't proved once more with each of
-//! them.
+//! that are empty or no text, failing readers and writers, the calls below `run`, and those over texts in memory. What the
+//! program answers over files stands in the folder `scenarios`. This crate has tests alone, so that `cli` isn't proved once
+//! more with each of them.
 #![tactic(auto)]
 
 #[cfg(test)]
@@ -18,5 +18,7 @@ mod opening;
 mod scenario;
 #[cfg(test)]
 mod streams;
+#[cfg(test)]
+mod texts;
 #[cfg(test)]
 mod words;

@@ -1,7 +1,5 @@
 -- The first number that is selected decides.
 use Rattle.std.proofs.Common.{◌∙◌, get_or, pos, refl, sym}
-use Rattle.std.proofs.lemmas.List.Quantifiers.{position-Some}
-use Rattle.search.specs.Choice.{is_positive}
 use Rattle.search.proofs.ChoiceLemmas.{none_by_first, two_by_first}
 use Rattle.search.proofs.choice.has_two.Goals as goal
 
