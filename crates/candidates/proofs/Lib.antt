@@ -5,6 +5,7 @@ pub mod Available
 pub mod Best
 pub mod Candidates
 pub mod Finding
+pub mod FirstChoice
 pub mod Given
 pub mod Kept
 pub mod Listing
