@@ -11,6 +11,7 @@ pub mod Kept
 pub mod Listing
 pub mod Named
 pub mod OfName
+pub mod OfVersion
 pub mod Ordered
 pub mod Origins
 pub mod Priorities
