@@ -51,7 +51,7 @@ first_least {X} {R} o p (z ∷ zs) up x y found within passes =
     ]
 
 -- what isn't before another by name and then by choice, and has its name, isn't by choice
-same_name_then : (o w : Ordering) → o ≡ Equal → is_lt (ordering_then o w) ≡ false → is_lt w ≡ false
+pub same_name_then : (o w : Ordering) → o ≡ Equal → is_lt (ordering_then o w) ≡ false → is_lt w ≡ false
 same_name_then Less w tied not_before = absurd (let e : Less ≡ Equal = tied in cc)
 same_name_then Equal w tied not_before = not_before
 same_name_then Greater w tied not_before = absurd (let e : Greater ≡ Equal = tied in cc)
@@ -61,7 +61,7 @@ not_less : (o : Ordering) → is_lt o ≡ false → o ≡ Less → ⊥
 not_less o fails is = let e : true ≡ false = ap is_lt (sym is) ∙ fails in cc
 
 -- an offer that isn't to be chosen before another isn't after it
-up_to-from : (offer other : Offer) → is_lt (choice_cmp offer other) ≡ false
+pub up_to-from : (offer other : Offer) → is_lt (choice_cmp offer other) ≡ false
     → IsUpTo offer.version offer.priority other.version other.priority
 unfolding IsUpTo
 up_to-from offer other not_before =

@@ -5,11 +5,13 @@ pub mod Available
 pub mod Best
 pub mod Candidates
 pub mod Finding
+pub mod FirstChoice
 pub mod Given
 pub mod Kept
 pub mod Listing
 pub mod Named
 pub mod OfName
+pub mod OfVersion
 pub mod Ordered
 pub mod Origins
 pub mod Priorities

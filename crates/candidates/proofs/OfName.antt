@@ -30,7 +30,7 @@ use Rattle.candidates.proofs.Named.{of_record-known, stands_over}
 use Rattle.candidates.proofs.Priorities.{IsEligible-from, IsEligible-is, IsEligible-one, IsKeptText-from}
 
 -- a filter that passes more changes nothing in front of one that passes less
-filter-within : {X : Type 0} (p q : X → Bool) → ((x : X) → p x ≡ true → q x ≡ true) → (xs : List X) → filter p (filter q xs) ≡ filter p xs
+pub filter-within : {X : Type 0} (p q : X → Bool) → ((x : X) → p x ≡ true → q x ≡ true) → (xs : List X) → filter p (filter q xs) ≡ filter p xs
 filter-within p q within [] = refl
 filter-within {X} p q within (x ∷ xs) = at (q x) refl (filter-within p q within xs)
   where

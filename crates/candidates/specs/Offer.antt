@@ -1,9 +1,10 @@
 -- The versions of names with their priorities, and which one is to be chosen first (apt_preferences(5)).
-use Rattle.std.specs.Prelude.{◌≡◌, ℕ, ℤ, pos, Bool, not, ◌&&◌, List, int_lt}
-use Rattle.std.specs.List.{Any, Contains, filter}
+use Rattle.std.specs.Prelude.{◌≡◌, ◌≢◌, ℕ, ℤ, pos, Bool, not, ◌&&◌, List, [], Option, MatchOption, int_lt}
+use Rattle.std.specs.List.{All, Any, Contains, filter}
 use Rattle.std.specs.List.Sorted.{IsStrictlySortedBy}
 use Rattle.std.specs.Ordering.{flip_args, int_cmp, on, then_cmp}
 use Rattle.std.specs.declared.cmp.Ordering.{Ordering}
+use Rattle.std.specs.declared.cmp.Ordering.TheVariants.{Less}
 use Rattle.rules.specs.Database.{Record}
 use Rattle.rules.specs.Name.{name_cmp}
 use Rattle.rules.specs.Priority.{IsUpTo}
@@ -41,6 +42,11 @@ offer_name_cmp = on (λ offer. offer.name) name_cmp
 -- the order of offers: by name, the last first, and of one name the one to choose first
 abbrev pub offer_cmp : Offer → Offer → Ordering
 offer_cmp = then_cmp (flip_args offer_name_cmp) choice_cmp
+
+-- it is one of the offers, and none of them is before it, unless there is none
+abbrev pub IsFirstChoice : List Offer → Option Offer → Type 0
+IsFirstChoice offers first = MatchOption first (offers ≡ [])
+    (λ best. Contains offers best × All (λ offer. offer_cmp offer best ≢ Less) offers)
 
 -- the other offer is of the same name, and this one isn't to be chosen before it
 unfoldable pub IsBeaten : Offer → Offer → Type 0

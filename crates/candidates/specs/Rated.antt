@@ -1,5 +1,5 @@
 -- Offers with the priorities that the preferences give them (apt_preferences(5)).
-use Rattle.std.specs.Prelude.{◌≡◌, ℕ, Bool, List, [], ◌∷◌, ◌++◌, map, Option, Some, None, IsSome, is_none, is_some, ◌&&◌, if◌then◌else◌}
+use Rattle.std.specs.Prelude.{◌≡◌, ℕ, ℤ, Bool, List, [], ◌∷◌, ◌++◌, map, Option, Some, None, MatchOption, IsSome, is_none, is_some, ◌&&◌, if◌then◌else◌}
 use Rattle.std.specs.List.{Any, Contains}
 use Rattle.std.specs.Option.{option_map, option_or}
 use Rattle.pins.specs.Origin.{release_origin}
@@ -28,6 +28,18 @@ origins_with stood places =
 abbrev pub origins_among : List Record → List Place → List ℕ → List ℕ → List Origin
 origins_among db places name version =
     origins_with (is_some (standing_version db name version)) (with_version name version places)
+
+-- the text of a version that is kept: that of what stands, or else that of the first of its places
+abbrev pub kept_among : Option (List ℕ) → List Place → Option (List ℕ)
+kept_among (Some text) places = Some text
+kept_among None [] = None
+kept_among None (place ∷ places) = Some place.listed.pkg.version
+
+-- the version of the name that stands in this text, if it does, and has these places has this priority, or none where it
+-- neither stands nor has a place
+abbrev pub IsPriorityFrom : Preferences → List ℕ → Option (List ℕ) → List Place → Option ℤ → Type 0
+IsPriorityFrom prefs name standing places priority = MatchOption (kept_among standing places) (priority ≡ None)
+    (λ text. MatchOption priority ⊥ (HasPriorityAmong prefs.preferences prefs.target name text (origins_with (is_some standing) places)))
 
 -- the offer is of the version of the name in this text, with the priority that it has from these origins
 pub record IsFrom (prefs : Preferences) (name version : List ℕ) (origins : List Origin) (offer : Offer) : Type 0 where

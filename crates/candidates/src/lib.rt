@@ -4,6 +4,7 @@
 
 mod known;
 mod of_name;
+mod of_version;
 mod offer;
 mod offered;
 mod order;
@@ -14,6 +15,7 @@ mod recorded;
 
 pub use known::{Known, is_held, is_recorded, stands_as};
 pub use of_name::{candidate, eligible};
+pub use of_version::priority;
 pub use offer::Offer;
 pub use offered::Offered;
 pub use order::{Found, has_name, stanza_of};

@@ -1,7 +1,7 @@
 // The candidate of one name, and its versions that may be chosen.
 
-ghost use Rattle.std.specs.Prelude.{◌≡◌, IfOk, bytes_eq, map};
-ghost use Rattle.std.specs.List.{filter, find};
+ghost use Rattle.std.specs.Prelude.{◌≡◌, IfOk, map};
+ghost use Rattle.std.specs.List.{filter};
 ghost use Rattle.std.specs.List.Sorted.{IsSorted};
 ghost use Rattle.rules.specs.Available.{Request};
 ghost use Rattle.rules.specs.Database.{HasDistinctNames};
@@ -14,8 +14,7 @@ ghost use Rattle.candidates.specs.Place.{place_cmp};
 ghost use Rattle.candidates.specs.Rated.{AreInOrder};
 
 use crate::known::Known;
-use crate::offer::{Offer, by_version};
-use crate::offered::Offered;
+use crate::offer::{Offer, by_version, first_choice};
 use crate::order::in_order;
 use crate::place::{Place, sorted_named_places};
 use crate::rated::eligible_offers;
@@ -24,30 +23,6 @@ use index::Index;
 use pins::Prefs;
 use status_text::StatusRecord;
 use std::alloc::{AllocError, Global};
-
-fn named<'a>(offers: Vec<Offer<'a>>, name: &[u8]) -> Option<Offer<'a>>
-    ensures { result ≡ find (λ offer. bytes_eq offer.name name.now) offers.entry.items }
-{
-    offers.into_iter().find(|offer| offer.name() == name)
-}
-
-/// The candidate of the name with its priority, if it has one, over these records of the start, whose names are distinct,
-/// and these indices (apt_preferences(5)). It costs what `Offered::find` costs. Memory alone can fail.
-pub fn candidate<'a>(
-    alloc: Global,
-    start: &[&StatusRecord<'a>],
-    indices: &[Index<'a>],
-    prefs: &Prefs,
-    name: &[u8],
-) -> Result<Option<Offer<'a>>, AllocError>
-    requires { HasDistinctNames (records_of (map (λ r. r.now) start.now)) }
-    ensures { (request : Request) → IfOk result (λ found. IsCandidateOf
-        (inputs_of (records_of (map (λ r. r.now) start.now)) (indices_of indices.now) prefs.now request) name.now found) }
-{
-    let recorded = records_in(alloc, start)?;
-    let offered = Offered::find(alloc, recorded, indices, prefs, false)?;
-    Ok(named(offered.candidates, name))
-}
 
 // The records of the name.
 fn records_named<'s, 'a>(recorded: Vec<Recorded<'s, 'a>>, name: &[u8]) -> Vec<Recorded<'s, 'a>>
@@ -94,4 +69,22 @@ pub fn eligible<'a>(
     let places = sorted_named_places(alloc, indices, name)?;
     let ordered = eligible_at(alloc, prefs, &known, places.as_slice())?;
     Ok(ordered)
+}
+
+/// The candidate of the name with its priority, if it has one, over these records of the start, whose names are distinct,
+/// and these indices (apt_preferences(5)): of the versions that `eligible` answers the one that is to be chosen first. It
+/// costs what `eligible` costs. Memory alone can fail.
+pub fn candidate<'a>(
+    alloc: Global,
+    start: &[&StatusRecord<'a>],
+    indices: &[Index<'a>],
+    prefs: &Prefs,
+    name: &[u8],
+) -> Result<Option<Offer<'a>>, AllocError>
+    requires { HasDistinctNames (records_of (map (λ r. r.now) start.now)) }
+    ensures { (request : Request) → IfOk result (λ found. IsCandidateOf
+        (inputs_of (records_of (map (λ r. r.now) start.now)) (indices_of indices.now) prefs.now request) name.now found) }
+{
+    let offers = eligible(alloc, start, indices, prefs, name)?;
+    Ok(first_choice(offers))
 }

@@ -4,7 +4,7 @@ ghost use Rattle.std.specs.Prelude.{◌≡◌, [], IfOk, if◌then◌else◌, re
 ghost use Rattle.std.specs.Cmp.{eq_by_cmp_equiv, partial_equiv_from_equiv, po};
 ghost use Rattle.std.specs.Ordering.{as_partial_cmp, eq_by_cmp};
 ghost use Rattle.candidates.specs.Eligible.{AreByVersion};
-ghost use Rattle.candidates.specs.Offer.{AreBest, choice_cmp, eligible, is_eligible, offer_cmp};
+ghost use Rattle.candidates.specs.Offer.{AreBest, IsFirstChoice, choice_cmp, eligible, is_eligible, offer_cmp};
 ghost use Rattle.candidates.specs.OfferLaws.{offer_cmp_total};
 
 use crate::known::{Known, is_downgrade};
@@ -126,6 +126,13 @@ pub fn by_version<'a>(offers: Vec<Offer<'a>>) -> Result<Vec<Offer<'a>>, AllocErr
     // No two are of one version, so nothing is dropped: that each is before the next is seen from this call alone.
     ordered.dedup_by(|later, kept| later.version() == kept.version());
     Ok(ordered)
+}
+
+/// The offer that is to be chosen first, if there is one: of several names the last one's. Linear.
+pub fn first_choice<'a>(offers: Vec<Offer<'a>>) -> Option<Offer<'a>>
+    ensures { IsFirstChoice offers.entry.items result }
+{
+    offers.into_iter().min()
 }
 
 /// The offer of each name that is to be chosen first, in the order of names. About n log n comparisons of n offers, and about

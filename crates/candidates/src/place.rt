@@ -4,10 +4,11 @@ ghost use Rattle.std.specs.Prelude.{◌≡◌, ◌+◌, ◌≤◌, [], IfOk, IfS
 ghost use Rattle.std.specs.Cmp.{eq_by_cmp_equiv, partial_equiv_from_equiv, po};
 ghost use Rattle.std.specs.List.{filter, prefix_len};
 ghost use Rattle.std.specs.Ordering.{as_partial_cmp, eq_by_cmp};
+ghost use Rattle.rules.specs.Available.{is_of};
 ghost use Rattle.rules.specs.Name.{name_cmp};
 ghost use Rattle.pins.specs.Origin.{release_origin};
 ghost use Rattle.candidates.specs.Inputs.{indices_of};
-ghost use Rattle.candidates.specs.Place.{AreSorted, IsNextRun, has_place_name, is_like, place_at, place_cmp, places_in, places_of};
+ghost use Rattle.candidates.specs.Place.{AreSorted, IsNextRun, has_place_name, is_like, place_at, place_cmp, places_in, places_of, with_version};
 ghost use Rattle.candidates.specs.StanzaLaws.{place_cmp_total};
 
 use crate::prefix::{order_of, prefix_of};
@@ -74,6 +75,13 @@ impl<'p, 'a> Place<'p, 'a> {
         ensures { result ≡ name_cmp self.now.listed.pkg.name other.now.listed.pkg.name }
     {
         order_of(&self.prefix, self.name(), &other.prefix, other.name())
+    }
+
+    // Whether it has this version of the name.
+    fn is_of(&self, name: &[u8], version: &Version<'_>) -> bool
+        ensures { result ≡ is_of name.now version.now self.now.listed.pkg }
+    {
+        self.name() == name && self.version() == version
     }
 
     // Whether it has the name and the version of another.
@@ -176,6 +184,21 @@ pub fn sorted_named_places<'p, 'a>(
     let mut places = named_places(alloc, indices, name)?;
     // The sort is stable, so of equal stanzas the earliest stays in front.
     places.sort()?;
+    Ok(places)
+}
+
+/// The stanzas of the indices that have this version of the name, those of the earlier index first, with the release keys of
+/// their indices. One comparison of the name with that of each stanza, and one of the version for each that has it.
+pub fn version_places<'p, 'a>(
+    alloc: Global,
+    indices: &'p [Index<'a>],
+    name: &[u8],
+    version: &Version<'_>,
+) -> Result<Vec<Place<'p, 'a>>, AllocError>
+    ensures { IfOk result (λ places. places.items ≡ with_version name.now version.now (places_of (indices_of indices.now))) }
+{
+    let mut places = named_places(alloc, indices, name)?;
+    places.retain(|place| place.is_of(name, version));
     Ok(places)
 }
 

@@ -29,7 +29,7 @@ fn status_origins<'p>(alloc: Global, stood: bool) -> Result<Vec<Origin<'p>>, All
 }
 
 // The origins of a version that has these places.
-fn origins_with<'p>(
+pub fn origins_with<'p>(
     alloc: Global,
     stood: bool,
     places: &[Place<'p, '_>],

@@ -41,8 +41,8 @@ fn candidate_over(
 
 /// The candidate of the name by the texts of a shelf, with its priority, if the name has one: the version that is to be chosen
 /// before anything is asked for (apt_preferences(5)). The request isn't read. Else the first refusal in the order status,
-/// sources, indices, preferences, as `check_plan_from` has it. Reading is linear in the texts but for the order of the
-/// stanzas, n log n; the candidates of all names are found, at the cost of `candidates::candidate`.
+/// sources, indices, preferences, as `check_plan_from` has it. Reading is linear in the texts; the candidate is found at the
+/// cost of `candidates::candidate`.
 pub fn candidate_from<S: Shelf>(
     alloc: Global,
     shelf: &mut S,
