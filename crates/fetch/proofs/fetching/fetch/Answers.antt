@@ -1,5 +1,5 @@
 -- Each turn fetches the text of the first package that is left.
-use Rattle.std.proofs.Common.{◌≡◌, ◌∙◌, ◌++◌, ◌∷◌, [], ◌+◌, ◌≤◌, ℕ, Bor, List, Vec, Global, drop, get_or, length, map, refl, rules, ap, sym, subst, arith}
+use Rattle.std.proofs.Common.{◌∙◌, ◌++◌, ◌∷◌, [], ◌+◌, ◌≤◌, ℕ, Bor, List, Vec, Global, drop, get_or, length, map, refl, rules, ap, sym, subst, arith}
 use Rattle.std.proofs.Math.ListN.{length-map}
 use Rattle.std.proofs.lemmas.List.{append-nil, drop_all, get_or_default, length_push}
 use Rattle.std.proofs.lemmas.Result.{err_from_is_err_and}

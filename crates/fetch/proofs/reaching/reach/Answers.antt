@@ -1,7 +1,7 @@
 -- Each turn reads one stanza more; where no stanza comes, none has a later number.
-use Rattle.std.proofs.Common.{◌≡◌, ◌∙◌, ◌<◌, ◌≤◌, ◌+◌, ℕ, List, true, false, sym, ap, refl, arith, rules, inl, inr}
+use Rattle.std.proofs.Common.{◌≡◌, ◌∙◌, sym, ap, arith, rules, inl, inr}
 use Rattle.std.proofs.lemmas.Result.{err_from_is_err_and}
-use Rattle.fetch.specs.Fetched.{HasRead, Items, fetch_error_of}
+use Rattle.fetch.specs.Fetched.{fetch_error_of}
 use Rattle.fetch.specs.declared.error.FetchError.TheVariants as error
 use Rattle.fetch.proofs.ItemLemmas.{goes-on, none-later, none-refused}
 use Rattle.fetch.proofs.reaching.reach.Goals as goal

@@ -1,5 +1,5 @@
 -- So many stanzas were read of whatever text the source had, and the others are left.
-use Rattle.std.proofs.Common.{◌-◌, ◌≡◌, ◌≤◌, ℕ, List, None, Some, true}
+use Rattle.std.proofs.Common.{◌-◌, ◌≡◌, ◌≤◌, ℕ, List, None, Some}
 use Rattle.fetch.specs.Fetched.{HasRead, Items}
 use Rattle.fetch.proofs.reaching.reach.Given as goal
 
