@@ -1,5 +1,5 @@
 //! The stanzas of the pairs of a universe, fetched index by index.
-ghost use Rattle.std.specs.Prelude.{◌≡◌, ◌≢◌, ◌<◌, ◌+◌, ◌-◌, ◌^◌, ℕ, List, None, Some, IfErr, IfOk, OnOk, length, map, min};
+ghost use Rattle.std.specs.Prelude.{◌≡◌, ◌≢◌, ◌<◌, ◌+◌, ◌-◌, ◌^◌, ℕ, List, None, Some, IfErr, IfOk, OnOk, length, map, min, true};
 ghost use Rattle.std.specs.List.{All, list_all};
 ghost use Rattle.std.specs.Option.{option_copied};
 ghost use Rattle.fetch.specs.Fetched.{items_in};
@@ -91,6 +91,7 @@ impl<'p, 'a> FetchedStanzas<'p, 'a> {
         ensures changed { (text : List ℕ) → S.left source.old ≡ Some text → IfErr result (λ e.
             e ≡ error.Changed → HasGone arch.now (items_in text) number self.old) }
         ensures known { (text : List ℕ) → S.left source.old ≡ Some text → IfErr result (λ e. e ≢ error.Read) }
+        ensures sure { S.is_sure source.old ≡ true → IfErr result (λ e. e ≢ error.Read) }
         ensures count { OnOk result (S.faults source.new ≡ S.faults source.old) }
         ensures failed { IfErr result (λ e. e ≡ error.Read → S.faults source.new ≡ min (S.faults source.old + 1) (2 ^ 64 - 1)) }
     {

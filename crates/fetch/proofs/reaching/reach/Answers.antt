@@ -32,5 +32,6 @@ loop-reached-preserved g c =
       so_far = λ items left known had. (let f = w.invariant.so_far items left known had in
           let k = c.in_ok-advance.ensures.known f.0 f.1 in
           (k.0, k.1, goes-on items w.reached w.reader c.advance.new.self f.0 k.0 f.2 k.2 (search rules)));
+      sure = λ sure. (c.in_ok-advance.ensures.sure (w.invariant.sure sure)).0;
       count = search rules;
     }

@@ -1,5 +1,5 @@
 -- So many stanzas were read of whatever text the source had, and the others are left.
-use Rattle.std.proofs.Common.{◌-◌, ◌≡◌, ◌≤◌, ℕ, List, None, Some}
+use Rattle.std.proofs.Common.{◌-◌, ◌≡◌, ◌≤◌, ℕ, List, None, Some, true}
 use Rattle.fetch.specs.Fetched.{HasRead, Items}
 use Rattle.fetch.proofs.reaching.reach.Given as goal
 
@@ -10,6 +10,7 @@ invariant-loop-reached g l = record {
   known : (left : List ℕ) → g.S.Source.left l.initial.source ≡ Some left → (more : List ℕ) × (g.S.Source.left l.source ≡ Some more);
   so_far : (items : Items) (left : List ℕ) → g.S.Source.left l.initial.source ≡ Some left → HasRead items l.at l.initial.reader left
       → (more : List ℕ) × (g.S.Source.left l.source ≡ Some more) × HasRead items l.reached l.reader more;
+  sure : g.S.Source.is_sure l.initial.source ≡ true → g.S.Source.is_sure l.source ≡ true;
   count : g.S.Source.faults l.source ≡ g.S.Source.faults l.initial.source;
 }
 
