@@ -1,5 +1,5 @@
 -- Where a stanza stands among what is read of a text.
-use Rattle.std.proofs.Common.{◌≡◌, ◌≢◌, ◌+◌, ◌<◌, ◌≤◌, ℕ, true, false, List, [], ◌∷◌, ◌++◌, length, map, Option, None, Some, Result, Ok, Err, refl, sym, ap, ◌∙◌, append_assoc, arith, length-append, is_some, IfSome}
+use Rattle.std.proofs.Common.{◌≡◌, ◌+◌, ◌<◌, ◌≤◌, ℕ, true, false, List, [], ◌∷◌, ◌++◌, length, map, Option, None, Some, Ok, Err, refl, sym, ap, ◌∙◌, arith, length-append, is_some}
 use Rattle.stanza.specs.Reading.{GoesOn, Reaches, Reading, to_read}
 use Rattle.stanza.specs.Stanza.{StanzaText}
 use Rattle.stanza.specs.declared.error.ReadError.{ReadError}

@@ -1,2 +1,3 @@
 pub mod ItemLemmas
 pub mod FetchedLemmas
+pub mod StanzaLemmas

@@ -1,5 +1,5 @@
 -- The texts of stanzas that are fetched in a second reading of an index (that a change is refused is this project's own).
-use Rattle.std.specs.Prelude.{◌≡◌, ℕ, ◌+◌, Bool, true, false, List, [], ◌∷◌, ◌++◌, length, map, Option, None, Some, Result, Ok, Err, ⊤, is_some, IfSome, ◌<◌}
+use Rattle.std.specs.Prelude.{◌≡◌, ℕ, ◌+◌, true, false, List, [], ◌∷◌, ◌++◌, length, map, Some, Result, Ok, is_some, IfSome, ◌<◌}
 use Rattle.std.specs.List.{AllZip, Any}
 use Rattle.index.specs.Alone.{alone}
 use Rattle.rules.specs.FileRecord.{IndexStanza}

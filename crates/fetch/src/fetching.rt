@@ -94,6 +94,7 @@ pub fn fetch<S: Source>(
     ensures changed { (text : List ℕ) → S.left source.old ≡ Some text → IfErr result (λ e.
         e ≡ error.Changed → IsChanged arch.now (items_in text) (map (λ entry. entry.now) wanted.now)) }
     ensures known { (text : List ℕ) → S.left source.old ≡ Some text → IfErr result (λ e. e ≢ error.Read) }
+    ensures sure { S.is_sure source.old ≡ true → IfErr result (λ e. e ≢ error.Read) }
     ensures count { OnOk result (S.faults source.new ≡ S.faults source.old) }
     ensures failed { IfErr result (λ e. e ≡ error.Read → S.faults source.new ≡ min (S.faults source.old + 1) (2 ^ 64 - 1)) }
 {

@@ -5,8 +5,12 @@
 
 mod error;
 mod fetching;
+mod pair_stanza;
 mod reaching;
 mod same;
+mod stanzas;
+mod wanted;
 
 pub use error::FetchError;
 pub use fetching::{fetch, in_order};
+pub use stanzas::FetchedStanzas;

@@ -1,5 +1,5 @@
 //! Going on to a stanza of an index.
-ghost use Rattle.std.specs.Prelude.{◌≡◌, ◌≢◌, ◌≤◌, ◌+◌, ◌-◌, ◌^◌, ℕ, List, None, Some, IfErr, OnOk, min};
+ghost use Rattle.std.specs.Prelude.{◌≡◌, ◌≢◌, ◌≤◌, ◌+◌, ◌-◌, ◌^◌, ℕ, List, None, Some, IfErr, OnOk, min, true};
 ghost use Rattle.stanza.specs.Stanza.{StanzaText};
 ghost use Rattle.fetch.specs.Fetched.{HasRead, IsStanzaAt, Items};
 ghost use Rattle.fetch.specs.declared.error.FetchError.TheVariants as error;
@@ -22,6 +22,7 @@ pub(crate) fn reach<S: Source>(
     ensures changed { (items : Items) (left : List ℕ) → S.left source.old ≡ Some left → HasRead items at reader.old left
         → IfErr result (λ e. e ≡ error.Changed → (stanza : StanzaText) → ¬ IsStanzaAt items number stanza) }
     ensures known { (left : List ℕ) → S.left source.old ≡ Some left → IfErr result (λ e. e ≢ error.Read) }
+    ensures sure { S.is_sure source.old ≡ true → (S.is_sure source.new ≡ true) × IfErr result (λ e. e ≢ error.Read) }
     ensures count { OnOk result (S.faults source.new ≡ S.faults source.old) }
     ensures failed { IfErr result (λ e. e ≡ error.Read → S.faults source.new ≡ min (S.faults source.old + 1) (2 ^ 64 - 1)) }
 {

@@ -1,5 +1,5 @@
 //! An index whose texts are kept, and not the text that it was read from.
-ghost use Rattle.std.specs.Prelude.{◌≡◌, ◌+◌, ◌-◌, ◌^◌, ℕ, List, Some, IfErr, IfOk, Ok, length, min};
+ghost use Rattle.std.specs.Prelude.{◌≡◌, ◌≢◌, ◌+◌, ◌-◌, ◌^◌, ℕ, List, Some, IfErr, IfOk, Ok, length, min, true};
 ghost use Rattle.index.specs.Streamed.{IsStreamFault, read_stream};
 ghost use Rattle.index.specs.declared.stream_error.StreamError.TheVariants as error;
 
@@ -56,6 +56,7 @@ impl KeptIndex {
             → IfOk result (λ kept. read_stream arch.now number before text ≡ Ok kept) }
         ensures err { (text : List ℕ) → S.left source.old ≡ Some text
             → IfErr result (λ e. IsStreamFault e (read_stream arch.now number before text)) }
+        ensures sure { S.is_sure source.old ≡ true → IfErr result (λ e. e ≢ error.Read) }
         ensures failed { IfErr result (λ e. e ≡ error.Read → S.faults source.new ≡ min (S.faults source.old + 1) (2 ^ 64 - 1)) }
     {
         let own = copied(alloc, arch)?;

@@ -1,5 +1,5 @@
 //! An index that is read from a source, a stanza at a time.
-ghost use Rattle.std.specs.Prelude.{◌≡◌, ◌+◌, ◌-◌, ◌^◌, ℕ, List, Some, IfErr, IfOk, Ok, min};
+ghost use Rattle.std.specs.Prelude.{◌≡◌, ◌≢◌, ◌+◌, ◌-◌, ◌^◌, ℕ, List, Some, IfErr, IfOk, Ok, min, true};
 ghost use Rattle.index.specs.Index.{next_place};
 ghost use Rattle.index.specs.Row.{AreRows, stanzas_at};
 ghost use Rattle.index.specs.Streamed.{IsStreamFault, read_stream};
@@ -38,6 +38,7 @@ pub fn read_rows<S: Source>(
         → IfOk result (λ kept. read_stream arch.now number before text ≡ Ok (stanzas_at arch.now number kept)) }
     ensures err { (text : List ℕ) → S.left source.old ≡ Some text
         → IfErr result (λ e. IsStreamFault e (read_stream arch.now number before text)) }
+    ensures sure { S.is_sure source.old ≡ true → IfErr result (λ e. e ≢ error.Read) }
     ensures failed { IfErr result (λ e. e ≡ error.Read → S.faults source.new ≡ min (S.faults source.old + 1) (2 ^ 64 - 1)) }
 {
     let mut kept = KeptRows::new(alloc);

@@ -108,7 +108,7 @@ impl Held {
         ensures less { IfOk result (λ is_over. (self.new.room ≤ self.old.room) × (is_over ≡ false → self.new.room < self.old.room)) }
         ensures large { (left : List ℕ) → S.left source.old ≡ Some left → IfErr result (λ e. (e ≡ read_error.OutOfMemory)
             ⊎ ((e ≡ read_error.TooLarge) × (self.old.room ≡ 0) × (0 < length left))) }
-        ensures sure { S.is_sure source.old ≡ true → OnOk result (S.is_sure source.new ≡ true) × IfErr result (λ e. e ≢ read_error.Read) }
+        ensures sure { S.is_sure source.old ≡ true → (S.is_sure source.new ≡ true) × IfErr result (λ e. e ≢ read_error.Read) }
         ensures count { OnOk result (S.faults source.new ≡ S.faults source.old) }
         ensures failed { IfErr result (λ e. e ≡ read_error.Read → S.faults source.new ≡ min (S.faults source.old + 1) (2 ^ 64 - 1)) }
     {

@@ -66,7 +66,7 @@ fn read_on<S: Source>(
     ensures refused { (left : List ℕ) → S.left source.old ≡ Some left → IfErr result (λ e. (e ≡ read_error.OutOfMemory)
         ⊎ (read_of commented held.old left ≡ Err e ∷ [])) }
     ensures gives { (left : List ℕ) → S.left source.old ≡ Some left → IfErr result (λ e. e ≢ read_error.Read) }
-    ensures sure { S.is_sure source.old ≡ true → OnOk result (S.is_sure source.new ≡ true) × IfErr result (λ e. e ≢ read_error.Read) }
+    ensures sure { S.is_sure source.old ≡ true → (S.is_sure source.new ≡ true) × IfErr result (λ e. e ≢ read_error.Read) }
     ensures count { OnOk result (S.faults source.new ≡ S.faults source.old) }
     ensures failed { IfErr result (λ e. e ≡ read_error.Read → S.faults source.new ≡ min (S.faults source.old + 1) (2 ^ 64 - 1)) }
 {
@@ -124,7 +124,8 @@ impl Reader {
         ensures goes_on { OnOk result (self.new.failed ≡ None) }
         ensures again { (e : _) → self.old.failed ≡ Some e → (result ≡ Err e) × (source.new ≡ source.old) }
         ensures gives { (left : List ℕ) → S.left source.old ≡ Some left → self.old.failed ≡ None → IfErr result (λ e. e ≢ read_error.Read) }
-        ensures sure { S.is_sure source.old ≡ true → self.old.failed ≡ None → IfErr result (λ e. e ≢ read_error.Read) }
+        ensures sure { S.is_sure source.old ≡ true → (S.is_sure source.new ≡ true)
+            × (self.old.failed ≡ None → IfErr result (λ e. e ≢ read_error.Read)) }
         ensures count { OnOk result (S.faults source.new ≡ S.faults source.old) }
         ensures failed { self.old.failed ≡ None → IfErr result (λ e. e ≡ read_error.Read → S.faults source.new ≡ min (S.faults source.old + 1) (2 ^ 64 - 1)) }
     {

@@ -16,4 +16,6 @@ mod providers;
 #[cfg(test)]
 mod sources;
 #[cfg(test)]
+mod stanzas;
+#[cfg(test)]
 mod texts;

@@ -1,5 +1,5 @@
 -- Each turn fetches the text of the first package that is left.
-use Rattle.std.proofs.Common.{◌≡◌, ◌∙◌, ◌++◌, ◌∷◌, [], ◌+◌, ◌≤◌, ℕ, Bor, List, Vec, Global, drop, get_or, length, map, refl, rules, ap, sym, subst, arith}
+use Rattle.std.proofs.Common.{◌∙◌, ◌++◌, ◌∷◌, [], ◌+◌, ◌≤◌, ℕ, Bor, List, Vec, Global, drop, get_or, length, map, refl, rules, ap, sym, subst, arith}
 use Rattle.std.proofs.Math.ListN.{length-map}
 use Rattle.std.proofs.lemmas.List.{append-nil, drop_all, get_or_default, length_push}
 use Rattle.std.proofs.lemmas.Result.{err_from_is_err_and}
@@ -17,6 +17,7 @@ loop-next-init g c = record {
   known = λ text known. (text, known, has-begun text c.in_ok-reader.reader c.in_ok-reader.ensures);
   so_far = λ text later known are. rw c.new-texts.ensures.items are;
   each = search rules;
+  sure = λ sure. sure;
   count = refl;
 }
 
@@ -69,6 +70,7 @@ loop-next-preserved g c =
           (w.invariant.so_far text (found.items ∷ later) known
           (first-fetched c.args.arch.now (items_in text) (drop w.next-index shown) (drop (w.next-index + 1) shown) c.next-item.result.now found.items later e fetched are)));
       each = omega (arith, ap length c.in_ok-push.ensures.items, length_push w.texts.items c.in_ok-text_reached.field-0, w.invariant.each);
+      sure = λ sure. (c.in_ok-reach.ensures.sure (w.invariant.sure sure)).0;
       count = search rules;
     }
 

@@ -1,5 +1,5 @@
 -- What was fetched so far are the texts of the packages before those that are left.
-use Rattle.std.proofs.Common.{◌≡◌, ◌<◌, ◌≤◌, ◌++◌, ℕ, Bor, List, None, Some, drop, get_or, length, map}
+use Rattle.std.proofs.Common.{◌≡◌, ◌<◌, ◌≤◌, ◌++◌, ℕ, Bor, List, None, Some, true, drop, get_or, length, map}
 use Rattle.rules.specs.Step.{IndexPackage}
 use Rattle.fetch.specs.Fetched.{AreFetched, HasRead, items_in}
 use Rattle.fetch.proofs.fetching.fetch.Given as goal
@@ -14,5 +14,6 @@ invariant-loop-next g l = record {
       → AreFetched l.arch (items_in text) (drop l.next-index (map (λ entry. entry.now) l.wanted)) later
       → AreFetched l.arch (items_in text) (map (λ entry. entry.now) l.wanted) (map (λ found. found.items) l.texts.items ++ later);
   each : length l.texts.items ≡ l.next-index;
+  sure : g.S.Source.is_sure l.fn.source ≡ true → g.S.Source.is_sure l.source ≡ true;
   count : g.S.Source.faults l.source ≡ g.S.Source.faults l.fn.source;
 }

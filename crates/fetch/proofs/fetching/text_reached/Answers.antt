@@ -1,8 +1,8 @@
 -- The stanza that was reached is the one with the number.
-use Rattle.std.proofs.Common.{◌≡◌, ◌∙◌, ℕ, List, true, false, sym, ap, arith, rules}
+use Rattle.std.proofs.Common.{◌≡◌, ◌∙◌, true, false, sym, ap, arith, rules}
 use Rattle.stanza.specs.Stanza.{StanzaText}
 use Rattle.fetch.specs.Fetched.{IsSamePackage}
-use Rattle.fetch.proofs.ItemLemmas.{same-place, reached-there, none-there}
+use Rattle.fetch.proofs.ItemLemmas.{same-place, reached-there}
 use Rattle.fetch.proofs.fetching.text_reached.Goals as goal
 
 pub returns-then-not-branch-clause-changed : goal.returns-then-not-branch-clause-changed

@@ -1,7 +1,7 @@
 -- Each turn reads one stanza more; where no stanza comes, none has a later number.
-use Rattle.std.proofs.Common.{◌≡◌, ◌∙◌, ◌<◌, ◌≤◌, ◌+◌, ℕ, List, true, false, sym, ap, refl, arith, rules, inl, inr}
+use Rattle.std.proofs.Common.{◌≡◌, ◌∙◌, sym, ap, arith, rules, inl, inr}
 use Rattle.std.proofs.lemmas.Result.{err_from_is_err_and}
-use Rattle.fetch.specs.Fetched.{HasRead, Items, fetch_error_of}
+use Rattle.fetch.specs.Fetched.{fetch_error_of}
 use Rattle.fetch.specs.declared.error.FetchError.TheVariants as error
 use Rattle.fetch.proofs.ItemLemmas.{goes-on, none-later, none-refused}
 use Rattle.fetch.proofs.reaching.reach.Goals as goal
@@ -32,5 +32,6 @@ loop-reached-preserved g c =
       so_far = λ items left known had. (let f = w.invariant.so_far items left known had in
           let k = c.in_ok-advance.ensures.known f.0 f.1 in
           (k.0, k.1, goes-on items w.reached w.reader c.advance.new.self f.0 k.0 f.2 k.2 (search rules)));
+      sure = λ sure. (c.in_ok-advance.ensures.sure (w.invariant.sure sure)).0;
       count = search rules;
     }

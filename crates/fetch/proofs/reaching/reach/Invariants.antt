@@ -10,6 +10,7 @@ invariant-loop-reached g l = record {
   known : (left : List ℕ) → g.S.Source.left l.initial.source ≡ Some left → (more : List ℕ) × (g.S.Source.left l.source ≡ Some more);
   so_far : (items : Items) (left : List ℕ) → g.S.Source.left l.initial.source ≡ Some left → HasRead items l.at l.initial.reader left
       → (more : List ℕ) × (g.S.Source.left l.source ≡ Some more) × HasRead items l.reached l.reader more;
+  sure : g.S.Source.is_sure l.initial.source ≡ true → g.S.Source.is_sure l.source ≡ true;
   count : g.S.Source.faults l.source ≡ g.S.Source.faults l.initial.source;
 }
 

@@ -14,6 +14,7 @@ loop-reader-init g c = record {
   sound = ap (λ (r : Reading). r.failed) c.in_ok-reader.ensures;
   rows = All-same (IsRow c.new-kept.result.arena.items) c.new-kept.result.rows.items [] c.new-kept.ensures.rows (All-nil (IsRow c.new-kept.result.arena.items));
   number = refl;
+  sure = λ sure. sure;
   faults = refl;
   so_far = λ text known. (
     text,

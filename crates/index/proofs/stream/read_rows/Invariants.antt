@@ -1,5 +1,5 @@
 -- What was kept so far, with what is still to be read, makes what is read of the text.
-use Rattle.std.proofs.Common.{◌≡◌, ◌+◌, ℕ, List, length, None, Some}
+use Rattle.std.proofs.Common.{◌≡◌, ◌+◌, ℕ, List, length, None, Some, true}
 use Rattle.stanza.specs.Reading.{to_read}
 use Rattle.index.specs.Index.{with_stanzas}
 use Rattle.index.specs.Row.{AreRows, stanzas_at}
@@ -11,6 +11,7 @@ invariant-loop-reader g l = record {
   sound : l.reader.failed ≡ None;
   rows : AreRows l.kept.arena.items l.kept.rows.items;
   number : l.place.index ≡ l.number;
+  sure : g.S.Source.is_sure l.fn.source ≡ true → g.S.Source.is_sure l.source ≡ true;
   faults : g.S.Source.faults l.source ≡ g.S.Source.faults l.fn.source;
   so_far : (text : List ℕ) → g.S.Source.left l.fn.source ≡ Some text
       → (more : List ℕ) × (g.S.Source.left l.source ≡ Some more)
