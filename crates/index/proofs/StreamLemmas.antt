@@ -1,6 +1,6 @@
 -- What one stanza gives of an index that is read stanza by stanza.
 use Rattle.std.proofs.Common.{◌≡◌, ℕ, ◌+◌, Bool, true, false, cond, List, [], ◌∷◌, Option, None, Some, Result, Ok, Err, nat_le, refl, sym, ap, ◌∙◌, arith, append-nil, codes}
-use Rattle.package_stanza.specs.Stanza.{counts_for, is_essential}
+use Rattle.relation.specs.PackageStanza.{counts_for, is_essential}
 use Rattle.relation.specs.PkgFields.{fields_of}
 use Rattle.relation.specs.PkgText.{pkg_fault, pkg_name_fault, pkg_of, unless_fault}
 use Rattle.relation.specs.PkgValues.{PkgValues, spelled, values_of}

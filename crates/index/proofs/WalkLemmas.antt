@@ -2,7 +2,7 @@
 use Rattle.std.proofs.Common.{◌≡◌, ℕ, Bool, true, false, cond, List, [], ◌∷◌, ◌++◌, Option, Some, refl, ap, ◌∙◌, codes}
 use Rattle.std.specs.Prelude.{◌||◌}
 use Rattle.std.specs.Option.{option_or}
-use Rattle.package_stanza.specs.Stanza.{field_of, is_essential}
+use Rattle.relation.specs.PackageStanza.{field_of, is_essential}
 use Rattle.relation.proofs.FieldsMore.{fields_more}
 use Rattle.rules.specs.Stanza.{marks_essential}
 use Rattle.stanza.specs.Field.{FieldText, same_name, value_named}

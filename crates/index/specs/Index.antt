@@ -1,7 +1,7 @@
 -- An index: the stanzas of a Packages file that count for an architecture, with their packages (Debian Policy 5.3,
 -- 5.6.1 and 5.6.8). That the others are skipped, after their Package was tested, is this project's own.
 use Rattle.std.specs.Prelude.{ℕ, ◌+◌, Bool, false, List, [], ◌∷◌, ◌++◌, length, Option, Some, None, Result, Ok, Err, codes, nat_le, nat_lt, if◌then◌else◌}
-use Rattle.package_stanza.specs.Stanza.{counts_for, is_essential, read_stanza}
+use Rattle.relation.specs.PackageStanza.{counts_for, is_essential, read_stanza}
 use Rattle.relation.specs.PkgFields.{fields_of}
 use Rattle.relation.specs.PkgText.{pkg_name_fault, read_fields}
 use Rattle.relation.specs.declared.error.PkgFault.{PkgFault}

@@ -1,7 +1,7 @@
 -- An index whose text comes piece by piece: its stanzas are read as far as the text is, and a text that is too long is
 -- refused where that shows (that limit is this project's own).
 use Rattle.std.specs.Prelude.{◌≡◌, ℕ, ⊤, false, List, [], ◌∷◌, Option, Some, None, Result, Ok, Err, if◌then◌else◌}
-use Rattle.package_stanza.specs.Stanza.{counts_for}
+use Rattle.relation.specs.PackageStanza.{counts_for}
 use Rattle.relation.specs.PkgText.{pkg_fault, pkg_name_fault}
 use Rattle.relation.specs.PkgValues.{PkgValues, values_of}
 use Rattle.relation.specs.declared.error.PkgFault.{PkgFault}

@@ -1,7 +1,7 @@
 -- What a walk over a stanza of an index finds.
 use Rattle.std.specs.Prelude.{ℕ, Bool, ◌||◌, List, Option, Some, None, codes, if◌then◌else◌}
 use Rattle.std.specs.Option.{option_or}
-use Rattle.package_stanza.specs.Stanza.{field_of, is_essential}
+use Rattle.relation.specs.PackageStanza.{field_of, is_essential}
 use Rattle.relation.specs.PkgFields as Pkg
 use Rattle.relation.specs.PkgFields.{fields_in}
 use Rattle.relation.specs.declared.fields.PkgFields.{PkgFields}

@@ -4,7 +4,7 @@ ghost use Rattle.std.specs.Prelude.{◌≡◌, IfOk, MatchResult, None, Ok, Some
 ghost use Rattle.index.specs.Index.{indexed_at};
 ghost use Rattle.relation.specs.PkgFields.{fields_of};
 ghost use Rattle.relation.specs.PkgText.{pkg_fault, pkg_of, read_pkg};
-ghost use Rattle.package_stanza.specs.Stanza.{is_essential as marked_essential, read_stanza};
+ghost use Rattle.relation.specs.PackageStanza.{is_essential as marked_essential, read_stanza};
 
 use crate::index_entry::IndexEntry;
 use relation::{Pkg, PkgFault, PkgFields, Version};
@@ -27,7 +27,7 @@ impl<'a> Model for IndexStanza<'a> {
     ghost use Rattle.relation.specs.PkgFields.{fields_of};
     ghost use Rattle.relation.specs.PkgText.{pkg_fault, pkg_of};
     ghost use Rattle.rules.specs.FileRecord.{IndexStanza as IndexStanzaValue};
-    ghost use Rattle.package_stanza.specs.Stanza.{read_stanza};
+    ghost use Rattle.relation.specs.PackageStanza.{read_stanza};
 
     ghost Value = { IndexStanzaValue };
 

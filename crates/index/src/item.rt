@@ -6,7 +6,7 @@ ghost use Rattle.index.specs.Walk.{found_of};
 use crate::error::IndexFault;
 use crate::index_stanza::IndexStanza;
 use crate::walk::Found;
-use package_stanza::counts_for;
+use relation::counts_for;
 use rules::IndexPlace;
 use stanza::{Stanza, StanzaError};
 

@@ -7,8 +7,7 @@ ghost use Rattle.index.specs.Streamed.{read_values, unless_refused};
 ghost use Rattle.index.specs.Walk.{found_in, found_of, value_if_named, with_field};
 
 use crate::error::IndexFault;
-use package_stanza::{counts_for, marks_essential};
-use relation::{PkgFields, PkgValues};
+use relation::{PkgFields, PkgValues, counts_for, marks_essential};
 use stanza::{Field, ReadStanza, Stanza};
 use std::marker::Model;
 

@@ -8,7 +8,7 @@ use Rattle.std.proofs.lemmas.List.Elements.{All-cons, All-nil, All-contains, Con
 use Rattle.index.specs.Index.{ReadIndex, ReadStanzas, entry_then, first_place, indexed_with, is_too_many, next_place, read_entry, read_indexed, read_native, stanzas_of, unless_name_fault, with_release, with_stanzas}
 use Rattle.index.specs.Streamed.{read_stream, read_streamed, stanzas_read}
 use Rattle.index.specs.declared.error.IndexFault.{IndexFault}
-use Rattle.package_stanza.specs.Stanza.{counts_for}
+use Rattle.relation.specs.PackageStanza.{counts_for}
 use Rattle.relation.specs.PkgFields.{fields_of}
 use Rattle.relation.specs.PkgText.{name_fault_in, pkg_fault, pkg_name_fault, pkg_of, read_fields, unless_fault, value_in}
 use Rattle.relation.specs.declared.error.PkgFault.{PkgFault}

@@ -5,3 +5,4 @@ pub mod PkgText
 pub mod PkgFields
 pub mod PkgValues
 pub mod PkgTexts
+pub mod PackageStanza

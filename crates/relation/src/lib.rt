@@ -1,7 +1,7 @@
 //! Relation fields of packages (Debian Policy, chapter 7): their values, the packages that have them, and
 //! which package matches which atom. It stands on `rules`, which says what matches, on `relation_text`, which
 //! has the text of the fields and its `check`, on `stanza` and on `debversion`. `parse_clauses` and its kin
-//! read a field, `Pkg::from_stanza` a package.
+//! read a field, `Pkg::from_stanza` a package, and `is_essential` and `counts_for` say what else a stanza says of it.
 #![tactic(auto)]
 
 mod atom;
@@ -9,6 +9,7 @@ mod error;
 mod fields;
 mod from_stanza;
 mod matching;
+mod package_stanza;
 mod parse;
 mod pkg;
 mod provided;
@@ -18,6 +19,7 @@ pub use atom::{Atom, Clause};
 pub use debversion::{Op, Version};
 pub use error::{PkgError, PkgFault, RelationError, RequiredField};
 pub use fields::PkgFields;
+pub use package_stanza::{counts_for, is_essential, marks_essential};
 pub use parse::{parse_atoms, parse_clauses, parse_provides};
 pub use pkg::Pkg;
 pub use provided::Provided;

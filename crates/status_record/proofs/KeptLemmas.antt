@@ -1,7 +1,7 @@
 -- What a record keeps of its stanza when its words change.
 use Rattle.std.proofs.Common.{◌≡◌, ℕ, Bool, true, false, List, [], Option, None, Some, Ok, refl, ap, ◌∙◌, is_some, unwrap_or, if◌then◌else◌}
 use Rattle.std.specs.Option.{option_or}
-use Rattle.package_stanza.specs.Stanza.{read_stanza}
+use Rattle.relation.specs.PackageStanza.{read_stanza}
 use Rattle.relation.specs.PkgFields.{fields_of}
 use Rattle.relation.specs.PkgText.{pkg_fault, pkg_name_fault, pkg_version_fault, relations_fault, unless_fault, value_in, version_fault_in}
 use Rattle.relation.specs.PkgText.{pkg_of as spelled_pkg}

@@ -1,6 +1,6 @@
 -- The stanza of a record, by its origin: as it was read, touched, and as the donor of fields Conffiles.
 use Rattle.std.proofs.Common.{◌≡◌, Bool, true, false, not, List, Option, None, refl, sym, ap, ◌∙◌, codes, if◌then◌else◌}
-use Rattle.package_stanza.specs.Stanza.{read_stanza}
+use Rattle.relation.specs.PackageStanza.{read_stanza}
 use Rattle.rules.specs.Database.{Record}
 use Rattle.rules.specs.FileRecord.{written_config_version, touched_stanza, unpacked_stanza}
 use Rattle.rules.specs.Stanza.{Field, Stanza, fields_called, fields_without, is_called, is_called_one_of, lasting_fields, trigger_fields}

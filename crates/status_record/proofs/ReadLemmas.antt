@@ -1,7 +1,7 @@
 -- A stanza of the status file is read as a record just where its values say that record.
 use Rattle.std.proofs.Common.{◌≡◌, ℕ, Bool, true, false, true≢false, not, List, [], Option, None, Some, Result, Ok, Err, refl, sym, ap, ◌∙◌, subst, unwrap_or, codes, if◌then◌else◌}
 use Rattle.std.specs.Option.{option_and_then, option_or}
-use Rattle.package_stanza.specs.Stanza.{counts_for, read_stanza}
+use Rattle.relation.specs.PackageStanza.{counts_for, read_stanza}
 use Rattle.relation.specs.PkgFields.{field_named, fields_of}
 use Rattle.relation.specs.PkgText.{pkg_name_fault, relations_fault, relations_of}
 use Rattle.relation.specs.declared.error.PkgFault.{PkgFault}

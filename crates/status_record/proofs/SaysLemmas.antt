@@ -1,7 +1,7 @@
 -- When the values of a stanza say a record, and how the refusals of its fields follow from their values.
 use Rattle.std.proofs.Common.{◌≡◌, ℕ, Bool, true, false, true≢false, not, List, [], Option, None, Some, refl, sym, is_some, unwrap_or, if◌then◌else◌}
 use Rattle.std.specs.Option.{option_and_then, option_map, option_or}
-use Rattle.package_stanza.specs.Stanza.{counts_for}
+use Rattle.relation.specs.PackageStanza.{counts_for}
 use Rattle.relation.specs.PkgFields.{fields_of}
 use Rattle.relation.specs.PkgText.{name_fault_in, on_line, relation_fault_in, relations_fault, relations_of, value_in, version_fault, version_fault_in}
 use Rattle.relation.specs.declared.error.PkgFault.{PkgFault}

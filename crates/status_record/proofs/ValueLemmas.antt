@@ -3,7 +3,7 @@ use Rattle.std.proofs.Common.{◌≡◌, ℕ, Bool, true, false, true≢false, n
 use Rattle.std.proofs.lemmas.Bool.{cases_Bool}
 use Rattle.std.proofs.lemmas.List.Elements.{filter-append}
 use Rattle.std.specs.List.{filter, flat_map}
-use Rattle.package_stanza.specs.Stanza.{field_of, is_essential}
+use Rattle.relation.specs.PackageStanza.{field_of, is_essential}
 use Rattle.relation.specs.PkgFields.{field_named}
 use Rattle.rules.specs.Database.{Record}
 use Rattle.rules.specs.FileRecord.{status_of}

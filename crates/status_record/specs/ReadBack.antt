@@ -1,7 +1,7 @@
 -- What is written of a record reads as that record, whatever was read and done before.
 use Rattle.std.specs.Prelude.{◌≡◌, ℕ, false, List, map, Ok, Some}
 use Rattle.index.specs.Index.{read_entry}
-use Rattle.package_stanza.specs.Stanza.{field_of, read_stanza}
+use Rattle.relation.specs.PackageStanza.{field_of, read_stanza}
 use Rattle.rules.specs.Database.{IsPresent}
 use Rattle.rules.specs.FileRecord.{FileRecord, IndexStanza, new_entry, touched_entry, unpacked_entry}
 use Rattle.rules.specs.Step.{configured, deconfigured, removed}

@@ -1,6 +1,6 @@
 -- Where the stanza of a record comes from, once actions have touched it.
 use Rattle.std.specs.Prelude.{◌≡◌, ℕ, false, List, [], map, ⊤, Option, Some, None, if◌then◌else◌}
-use Rattle.package_stanza.specs.Stanza.{field_of, read_stanza}
+use Rattle.relation.specs.PackageStanza.{field_of, read_stanza}
 use Rattle.rules.specs.Database.{Record}
 use Rattle.rules.specs.FileRecord.{FileRecord, status_of, touched_stanza, written_config_version}
 use Rattle.rules.specs.Stanza.{Field, Stanza, fields_without, trigger_fields, unpacked_fields}

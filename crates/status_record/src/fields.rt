@@ -1,6 +1,6 @@
 //! Fields by their names.
 ghost use Rattle.std.specs.Prelude.{◌≡◌, ◌∷◌, [], codes};
-ghost use Rattle.package_stanza.specs.Stanza.{field_of};
+ghost use Rattle.relation.specs.PackageStanza.{field_of};
 ghost use Rattle.rules.specs.Stanza as Spec;
 ghost use Rattle.rules.specs.Stanza.{index_only, is_called_one_of, trigger_fields};
 ghost use Rattle.status_record.specs.Written as Written;

@@ -1,7 +1,7 @@
 //! Writing the stanza of a record onto the end of a text.
 ghost use Rattle.std.specs.Prelude.{◌≡◌, ◌++◌, OnErr, OnOk, codes, length, take};
 ghost use Rattle.std.specs.List.{filter};
-ghost use Rattle.package_stanza.specs.Stanza.{field_of};
+ghost use Rattle.relation.specs.PackageStanza.{field_of};
 ghost use Rattle.rules.specs.FileRecord.{written_config_version};
 ghost use Rattle.rules.specs.Stanza.{config_fields, fields_called, status_field, unpacked_fields, with_config_version};
 ghost use Rattle.status_record.specs.StanzaOrigin.{fields_in, fields_of};

@@ -9,7 +9,7 @@ use Rattle.stanza.specs.Field.{is_colon, name_of, value_of, without_newline, tri
 use Rattle.stanza.specs.File.{Piece, Comment, Group, lines_of_piece, IsPiece, IsFieldLine, fields_in}
 use Rattle.stanza.proofs.LineLemmas.{lines_of-head}
 use Rattle.stanza.proofs.StanzaLemmas.{NoSeparators}
-use Rattle.package_stanza.specs.Stanza.{field_of}
+use Rattle.relation.specs.PackageStanza.{field_of}
 use Rattle.status_spelling.specs.Spelling.{closed}
 use Rattle.status_spelling.proofs.MoreLemmas.{white-plain}
 use Rattle.status_spelling.proofs.ValueLemmas.{without_newline-closed}

@@ -12,7 +12,7 @@ use Rattle.stanza.specs.File.{Piece, Comment, Group, lines_of_piece, IsPiece, Is
 use Rattle.stanza.proofs.StanzaLemmas.{NoSeparators}
 use Rattle.stanza.proofs.GroupLemmas.{fields_of-pieces, Groups-from_clean}
 use Rattle.stanza.proofs.AloneLemmas.{AreLines, AreLines-front, lines_of-concat, Alone, alone-from_items}
-use Rattle.package_stanza.specs.Stanza.{field_of}
+use Rattle.relation.specs.PackageStanza.{field_of}
 use Rattle.status_spelling.specs.Writable.{is_more, behind_first, IsWritable, AreWritable}
 use Rattle.status_spelling.proofs.LineLemmas.{behind_first-plain}
 use Rattle.status_spelling.proofs.TrimLemmas.{trim-twice}

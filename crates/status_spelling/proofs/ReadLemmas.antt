@@ -11,7 +11,7 @@ use Rattle.stanza.specs.File.{Piece, Comment, Group, lines_of_piece, names_in, A
 use Rattle.stanza.proofs.LineLemmas.{concat-lines_of}
 use Rattle.stanza.proofs.StanzaLemmas.{EndsStanza, items-front, items-separator}
 use Rattle.stanza.proofs.GroupLemmas.{fields_of-pieces, clean-from_Groups}
-use Rattle.package_stanza.specs.Stanza.{field_of, read_stanza}
+use Rattle.relation.specs.PackageStanza.{field_of, read_stanza}
 use Rattle.status_spelling.specs.Spelling.{stanza_text, file_text}
 use Rattle.status_spelling.specs.ReadBack.{ReadsAs, as_written}
 use Rattle.status_spelling.proofs.NameLemmas.{is_comment-plain}

@@ -6,7 +6,7 @@ use Rattle.stanza.specs.Line.{lines_of, IsWhole}
 use Rattle.stanza.specs.Field.{value_of}
 use Rattle.stanza.specs.File.{Piece, Group, lines_of_piece, IsPiece, fields_in}
 use Rattle.stanza.proofs.StanzaLemmas.{NoSeparators}
-use Rattle.package_stanza.specs.Stanza.{field_of}
+use Rattle.relation.specs.PackageStanza.{field_of}
 use Rattle.status_spelling.specs.Spelling.{field_text, fields_text}
 use Rattle.status_spelling.specs.Writable.{IsWritable}
 use Rattle.status_spelling.proofs.LineLemmas.{IsWhole-append}

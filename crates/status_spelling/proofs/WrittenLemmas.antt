@@ -8,7 +8,7 @@ use Rattle.stanza.specs.Field.{without_newline}
 use Rattle.stanza.specs.Stanza.{StanzaText}
 use Rattle.stanza.proofs.StanzaLemmas.{NoSeparators}
 use Rattle.stanza.proofs.AloneLemmas.{lines_of-concat}
-use Rattle.package_stanza.specs.Stanza.{field_of}
+use Rattle.relation.specs.PackageStanza.{field_of}
 use Rattle.status_spelling.specs.Spelling.{fields_text, closed, stanza_text}
 use Rattle.status_spelling.specs.ReadBack.{WasRead, WasTouched, IsWritableStanza}
 use Rattle.status_spelling.proofs.LineLemmas.{IsWhole-closed}

@@ -3,7 +3,7 @@ use Rattle.std.specs.Prelude.{◌≡◌, ℕ, false, ◌⊎◌, List, [], ◌∷
 use Rattle.std.specs.List.{AllByRecursion}
 use Rattle.rules.specs.Stanza.{Field, Stanza}
 use Rattle.stanza.specs.Stanza.{StanzaText, items_of}
-use Rattle.package_stanza.specs.Stanza.{field_of, read_stanza}
+use Rattle.relation.specs.PackageStanza.{field_of, read_stanza}
 use Rattle.status_spelling.specs.Spelling.{fields_text, stanza_text, file_text}
 use Rattle.status_spelling.specs.Writable.{AreWritable}
 

@@ -4,7 +4,7 @@ use Rattle.std.proofs.lemmas.Bool.{le-ltb}
 use Rattle.std.proofs.lemmas.List.Folds.{list_any-append}
 use Rattle.std.specs.List.{AllByRecursion}
 use Rattle.std.specs.Option.{option_map_or}
-use Rattle.package_stanza.specs.Stanza.{read_stanza}
+use Rattle.relation.specs.PackageStanza.{read_stanza}
 use Rattle.rules.specs.FileRecord.{FileRecord}
 use Rattle.rules.specs.Stanza.{Field, Stanza}
 use Rattle.rules.specs.declared.limits.TheConstants.{TEXT_BYTES}

@@ -3,7 +3,7 @@ use Rattle.std.proofs.Common.{◌≡◌, ℕ, Bool, true, false, List, [], ◌�
 use Rattle.std.specs.Prelude.{Contains}
 use Rattle.std.specs.List.{AllByRecursion}
 use Rattle.std.specs.Option.{option_and_then}
-use Rattle.package_stanza.specs.Stanza.{read_stanza}
+use Rattle.relation.specs.PackageStanza.{read_stanza}
 use Rattle.rules.specs.ElementLaws.{Contains-head, Contains-rest}
 use Rattle.rules.specs.FileRecord.{FileRecord}
 use Rattle.rules.specs.VersionFault.{first_fault}

@@ -1,6 +1,6 @@
 -- A stanza that has no record has none by the values of its fields, wherever its lines stand and whatever stands before it.
 use Rattle.std.proofs.Common.{◌≡◌, ℕ, Bool, true, false, List, Option, None, Some, Result, Ok, Err, refl, sym, ap, ◌∙◌, codes, if◌then◌else◌}
-use Rattle.package_stanza.specs.Stanza.{counts_for}
+use Rattle.relation.specs.PackageStanza.{counts_for}
 use Rattle.relation.specs.PkgFields.{field_named, fields_of}
 use Rattle.relation.specs.PkgText.{name_fault_in, pkg_name_fault, value_in}
 use Rattle.relation.specs.declared.error.PkgFault.{PkgFault}

@@ -4,7 +4,7 @@ use Rattle.std.specs.Prelude.{Contains}
 use Rattle.std.specs.Option.{option_or}
 use Rattle.index.specs.Alone.{alone_in, unless_refused}
 use Rattle.index.specs.Index.{first_place, indexed_at, indexed_with, read_entry, read_indexed, read_native, unless_name_fault}
-use Rattle.package_stanza.specs.Stanza.{counts_for}
+use Rattle.relation.specs.PackageStanza.{counts_for}
 use Rattle.index.specs.declared.error.IndexFault.{IndexFault}
 use Rattle.relation.specs.PkgFields.{fields_of}
 use Rattle.relation.specs.PkgText.{pkg_fault, pkg_name_fault, pkg_of, pkg_version_fault, relations_fault, unless_fault}

@@ -1,7 +1,7 @@
 -- The status file, written and read again: the same records and the same stanzas in the same order (dpkg(1); Policy 5.1).
 use Rattle.std.specs.Prelude.{◌≡◌, ◌≤◌, ℕ, List, map, length, Option, Some, None, Ok}
 use Rattle.std.specs.List.{AllByRecursion}
-use Rattle.package_stanza.specs.Stanza.{field_of, read_stanza}
+use Rattle.relation.specs.PackageStanza.{field_of, read_stanza}
 use Rattle.rules.specs.Database.{HasDistinctNames, Record}
 use Rattle.rules.specs.Stanza.{Stanza}
 use Rattle.rules.specs.declared.limits.TheConstants.{TEXT_BYTES}

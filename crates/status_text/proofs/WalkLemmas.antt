@@ -2,7 +2,7 @@
 use Rattle.std.proofs.Common.{◌≡◌, ℕ, Bool, true, false, List, [], ◌∷◌, ◌++◌, refl, ap, ◌∙◌, codes, inl, inr}
 use Rattle.std.proofs.lemmas.Bool.{cases_Bool}
 use Rattle.std.specs.Prelude.{◌||◌}
-use Rattle.package_stanza.specs.Stanza.{field_of, is_essential}
+use Rattle.relation.specs.PackageStanza.{field_of, is_essential}
 use Rattle.relation.proofs.FieldsMore.{field_named_more, fields_more}
 use Rattle.relation.specs.PkgFields.{field_named}
 use Rattle.rules.specs.Stanza.{marks_essential}

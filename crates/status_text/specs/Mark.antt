@@ -1,7 +1,7 @@
 -- What the field Status of a stanza says of its package, and whether the stanza counts (dpkg(1), "Package states";
 -- Policy 5.6.1 and 5.6.8). The order of the tests is this project's own.
 use Rattle.std.specs.Prelude.{ℕ, Bool, true, false, List, Option, Some, None, Result, Ok, Err, codes, if◌then◌else◌}
-use Rattle.package_stanza.specs.Stanza.{counts_for}
+use Rattle.relation.specs.PackageStanza.{counts_for}
 use Rattle.relation.specs.PkgFields.{field_named, fields_of}
 use Rattle.relation.specs.PkgText.{pkg_name_fault, value_in}
 use Rattle.relation.specs.declared.error.PkgFault.{PkgFault}

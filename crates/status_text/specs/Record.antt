@@ -3,7 +3,7 @@
 use Rattle.std.specs.Prelude.{ℕ, Bool, true, false, List, [], Option, None, Result, Ok, Err, codes, bytes_eq, unwrap_or, if◌then◌else◌}
 use Rattle.std.specs.List.{list_any}
 use Rattle.std.specs.Option.{option_and_then, option_map, option_or}
-use Rattle.package_stanza.specs.Stanza.{is_essential, read_stanza}
+use Rattle.relation.specs.PackageStanza.{is_essential, read_stanza}
 use Rattle.relation.specs.PkgFields.{field_named, fields_of}
 use Rattle.relation.specs.PkgText.{pkg_version_fault, relations_fault, relations_of, version_fault}
 use Rattle.relation.specs.declared.error.PkgFault.{PkgFault}

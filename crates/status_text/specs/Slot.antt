@@ -2,7 +2,7 @@
 -- not-installed stanza of another architecture is this project's own.
 use Rattle.std.specs.Prelude.{ℕ, List, [], ◌∷◌, ◌++◌}
 use Rattle.std.specs.List.{flat_map}
-use Rattle.package_stanza.specs.Stanza.{read_stanza}
+use Rattle.relation.specs.PackageStanza.{read_stanza}
 use Rattle.rules.specs.Database.{Record}
 use Rattle.rules.specs.FileRecord.{FileRecord, records_of}
 use Rattle.rules.specs.Stanza.{Stanza}

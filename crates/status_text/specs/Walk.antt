@@ -1,6 +1,6 @@
 -- What a walk over a stanza of the status file finds.
 use Rattle.std.specs.Prelude.{ℕ, ◌||◌, List, codes}
-use Rattle.package_stanza.specs.Stanza.{field_of, is_essential}
+use Rattle.relation.specs.PackageStanza.{field_of, is_essential}
 use Rattle.relation.specs.PkgFields as Pkg
 use Rattle.relation.specs.PkgFields.{field_named, fields_in, first_named}
 use Rattle.rules.specs.Stanza.{marks_essential}

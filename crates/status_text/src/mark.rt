@@ -7,7 +7,7 @@ ghost use Rattle.status_text.specs.Mark.{name_in};
 use crate::error::{RequiredField, StatusFault};
 use crate::name::PackageName;
 use crate::words::{Mark, read_words};
-use package_stanza::counts_for;
+use relation::counts_for;
 use rules::State;
 use stanza::{Field, Stanza};
 

@@ -1,6 +1,6 @@
 //! A record of the status file with its stanza.
 ghost use Rattle.std.specs.Prelude.{◌≡◌, [], false, unwrap_or, IfOk, IsTrue};
-ghost use Rattle.package_stanza.specs.Stanza.{read_stanza};
+ghost use Rattle.relation.specs.PackageStanza.{read_stanza};
 ghost use Rattle.rules.specs.Database.{IsPresent, pkg_of, stands};
 ghost use Rattle.rules.specs.Name.{is_name};
 ghost use Rattle.rules.specs.State.{is_hold, is_installed_state, is_present_state};
@@ -31,7 +31,7 @@ pub struct StatusRecord<'a> {
 }
 
 impl<'a> Model for StatusRecord<'a> {
-    ghost use Rattle.package_stanza.specs.Stanza.{read_stanza};
+    ghost use Rattle.relation.specs.PackageStanza.{read_stanza};
     ghost use Rattle.rules.specs.FileRecord.{FileRecord as FileRecordValue};
     ghost use Rattle.status_text.specs.Kept.{IsKept, IsTested, kept_record};
 

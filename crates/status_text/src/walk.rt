@@ -4,8 +4,7 @@ ghost use Rattle.relation.specs.PkgFields.{first_named};
 ghost use Rattle.stanza.specs.Field.{same_name};
 ghost use Rattle.status_text.specs.Walk.{found_in, found_of, with_field};
 
-use package_stanza::marks_essential;
-use relation::PkgFields;
+use relation::{PkgFields, marks_essential};
 use stanza::{Field, Stanza};
 
 /// The fields that a record is read from, the first of each name, and whether the package is marked essential.

@@ -1,5 +1,5 @@
 use Rattle.std.proofs.Common.{◌≡◌, ◌++◌, map, take, length}
-use Rattle.package_stanza.specs.Stanza.{field_of}
+use Rattle.relation.specs.PackageStanza.{field_of}
 use Rattle.status_record.specs.StanzaOrigin.{fields_of}
 use Rattle.status_record.specs.Written.{rest_of}
 use Rattle.status_spelling.specs.Spelling.{fields_text}

@@ -1,5 +1,5 @@
 use Rattle.std.proofs.Common.{ap, refl, ◌∙◌}
-use Rattle.package_stanza.specs.Stanza.{read_stanza}
+use Rattle.relation.specs.PackageStanza.{read_stanza}
 use Rattle.status_record.proofs.OriginLemmas.{unpacked_as}
 use Rattle.status_record.proofs.record.FileRecord.of_stanza.Goals as goal
 

@@ -1,5 +1,5 @@
 use Rattle.std.proofs.Common.{ap, sym, ◌∙◌, [], List, ℕ, Option, unwrap_or}
-use Rattle.package_stanza.specs.Stanza.{read_stanza}
+use Rattle.relation.specs.PackageStanza.{read_stanza}
 use Rattle.rules.specs.declared.status.State.{State}
 use Rattle.stanza.specs.Stanza.{StanzaText}
 use Rattle.status_record.proofs.KeptLemmas.{entry-read}

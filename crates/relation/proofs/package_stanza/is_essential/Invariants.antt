@@ -1,6 +1,6 @@
 use Rattle.std.proofs.Common.{◌≡◌}
-use Rattle.package_stanza.specs.Stanza.{is_essential}
-use Rattle.package_stanza.proofs.says.is_essential.Given as goal
+use Rattle.relation.specs.PackageStanza.{is_essential}
+use Rattle.relation.proofs.package_stanza.is_essential.Given as goal
 
 -- what is left of the fields answers for all of them
 abbrev pub invariant-loop-field : goal.invariant-loop-field

@@ -1,8 +1,8 @@
 // What a stanza says of its package beside its relations.
 
 ghost use Rattle.std.specs.Prelude.{◌≡◌};
-ghost use Rattle.package_stanza.specs.Stanza as Spec;
-ghost use Rattle.package_stanza.specs.Stanza.{field_of};
+ghost use Rattle.relation.specs.PackageStanza as Spec;
+ghost use Rattle.relation.specs.PackageStanza.{field_of};
 ghost use Rattle.rules.specs.Stanza.{is_called, marks_essential};
 
 use stanza::{Field, Stanza};
