@@ -1,6 +1,6 @@
 -- One step more on the way through a plan: what is remembered, and what a crash leaves.
 use Rattle.std.proofs.Common.{◌≡◌, ◌≢◌, inl, inr, ⊎_elim, ℕ, Option, List, [], ◌∷◌, ◌++◌, length, refl, sym, ◌∙◌, ap, subst, append_assoc, append-nil, ◌≤◌, ◌^◌, Some}
-use Rattle.status_store.specs.Applicable.{handed_in, refused_name}
+use Rattle.status.specs.Applicable.{handed_in, refused_name}
 use Rattle.status_text.specs.Slot.{FileSlot, slot_records}
 use Rattle.disk.specs.Facts.{DiskFacts, LeavesOnly, Synced}
 use Rattle.disk.specs.RunLaws.{leaves_now, started, then_runs, weaker}

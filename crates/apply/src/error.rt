@@ -1,6 +1,6 @@
 //! Why a plan wasn't taken to its end.
 use journal::{CreateError, OpenError};
-use status_store::StepName;
+use status::StepName;
 use thiserror::Error;
 
 /// Why a journal doesn't have all steps of a plan.

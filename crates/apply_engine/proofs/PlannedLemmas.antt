@@ -6,7 +6,7 @@ use Rattle.rules.specs.Run.{IsGoodPlan}
 use Rattle.rules.specs.Universe.{Universe}
 use Rattle.rules.specs.declared.step.Step.{Step}
 use Rattle.rules.specs.declared.step.Verdict.TheVariants as verdict
-use Rattle.status_store.specs.Text.{slots_text}
+use Rattle.status.specs.Text.{slots_text}
 use Rattle.status_text.specs.Slot.{FileSlot}
 use Rattle.journal.specs.Payload.{Recorded}
 use Rattle.apply.specs.Planned.{planned}

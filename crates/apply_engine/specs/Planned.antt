@@ -7,7 +7,7 @@ use Rattle.rules.specs.Run.{IsGoodPlan}
 use Rattle.rules.specs.Universe.{Universe}
 use Rattle.rules.specs.declared.step.Step.{Step}
 use Rattle.status_text.specs.Slot.{FileSlot, slot_records}
-use Rattle.status_store.specs.Text.{slots_text}
+use Rattle.status.specs.Text.{slots_text}
 use Rattle.journal.specs.Payload.{Recorded}
 use Rattle.apply.specs.Planned.{planned}
 use Rattle.run_plan.specs.Run.{IsEndText}

@@ -22,7 +22,7 @@ use inputs::{
     read_status, read_status_file, read_universe,
 };
 use rules::{Release, Step, Verdict};
-use status_store::Database;
+use status::Database;
 use status_text::StatusFile;
 use std::alloc::Global;
 use universe::Universe;

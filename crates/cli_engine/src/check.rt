@@ -16,9 +16,9 @@ use inputs::{
     read_status, read_status_file, read_universe,
 };
 use plancheck::check_plan;
+use plancheck_state::{parse_packages, view};
 use rules::{Release, Step, Verdict};
 use status_text::StatusFile;
-use status_view::{parse_packages, view};
 use std::alloc::{AllocError, Global};
 use universe::Universe;
 

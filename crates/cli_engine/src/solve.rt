@@ -18,10 +18,10 @@ use inputs::{
     Inputs, MemoryShelf, Refusal, Requested, Settings, Shelf, lend_indices, read_listed,
     read_preferences, read_requested, read_status, read_status_file,
 };
+use plancheck_state::{parse_packages, view};
 use rules::Release;
 use solver::{Solved, solve};
 use status_text::StatusFile;
-use status_view::{parse_packages, view};
 use std::alloc::{AllocError, Global};
 use universe::Universe;
 

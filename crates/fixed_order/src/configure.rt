@@ -20,13 +20,12 @@ use crate::ground::Ground;
 use crate::key::Key;
 use crate::waiting::Waiting;
 use plancheck::apply;
-use plancheck_end::is_same;
 use plancheck_group::{
     are_configurable, are_depends_installed, are_pre_depends_installed, greatest_part,
     is_indivisible,
 };
+use plancheck_state::{Records, is_same};
 use rules::{Name, Names, Step};
-use status::Records;
 use std::alloc::{AllocError, Global};
 use std::slice::from_ref;
 

@@ -18,8 +18,8 @@ use crate::removal::removals;
 use crate::selection::selected_pairs;
 use crate::unpack::{stanzas_of, take_all, to_unpack, unpacks_of};
 use index::IndexPackage;
+use plancheck_state::{Records, try_copy};
 use rules::Step;
-use status::{Records, try_copy};
 use std::alloc::{AllocError, Global};
 use universe::{Pair, Universe};
 

@@ -1,7 +1,7 @@
 // What stays the same while steps are found.
 
 use crate::members::Members;
-use status::Records;
+use plancheck_state::Records;
 use std::alloc::Global;
 use universe::Universe;
 

@@ -3,8 +3,8 @@
 ghost use Rattle.std.specs.Prelude.{◌↔◌, IsTrue};
 ghost use Rattle.fixed_order.specs.Names.{HasNames, HasPairNames};
 
+use plancheck_state::Records;
 use rules::is_name;
-use status::Records;
 use universe::Universe;
 
 /// Whether the name of each record is a package name. Linear in the names.

@@ -9,10 +9,9 @@ ghost use Rattle.rules.specs.declared.step.Step.TheVariants.{Remove};
 
 use indexmap::IndexMap;
 use plancheck::{is_met_without, remove_failing};
-use plancheck_end::{is_same, matches_some};
+use plancheck_state::{Records, StateRecord, is_same, matches_some};
 use relation::{Clause, Pkg};
 use rules::allowed_where_none_fails;
-use status::{Records, StateRecord};
 use std::alloc::{AllocError, Global};
 use std::ops::Range;
 use universe::Universe;

@@ -7,8 +7,8 @@ ghost use Rattle.fixed_order.specs.Purge.{ArePurgesIn, IsToPurgeBy};
 
 use crate::key::{Key, in_order};
 use crate::state::is_removed;
+use plancheck_state::Records;
 use rules::{Goal, Step};
-use status::Records;
 use std::alloc::{AllocError, Global};
 use universe::Universe;
 

@@ -4,7 +4,7 @@ ghost use Rattle.std.specs.Prelude.{◌≡◌, ◌↔◌, IsTrue};
 ghost use Rattle.fixed_order.specs.Turn.{ComesBefore, IsBelow, is_ring, is_ringed, rank_in};
 
 use indexmap::IndexMap;
-use plancheck_end::is_same;
+use plancheck_state::is_same;
 use std::alloc::{AllocError, Global};
 use std::marker::Model;
 

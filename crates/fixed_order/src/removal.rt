@@ -19,8 +19,8 @@ use crate::key::{Key, in_order};
 use crate::needs::Needs;
 use crate::state::is_installed;
 use plancheck::apply;
+use plancheck_state::{Records, StateRecord};
 use rules::{Name, Step};
-use status::{Records, StateRecord};
 use std::alloc::AllocError;
 use universe::Universe;
 

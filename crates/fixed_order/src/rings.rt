@@ -5,10 +5,9 @@
 
 use crate::ranks::Ranks;
 use indexmap::IndexSet;
-use plancheck_end::{is_met, is_same};
+use plancheck_state::{Records, is_met, is_same};
 use relation::{Atom, Clause};
 use rules::Name;
-use status::Records;
 use std::alloc::{AllocError, Global};
 
 // Names, each with the places of those for which it asks and of those that ask for it.

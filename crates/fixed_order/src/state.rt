@@ -4,8 +4,7 @@ ghost use Rattle.std.specs.Prelude.{◌≡◌, ◌↔◌, IsTrue};
 ghost use Rattle.std.specs.List.{Any};
 ghost use Rattle.rules.specs.Database.{HasRecord, IsInstalled, IsRemoved};
 
-use plancheck_end::is_same;
-use status::{Holders, Records, StateRecord};
+use plancheck_state::{Holders, Records, StateRecord, is_same};
 
 fn is_installed_name(found: &StateRecord<'_, '_>, name: &[u8]) -> bool
     ensures { IsTrue result ↔ ((found.now.name ≡ name.now) × IsInstalled found.now) }

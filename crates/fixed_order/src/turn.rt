@@ -9,10 +9,9 @@ ghost use Rattle.fixed_order.specs.Turn.{AsksBefore, AsksBeforeBy, ComesBefore, 
 
 use crate::ranks::Ranks;
 use crate::rings::ranks_of;
-use plancheck_end::{is_met, is_same};
+use plancheck_state::{Holders, Records, StateRecord, is_met, is_same};
 use relation::{Atom, Clause};
 use rules::Name;
-use status::{Holders, Records, StateRecord};
 use std::alloc::{AllocError, Global};
 
 // Whether the record isn't present, doesn't match the atom, or comes before the name.

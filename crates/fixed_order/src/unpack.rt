@@ -14,8 +14,8 @@ ghost use Rattle.fixed_order.specs.Selection.{is_away, pkgs_of, stanza_of};
 use crate::selection::add;
 use index::IndexPackage;
 use plancheck::{apply, stands_as};
+use plancheck_state::Records;
 use rules::{Name, Step, VersionText};
-use status::Records;
 use std::alloc::{AllocError, Global};
 use universe::{Pair, Universe};
 

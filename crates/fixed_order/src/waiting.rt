@@ -12,8 +12,8 @@ ghost use Rattle.fixed_order.specs.Walked.{IsFalling};
 use crate::ground::Ground;
 use crate::key::{Key, in_order};
 use crate::turn::{Rings, rings_of};
+use plancheck_state::Records;
 use rules::Name;
-use status::Records;
 use std::alloc::{AllocError, Global};
 
 /// The names that wait to be configured, in their order and from the greatest down, and those of them that may ask for one

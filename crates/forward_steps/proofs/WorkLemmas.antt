@@ -11,7 +11,7 @@ use Rattle.rules.specs.Step.{changed, is_named}
 use Rattle.rules.specs.declared.status.State.{State}
 use Rattle.rules.specs.declared.status.State.TheVariants.{NotInstalled, ConfigFiles, HalfInstalled, Unpacked, HalfConfigured, TriggersAwaited, TriggersPending, Installed}
 use Rattle.rules.proofs.Rising.{pairs_head, pairs_tail}
-use Rattle.status.proofs.NamedChanges.{changed-nowhere}
+use Rattle.plancheck_state.proofs.NamedChanges.{changed-nowhere}
 use Rattle.forward_steps.specs.Work.{is_standing, unpacking, work_in, work_with}
 
 -- States

@@ -11,8 +11,8 @@ ghost use Rattle.forward_steps.specs.Forward.{IsForward};
 use crate::member::Members;
 use index::IndexPackage;
 use plancheck::{apply, legal};
+use plancheck_state::{Records, try_copy};
 use rules::{Step, allowed_where_none_fails};
-use status::{Records, try_copy};
 use std::alloc::{AllocError, Global};
 use universe::Universe;
 

@@ -7,10 +7,9 @@ ghost use Rattle.forward_steps.specs.Door.{NoPartPasses};
 ghost use Rattle.forward_steps.specs.Group.{AreOthersOf, IsGroupOf, IsNarrowed, IsNarrowedBy};
 
 use crate::name_order::in_order;
-use plancheck_end::is_same;
 use plancheck_group::greatest_part;
+use plancheck_state::{Records, is_same};
 use rules::{Name, Names};
-use status::Records;
 use std::alloc::{AllocError, Global};
 
 // The names but for this one.

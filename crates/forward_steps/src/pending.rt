@@ -5,8 +5,8 @@ ghost use Rattle.std.specs.List.{filter};
 ghost use Rattle.forward_steps.specs.Selection.{is_leaving, is_waiting};
 
 use crate::member::Members;
+use plancheck_state::{Records, StateRecord};
 use rules::{Name, is_name};
-use status::{Records, StateRecord};
 use std::alloc::{AllocError, Global};
 
 /// Whether the record is present and of a selected version, that is to be configured.

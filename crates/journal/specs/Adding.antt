@@ -5,7 +5,7 @@ use Rattle.plantext.specs.StepLine.{step_line}
 use Rattle.rules.specs.declared.limits.TheConstants.{TEXT_BYTES}
 use Rattle.rules.specs.declared.step.Step.{Step}
 use Rattle.rules.specs.declared.step.Step.TheVariants.{Unpack, Deconfigure, Configure, Remove, Purge}
-use Rattle.status_store.specs.Applicable.{handed_in, refused_name}
+use Rattle.status.specs.Applicable.{handed_in, refused_name}
 use Rattle.status_text.specs.Slot.{Store, slot_records}
 use Rattle.journal.specs.File.{framed}
 use Rattle.journal.specs.History.{IsApplicable, slots_left}

@@ -2,8 +2,8 @@
 -- project's own).
 use Rattle.std.specs.Prelude.{◌≡◌, ◌⊎◌, ℕ, ◌<◌, ◌≤◌, List, [], ◌∷◌, ◌++◌, length, Option, Some, None, Ok, ⊤}
 use Rattle.rules.specs.declared.limits.TheConstants.{TEXT_BYTES}
-use Rattle.status_store.specs.Applicable.{handed_in, refused_name}
-use Rattle.status_store.specs.Left.{slots_after}
+use Rattle.status.specs.Applicable.{handed_in, refused_name}
+use Rattle.status.specs.Left.{slots_after}
 use Rattle.status_text.specs.Slot.{FileSlot, slot_records}
 use Rattle.status_text.specs.Status.{read_status}
 use Rattle.journal.specs.File.{Entry, HeaderFits, framed, front}

@@ -17,7 +17,7 @@ use crate::ledger::{Ledger, Recorded};
 use disk::Disk;
 use plantext::write_step;
 use rules::{Step, TEXT_BYTES};
-use status_store::{ApplyError, Database};
+use status::{ApplyError, Database};
 use std::alloc::{AllocError, Global};
 
 // Behind a gate at this offset no record is added.

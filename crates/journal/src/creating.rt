@@ -13,7 +13,7 @@ use crate::error::CreateError;
 use crate::ledger::Ledger;
 use disk::{Disk, Failed};
 use rules::TEXT_BYTES;
-use status_store::{Database, StatusError};
+use status::{Database, StatusError};
 use std::alloc::{AllocError, Global};
 
 // The greatest length of the name of an architecture.
@@ -68,7 +68,7 @@ fn read_start<'a>(
 }
 
 /// Makes the file a journal for the architecture, whose start is this text of a status file, and which has no step. Such a
-/// text is what `Database::text` of `status_store` answers. A crash before `Ok` may leave a file that isn't opened.
+/// text is what `Database::text` of `status` answers. A crash before `Ok` may leave a file that isn't opened.
 pub fn create<'a, D: Disk>(
     alloc: Global,
     disk: &mut D,

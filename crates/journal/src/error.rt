@@ -5,7 +5,7 @@ ghost use Rattle.journal.specs.declared.error.CreateError.TheVariants as create_
 ghost use Rattle.journal.specs.declared.error.OpenError.TheVariants as open_error;
 
 use disk::Failed;
-use status_store::StepName;
+use status::StepName;
 use std::alloc::{AllocError, AllocFailed};
 use thiserror::Error;
 

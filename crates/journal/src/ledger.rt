@@ -3,7 +3,7 @@ ghost use Rattle.std.specs.Prelude.{◌≡◌, [], false};
 ghost use Rattle.std.specs.Option.{option_copied};
 
 use rules::Step;
-use status_store::Database;
+use status::Database;
 use std::alloc::Global;
 use std::marker::Model;
 

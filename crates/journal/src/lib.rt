@@ -1,6 +1,6 @@
 //! A journal of steps that were taken in a status file: each is on the disk before it is acknowledged, and whenever the
 //! machine stops, the file is opened to the steps up to one of them. It stands on `disk`, which says what a crash leaves,
-//! on `status_store` for the status file, and on `plantext` for the lines of steps. The main type is `Ledger`, with the
+//! on `status` for the status file, and on `plantext` for the lines of steps. The main type is `Ledger`, with the
 //! calls `create`, `open` and `append`. Begin with `specs/History.antt`.
 #![tactic(auto)]
 

@@ -16,7 +16,7 @@ use crate::header::{read_header, read_magic};
 use crate::ledger::{Ledger, Recorded};
 use crate::payload::read_payload;
 use rules::TEXT_BYTES;
-use status_store::{ApplyError, Database, StatusError};
+use status::{ApplyError, Database, StatusError};
 use std::alloc::{AllocError, Global};
 
 /// The record behind a gate: the gate, the length of the payload, what it says, and the bytes behind it.

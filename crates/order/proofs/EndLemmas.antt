@@ -14,7 +14,7 @@ use Rattle.rules.specs.Verdict.{GoodPlanHasYes, GoodWhereNothingIsAgainst, IsBui
 use Rattle.rules.specs.declared.step.Reason.{Reason}
 use Rattle.rules.specs.declared.step.Step.{Step}
 use Rattle.rules.specs.declared.step.Verdict.TheVariants as verdict
-use Rattle.plancheck_end.proofs.InstalledLemmas.{all_installed, installed_all}
+use Rattle.plancheck_state.specs.InstalledLaws.{all_installed, installed_all}
 use Rattle.universe.specs.Universe.{packages_of}
 use Rattle.forward_steps.specs.Door.{HasStanza}
 use Rattle.order.specs.Order.{InstalledAreSelected, IsWantedEnd}

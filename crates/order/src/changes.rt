@@ -2,8 +2,8 @@
 
 use forward_steps::Door;
 use indexmap::IndexSet;
+use plancheck_state::Records;
 use rules::{Name, Step};
-use status::Records;
 use std::alloc::{AllocError, Global};
 
 /// The places of the records that were changed, a place for each change. Records keep their places, since nothing is purged

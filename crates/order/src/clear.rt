@@ -6,10 +6,9 @@ ghost use Rattle.forward_steps.specs.Door.{IsReached};
 
 use forward_steps::{Door, Ground, take};
 use plancheck::remove_failing;
-use plancheck_end::{breaks_other, conflicts_with, matches_some};
+use plancheck_state::{Records, StateRecord, breaks_other, conflicts_with, matches_some};
 use relation::{Clause, Pkg};
 use rules::{Name, Rule, Step, is_name};
-use status::{Records, StateRecord};
 use std::alloc::{AllocError, Global};
 
 // Whether a package of another name that stands matches the clause.

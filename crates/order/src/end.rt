@@ -12,10 +12,10 @@ ghost use Rattle.forward_steps.specs.Selection.{IsOneEach, is_member_version};
 
 use debversion::Version;
 use forward_steps::{Door, Ground, Member, Members};
-use plancheck_end::{first_against, is_same};
+use plancheck_end::first_against;
+use plancheck_state::{Holders, Records, StateRecord, is_same};
 use relation::Pkg;
 use rules::{good_plan_has_yes, good_where_nothing_is_against};
-use status::{Holders, Records, StateRecord};
 use std::alloc::AllocError;
 
 // Whether the record isn't installed, or its version is a member.

@@ -5,9 +5,8 @@
 use crate::changes::Changes;
 use crate::clear::present;
 use forward_steps::Door;
-use plancheck_end::{breaks_other, conflicts_with, is_met, matches_some};
+use plancheck_state::{Records, StateRecord, breaks_other, conflicts_with, is_met, matches_some};
 use relation::{Clause, Pkg};
-use status::{Records, StateRecord};
 use std::alloc::{AllocError, Global};
 
 /// In which way something hinders a package.

@@ -9,9 +9,9 @@ use crate::hurdle::{Hurdles, Way};
 use crate::tidy::configure_alone;
 use forward_steps::{Door, Ground, Member, unpack};
 use index::IndexPackage;
+use plancheck_state::Records;
 use relation::Pkg;
 use rules::{Name, is_name};
-use status::Records;
 use std::alloc::AllocError;
 
 // Whether the member stands in this version already.

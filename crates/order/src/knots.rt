@@ -3,7 +3,7 @@
 
 use crate::ring::needs_of;
 use indexmap::IndexSet;
-use status::Records;
+use plancheck_state::Records;
 use std::alloc::{AllocError, Global};
 
 // A name that was seen: what it needs and wasn't gone to; the first of those seen and open that it is known to need in turn;

@@ -8,10 +8,9 @@ use crate::changes::Changes;
 use crate::clear::{is_needed_by, present};
 use forward_steps::{Door, Ground, leaving, take};
 use plancheck::remove_failing;
-use plancheck_end::matches_some;
+use plancheck_state::{Records, StateRecord, matches_some};
 use relation::{Clause, Pkg};
 use rules::{Name, Rule, Step};
-use status::{Records, StateRecord};
 use std::alloc::{AllocError, Global};
 
 // A clause that needs a package: the place of its record, its place among the clauses of that, and how many changes there were

@@ -15,7 +15,7 @@ use crate::ordered::Ordered;
 use crate::strategy::choose_all;
 use forward_steps::{Door, Ground, Members, finish, opened};
 use plancheck::is_quiet;
-use status::Records;
+use plancheck_state::Records;
 use std::alloc::{AllocError, Global};
 use universe::Universe;
 

@@ -5,10 +5,9 @@ use crate::clear::present;
 use crate::knots::lowest;
 use forward_steps::{Members, is_waiting};
 use indexmap::IndexSet;
-use plancheck_end::{is_met, matches_some};
+use plancheck_state::{Records, is_met, matches_some};
 use relation::{Clause, Pkg};
 use rules::{Name, is_name};
-use status::Records;
 use std::alloc::{AllocError, Global};
 
 // A name that isn't configured and matches the clause.

@@ -9,8 +9,8 @@ use crate::needed::{Needs, remove_unneeded};
 use crate::ring::fewest_in_need;
 use crate::tried::Tried;
 use forward_steps::{Door, Ground, group_of, in_order, leaving, take, waiting};
+use plancheck_state::Records;
 use rules::{Name, Step};
-use status::Records;
 use std::alloc::{AllocError, Global};
 use std::slice::from_ref;
 

@@ -13,8 +13,8 @@ use fixed_order::fixed_order;
 use order::{Ordered, order};
 use plain::plain_change_is_ordered;
 use plainness::is_plain;
+use plancheck_state::Records;
 use refutation::premises_are_true;
-use status::Records;
 use std::alloc::{AllocError, Global};
 use universe::Universe;
 

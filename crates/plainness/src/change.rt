@@ -10,8 +10,8 @@ use crate::members::members_of;
 use crate::peace::are_at_peace;
 use crate::ready::are_ready;
 use crate::unpacked::are_unpacks_plain;
+use plancheck_state::Records;
 use relation::Pkg;
-use status::Records;
 use std::alloc::{AllocError, Global};
 use universe::{Universe, lend_packages};
 

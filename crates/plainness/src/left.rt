@@ -6,8 +6,8 @@ ghost use Rattle.plainness.specs.Parts.{LeftAreSound, MayBeLeft, MayLeave, Purge
 
 use crate::names::Names;
 use plancheck::is_not_held;
+use plancheck_state::{Records, StateRecord};
 use relation::Pkg;
-use status::{Records, StateRecord};
 use std::alloc::{AllocError, Global};
 use universe::Universe;
 

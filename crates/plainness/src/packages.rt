@@ -7,7 +7,7 @@ ghost use Rattle.rules.specs.Package.{Matches};
 ghost use Rattle.plainness.specs.Parts.{IsMatchedByOther};
 
 use index::Providers;
-use plancheck_end::is_same;
+use plancheck_state::is_same;
 use relation::{Atom, Pkg};
 use std::alloc::{AllocError, Global};
 use std::marker::Model;

@@ -8,8 +8,8 @@ ghost use Rattle.plain.specs.Change.{AreAtPeace, old_and_new};
 ghost use Rattle.plainness.specs.Parts.{ClashesWithNone, NoneClash};
 
 use crate::packages::Packages;
+use plancheck_state::{Records, StateRecord};
 use relation::Pkg;
-use status::{Records, StateRecord};
 use std::alloc::{AllocError, Global};
 
 // The packages of the present records.

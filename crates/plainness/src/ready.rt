@@ -10,9 +10,8 @@ ghost use Rattle.plainness.specs.Parts.{AreStaying, IsMatchedByOther, IsReadyBy}
 
 use crate::packages::Packages;
 use debversion::Version;
-use plancheck_end::is_same;
+use plancheck_state::{Holders, Records, StateRecord, is_same};
 use relation::{Clause, Pkg};
-use status::{Holders, Records, StateRecord};
 use std::alloc::{AllocError, Global};
 
 // Whether the package of the record is installed with flag ok in this version.

@@ -7,8 +7,8 @@ ghost use Rattle.rules.specs.Universe.{StandsAs};
 ghost use Rattle.plainness.specs.Parts.{UnpackedAreUnheld};
 
 use plancheck::{is_not_held, stands_as};
+use plancheck_state::Records;
 use relation::Pkg;
-use status::Records;
 
 // Whether the version of the member stands, or its name isn't held.
 fn may_be_unpacked(start: &Records<'_, '_>, member: &Pkg<'_>) -> bool

@@ -4,8 +4,8 @@ use Rattle.rules.specs.Database.{Record}
 use Rattle.rules.specs.Package.{Atom}
 use Rattle.rules.specs.Step.{last_configured}
 use Rattle.rules.specs.Unpack.{FitsFromBefore, FitsThenAndNow, SatisfiesAtom}
-use Rattle.status.specs.HolderLaws.{matching-holds, named-holds, providing-holds}
-use Rattle.status.specs.Holders.{is_holder}
+use Rattle.plancheck_state.specs.HolderLaws.{matching-holds, named-holds, providing-holds}
+use Rattle.plancheck_state.specs.Holders.{is_holder}
 
 -- what fits then and now has the name or provides it
 then-and-now-holds : (found : Record) (atom : Atom) (version : List ℕ) → FitsThenAndNow found atom version → is_holder atom.name found ≡ true

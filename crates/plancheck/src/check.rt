@@ -12,8 +12,8 @@ use crate::stanzas::{stanza_at, stanzas_for};
 use crate::step::{apply, legal};
 use index::IndexPackage;
 use plancheck_end::first_against;
+use plancheck_state::{Records, try_copy};
 use rules::{Rule, Step, Verdict, good_where_nothing_is_against};
-use status::{Records, try_copy};
 use std::alloc::{AllocError, Global};
 use universe::Universe;
 

@@ -8,8 +8,7 @@ ghost use Rattle.rules.specs.Universe.{StandsAs};
 ghost use Rattle.rules.specs.Version.{SameVersion};
 
 use debversion::Version;
-use plancheck_end::is_same;
-use status::{Holders, Records, StateRecord};
+use plancheck_state::{Holders, Records, StateRecord, is_same};
 
 fn is_held_name(found: &StateRecord<'_, '_>, name: &[u8]) -> bool
     ensures { IsTrue result ↔ ((found.now.name ≡ name.now) × IsHeld found.now) }

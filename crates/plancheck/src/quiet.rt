@@ -5,9 +5,8 @@ ghost use Rattle.std.specs.List.{All};
 ghost use Rattle.rules.specs.Database.{IsAtPeaceWith, IsPresent, IsQuiet, pkg_of};
 ghost use Rattle.rules.specs.Package.{Matches};
 
-use plancheck_end::is_same;
+use plancheck_state::{Holders, Records, StateRecord, is_same};
 use relation::{Atom, Pkg};
-use status::{Holders, Records, StateRecord};
 
 // Whether the record isn't present, has the package's name, or doesn't match the atom.
 fn does_not_match(pkg: &Pkg<'_>, atom: &Atom<'_>, other: &StateRecord<'_, '_>) -> bool

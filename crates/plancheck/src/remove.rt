@@ -6,9 +6,8 @@ ghost use Rattle.rules.specs.Database.{ForOthers, HasRecord, HasSoundFlag, IsEss
 ghost use Rattle.rules.specs.Package.{Matches, MatchesSome};
 ghost use Rattle.rules.specs.Remove.{IsNeededByNone, IsNotNeeded, IsMetWithout, NeedsNot};
 
-use plancheck_end::{is_same, matches_some};
+use plancheck_state::{Holders, Records, StateRecord, is_same, matches_some};
 use relation::{Atom, Clause, Pkg};
-use status::{Holders, Records, StateRecord};
 
 fn is_present_and_sound(found: &StateRecord<'_, '_>, name: &[u8]) -> bool
     ensures { IsTrue result ↔ ((found.now.name ≡ name.now) × (IsPresent found.now × HasSoundFlag found.now)) }

@@ -15,8 +15,8 @@ use crate::table::{
     configure_failing, deconfigure_failing, purge_failing, remove_failing, unpack_failing,
 };
 use index::IndexPackage;
+use plancheck_state::Records;
 use rules::{Name, Rule, Step, VersionText, allowed_acts_on_present, distinct_names_kept};
-use status::Records;
 use std::alloc::{AllocError, Global};
 use universe::Universe;
 

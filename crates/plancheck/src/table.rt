@@ -15,8 +15,8 @@ use plancheck_group::{
     are_configurable, are_depends_installed, are_pre_depends_installed, are_unbroken,
     is_indivisible,
 };
+use plancheck_state::Records;
 use rules::{Name, Rule};
-use status::Records;
 use std::alloc::{AllocError, Global};
 
 // Whether the unpacking keeps the rule.

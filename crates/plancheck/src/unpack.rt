@@ -9,9 +9,8 @@ ghost use Rattle.plancheck.specs.Apart.{ArePeaceful, IsApart};
 
 use crate::quiet::no_atom_matches;
 use debversion::Version;
-use plancheck_end::{conflicts_with, is_same};
+use plancheck_state::{Holders, Records, StateRecord, conflicts_with, is_same};
 use relation::{Atom, Clause, Pkg};
-use status::{Holders, Records, StateRecord};
 
 // Whether the record fits the atom as it is now and as it was when this version of it was configured.
 #[tactic(auto, unfolding(rules::specs::Unpack::FitsThenAndNow))]

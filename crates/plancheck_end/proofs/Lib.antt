@@ -1,4 +1,3 @@
 pub mod EndLemmas
 pub mod GoalLemmas
-pub mod InstalledLemmas
 pub mod LeastLemmas

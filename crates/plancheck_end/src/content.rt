@@ -6,10 +6,8 @@ ghost use Rattle.rules.specs.Database.{IsInstalled, installed_of, pkg_of};
 ghost use Rattle.rules.specs.Package.{Matches};
 ghost use Rattle.rules.specs.Sound.{HasItsRelations, MatchedByNoOther, MeetsClauses};
 
-use crate::installed::are_met;
-use crate::matching::is_same;
+use plancheck_state::{Holders, Records, StateRecord, are_met, is_same};
 use relation::{Atom, Pkg};
-use status::{Holders, Records, StateRecord};
 
 // Whether the record isn't installed, is of the name, or doesn't match the atom.
 fn is_apart(other: &StateRecord<'_, '_>, name: &[u8], atom: &Atom<'_>) -> bool

@@ -5,8 +5,8 @@ ghost use Rattle.rules.specs.Run.{HasNothingAgainst, IsFirstAgainst};
 
 use crate::goal::first_unfulfilled;
 use crate::least::{least_discontent, least_lost, least_unfinished};
+use plancheck_state::Records;
 use rules::{Reason, Text};
-use status::Records;
 use std::alloc::{AllocError, Global};
 use universe::Universe;
 

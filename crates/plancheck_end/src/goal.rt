@@ -11,11 +11,9 @@ ghost use Rattle.rules.specs.Universe.{candidate_of};
 ghost use Rattle.rules.specs.Version.{version_cmp};
 ghost use Rattle.plancheck_end.specs.FirstGoal.{IsFirstUnfulfilled, IsFulfilled};
 
-use crate::installed::{has_member, has_version};
-use crate::matching::is_same;
 use debversion::Version;
+use plancheck_state::{Holders, Records, StateRecord, has_member, has_version, is_same};
 use rules::{Goal, Restriction, VersionText};
-use status::{Holders, Records, StateRecord};
 use universe::{Start, Universe};
 
 // The owned text as a version, which it is.

@@ -7,8 +7,7 @@ ghost use Rattle.rules.specs.Sound.{HasItsRelations, KeepsEssential};
 ghost use Rattle.plancheck_end.specs.Least.{IsLeastWithout, least_with, lesser};
 
 use crate::content::is_content;
-use crate::installed::has_member;
-use status::{Records, StateRecord};
+use plancheck_state::{Records, StateRecord, has_member};
 use std::cmp::Ordering;
 use universe::Start;
 

@@ -9,10 +9,9 @@ ghost use Rattle.rules.specs.Sound.{MeetsClauses};
 ghost use Rattle.plancheck_group.specs.Part.{AreSupplied, DoesNotBreak};
 
 use crate::part::Among;
-use plancheck_end::{are_met, breaks_other, is_met, is_same};
+use plancheck_state::{Holders, Records, StateRecord, are_met, breaks_other, is_met, is_same};
 use relation::{Atom, Clause, Pkg};
 use rules::Name;
-use status::{Holders, Records, StateRecord};
 
 fn is_configurable(found: &StateRecord<'_, '_>, name: &[u8]) -> bool
     ensures { IsTrue result ↔ ((found.now.name ≡ name.now) × IsConfigurable found.now) }
@@ -78,7 +77,7 @@ fn are_prepared(db: &Records<'_, '_>, names: &[Name]) -> bool
 }
 
 /// Whether each Pre-Depends clause of the group's members is met by installed packages, each tested as
-/// `plancheck_end::is_met` says.
+/// `plancheck_state::is_met` says.
 pub fn are_pre_depends_installed(db: &Records<'_, '_>, names: &[Name]) -> bool
     ensures { IsTrue result ↔ ArePreDependsInstalled db.now names.now }
 {

@@ -10,8 +10,8 @@ use crate::lacking::{drop_after, keep_supplied};
 use crate::needs::Needs;
 use crate::part::Part;
 use crate::ready::{keep_ready, names_left, ready_of};
+use plancheck_state::Records;
 use rules::{Name, indivisible_by_others};
-use status::Records;
 use std::alloc::{AllocError, Global};
 
 /// The names of the greatest part of the group that passes the tests of a configuring together, but for the one of its

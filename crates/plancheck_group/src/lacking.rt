@@ -8,8 +8,8 @@ ghost use Rattle.plancheck_group.specs.Part.{IsDroppedTo, IsLookedAt, IsNarrowed
 use crate::configure::is_supplied;
 use crate::needs::Needs;
 use crate::part::{Among, Part};
+use plancheck_state::Records;
 use rules::Name;
-use status::Records;
 use std::alloc::{AllocError, Global};
 
 // Whether the Depends of the name's package are met by installed packages and what is left.

@@ -3,10 +3,9 @@
 
 use crate::part::Part;
 use indexmap::IndexSet;
-use plancheck_end::{is_met, is_same};
+use plancheck_state::{Records, is_met, is_same};
 use relation::{Atom, Clause};
 use rules::Name;
-use status::Records;
 use std::alloc::{AllocError, Global};
 
 /// For each name of a group the others that ask for it, and those that it asks for, in Depends that no installed package meets.

@@ -7,8 +7,8 @@ ghost use Rattle.rules.specs.Step.{is_among};
 ghost use Rattle.plancheck_group.specs.Part.{HaveSameNames, IsPartWith};
 
 use indexmap::IndexSet;
+use plancheck_state::StateRecord;
 use rules::Name;
-use status::StateRecord;
 use std::alloc::{AllocError, Global};
 use std::marker::Model;
 

@@ -6,8 +6,8 @@ ghost use Rattle.plancheck_group.specs.Part.{HasWhatPasses, IsPartWith, IsReady}
 
 use crate::configure::{are_configurable, are_pre_depends_installed, are_unbroken};
 use crate::part::Part;
+use plancheck_state::Records;
 use rules::Name;
-use status::Records;
 use std::alloc::{AllocError, Global};
 use std::slice::from_ref;
 

@@ -4,7 +4,7 @@ use Rattle.disk.specs.Facts.{DiskFacts}
 use Rattle.journal.specs.History.{History, Leads, Shows}
 use Rattle.journal.specs.Ledger.{MeansAsBefore}
 use Rattle.journal.specs.Payload.{Recorded}
-use Rattle.status_store.specs.Text.{slots_text}
+use Rattle.status.specs.Text.{slots_text}
 use Rattle.status_text.specs.Slot.{FileSlot}
 use Rattle.status_text.specs.Status.{read_status}
 use Rattle.apply.specs.Planned.{IsOfPlan}

@@ -4,7 +4,7 @@ ghost use Rattle.std.specs.Option.{option_copied};
 ghost use Rattle.disk.specs.Facts.{LeavesOnly};
 ghost use Rattle.journal.specs.History.{Shows};
 ghost use Rattle.journal.specs.Ledger.{history_of, IsSettled};
-ghost use Rattle.status_store.specs.Text.{slots_text};
+ghost use Rattle.status.specs.Text.{slots_text};
 ghost use Rattle.apply.specs.Planned.{IsOfPlan, planned};
 ghost use Rattle.apply.specs.Progress.{IsCaughtUp, ShowsUpTo};
 ghost use Rattle.apply.specs.declared.error.CatchUpError.TheVariants as error;

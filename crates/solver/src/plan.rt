@@ -13,8 +13,8 @@ use crate::solved::{Solved, Undecided};
 use order::Ordered;
 use ordering::order_selection;
 use plancheck::check_plan;
+use plancheck_state::Records;
 use rules::{Step, Verdict, good_plan_has_yes};
-use status::Records;
 use std::alloc::{AllocError, Global};
 use universe::Universe;
 

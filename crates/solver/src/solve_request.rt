@@ -15,13 +15,13 @@ use crate::solved::{Solved, Undecided};
 use encode::{Encoding, encode_part};
 use part::choice_of_part;
 use plancheck::is_quiet;
+use plancheck_state::Records;
 use reach::{Reached, reach};
 use refutation::one_answer;
 use refutation_text::is_writable;
 use refutecheck::{Verdict, check_refutation};
 use search::{Found, Refutation, search};
 use search_settle::standing_records_are_present;
-use status::Records;
 use std::alloc::{AllocError, Global};
 use universe::Universe;
 

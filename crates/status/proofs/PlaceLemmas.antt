@@ -1,209 +1,199 @@
--- The places that are listed for a name, where lists and names are added, and where a record is gone.
-use Rattle.std.proofs.Common.{◌≡◌, ◌⊎◌, inl, inr, ℕ, zero, suc, ◌+◌, ◌<◌, Bool, true, false, cond, List, [], ◌∷◌, ◌++◌, map, length, get_or, take, drop, Option, Some, None, Result, Ok, Err, OnOk, IfSome, Contains, slice_get, slice_set, unwrap_or, refl, sym, ap, subst, ◌∙◌, bytes_eq, arith, length-append}
+-- Names found in the map of their numbers, and places filled, written and emptied.
+use Rattle.std.proofs.Common.{◌≡◌, ℕ, zero, suc, ◌+◌, Bool, true, false, true≢false, cond, not, ◌||◌, List, [], ◌∷◌, ◌++◌, map, length, slice_get, slice_set, Option, Some, None, refl, sym, ap, subst, ◌∙◌, bytes_eq, arith}
 use Rattle.std.specs.Borrow.{Bor}
-use Rattle.std.specs.List.{All, IsAmong, insert}
-use Rattle.std.specs.Map.{lookup, values_of}
-use Rattle.std.specs.Option.{option_copied, option_map}
-use Rattle.std.proofs.lemmas.List.{drop_all, map-append, take-append-drop}
-use Rattle.std.proofs.lemmas.List.Elements.{All-contains, All-push, All-weaker, Contains-append_cases, Contains-append_left, Contains-append_right}
-use Rattle.std.proofs.lemmas.Option.{unwrap_or-slice_get, slice_get-map, slice_get_read}
-use Rattle.rules.specs.ElementLaws.{All-intro, Contains-head, Contains-nil, Contains-rest}
-use Rattle.rules.specs.NamedLaws.{bytes_eq-same}
-use Rattle.status.specs.Holders.{KeepsLists, KeepsPlaces, listed, places_in, places_left}
+use Rattle.std.specs.List.{filter}
+use Rattle.std.specs.Map.{keys_of, lookup, remove_entry}
+use Rattle.rules.specs.FileRecord.{FileRecord}
+use Rattle.rules.specs.NamedLaws.{bytes_eq-same, bytes_eq-true}
+use Rattle.rules.specs.Step.{is_named}
+use Rattle.status_text.specs.Slot.{FileSlot}
+use Rattle.status_text.specs.declared.slot.Slot.TheVariants.{Recorded, Foreign}
+use Rattle.status.specs.Places.{AreDistinct, FindsAt, IsAt, lent, numbered, slots_at}
+use Rattle.status.specs.Slots.{changed_slots, entry_named, is_slot_named, names_of}
+use Rattle.status.proofs.NameLemmas.{bytes_eq-flip, is_in, unnamed-changed, unnamed-kept}
 
--- the number of the name
-abbrev pub number_of : List ℕ → List (Bor (List ℕ) × ℕ) → Option ℕ
-number_of name numbers = lookup (λ key. bytes_eq name key.now) numbers
+pub lookup-lent : (name : List ℕ) (es : List (Bor (List ℕ) × ℕ))
+    → lookup (λ key. bytes_eq name key.now) es ≡ lookup (λ other. bytes_eq other name) (map lent es)
+lookup-lent name [] = refl
+lookup-lent name (e ∷ es) = rw (bytes_eq-flip name e.0.now, lookup-lent name es) refl
 
--- the list of this number, if there is a number
-abbrev pub list_at : List (List ℕ) → Option ℕ → List ℕ
-list_at lists None = []
-list_at lists (Some number) = unwrap_or (slice_get lists number) []
-
--- the places of a name are those of the list that it has
-pub places-listed : (name : List ℕ) (lists : List (List ℕ)) (es : List (Bor (List ℕ) × ℕ))
-    → places_in (listed lists es) name ≡ list_at lists (number_of name es)
-places-listed name lists [] = refl
-places-listed name lists (e ∷ es) = by (bytes_eq name e.0.now) (places-listed name lists es)
+pub remove-lent : (name : List ℕ) (es : List (Bor (List ℕ) × ℕ))
+    → map lent (remove_entry (λ key. bytes_eq name key.now) es) ≡ remove_entry (λ other. bytes_eq other name) (map lent es)
+remove-lent name [] = refl
+remove-lent name (e ∷ es) = rw (bytes_eq-flip name e.0.now) (by (bytes_eq e.0.now name) (remove-lent name es))
   where
-    by : (b : Bool) → places_in (listed lists es) name ≡ list_at lists (number_of name es)
-        → unwrap_or (cond b (Some (unwrap_or (slice_get lists e.1) [])) (lookup (λ key. bytes_eq name key) (listed lists es))) []
-        ≡ list_at lists (cond b (Some e.1) (number_of name es))
+    by : (b : Bool) → map lent (remove_entry (λ key. bytes_eq name key.now) es) ≡ remove_entry (λ other. bytes_eq other name) (map lent es)
+        → map lent (cond b es (e ∷ remove_entry (λ key. bytes_eq name key.now) es))
+        ≡ cond b (map lent es) (lent e ∷ remove_entry (λ other. bytes_eq other name) (map lent es))
     by true later = refl
-    by false later = later
+    by false later = ap (λ rest. lent e ∷ rest) later
 
-pub places-at : (name : List ℕ) (lists : List (List ℕ)) (es : List (Bor (List ℕ) × ℕ)) (number : ℕ) → number_of name es ≡ Some number
-    → places_in (listed lists es) name ≡ get_or lists number []
-places-at name lists es number e = places-listed name lists es ∙ ap (list_at lists) e ∙ unwrap_or-slice_get lists number []
+-- the names that are numbered are those of the slots
+pub numbered-names : (number : ℕ) (places : List (Option FileSlot)) → map (λ p. p.0) (numbered number places) ≡ names_of (slots_at places)
+numbered-names number [] = refl
+numbered-names number (None ∷ places) = numbered-names (number + 1) places
+numbered-names number (Some (Foreign stanza) ∷ places) = numbered-names (number + 1) places
+numbered-names number (Some (Recorded entry) ∷ places) = ap (λ names. entry.found.name ∷ names) (numbered-names (number + 1) places)
 
-pub places-nowhere : (name : List ℕ) (lists : List (List ℕ)) (es : List (Bor (List ℕ) × ℕ)) → number_of name es ≡ None
-    → places_in (listed lists es) name ≡ []
-places-nowhere name lists es e = places-listed name lists es ∙ ap (list_at lists) e
+-- what is found of a name among the numbers
+abbrev pub Finds : List ℕ → ℕ → List (Option FileSlot) → Option ℕ → Type 0
+Finds name number places None = entry_named name (slots_at places) ≡ None
+Finds name number places (Some at) = (place : ℕ) × (at ≡ number + place) × IsAt name places place
 
--- where each list keeps its places, each name does
-pub keeps-lists : (old new : List (List ℕ)) (es : List (Bor (List ℕ) × ℕ))
-    → KeepsLists old new → KeepsPlaces (places_in (listed old es)) (places_in (listed new es))
-keeps-lists old new es each name place within = by (number_of name es) refl
+finds-behind : (name : List ℕ) (number : ℕ) (first : Option FileSlot) (places : List (Option FileSlot)) (at : Option ℕ)
+    → entry_named name (slots_at (first ∷ places)) ≡ entry_named name (slots_at places)
+    → Finds name (number + 1) places at → Finds name number (first ∷ places) at
+finds-behind name number first places None same h = same ∙ h
+finds-behind name number first places (Some at) same h = (
+  suc h.0,
+  let e = h.1 in omega (arith, e),
+  record { entry = h.2.entry; there = h.2.there; named = h.2.named; found = same ∙ h.2.found },
+)
+
+pub finds : (name : List ℕ) (number : ℕ) (places : List (Option FileSlot))
+    → Finds name number places (lookup (λ other. bytes_eq other name) (numbered number places))
+finds name number [] = refl
+finds name number (None ∷ places) = finds-behind name number None places _ refl (finds name (number + 1) places)
+finds name number (Some (Foreign stanza) ∷ places) =
+    finds-behind name number (Some (Foreign stanza)) places _ refl (finds name (number + 1) places)
+finds name number (Some (Recorded entry) ∷ places) = by (bytes_eq entry.found.name name) refl (finds name (number + 1) places)
   where
-    by : (o : Option ℕ) → number_of name es ≡ o → Contains (places_in (listed new es) name) place
-    by None e = absurd (Contains-nil place (subst (λ places. Contains places place) (places-nowhere name old es e) within))
-    by (Some number) e = subst (λ places. Contains places place) (sym (places-at name new es number e))
-        (each number place (subst (λ places. Contains places place) (places-at name old es number e) within))
+    by : (b : Bool) → bytes_eq entry.found.name name ≡ b
+        → Finds name (number + 1) places (lookup (λ other. bytes_eq other name) (numbered (number + 1) places))
+        → Finds name number (Some (Recorded entry) ∷ places) (cond b (Some number) (lookup (λ other. bytes_eq other name) (numbered (number + 1) places)))
+    by true e later = (
+      zero,
+      omega arith,
+      record { entry = entry; there = refl; named = bytes_eq-true entry.found.name name e; found = rw e refl },
+    )
+    by false e later = finds-behind name number (Some (Recorded entry)) places _ (rw e refl) later
 
--- a name that is there keeps its number where one is added
-number-kept : (name : List ℕ) (es : List (Bor (List ℕ) × ℕ)) (e : Bor (List ℕ) × ℕ) (number : ℕ) → number_of name es ≡ Some number
-    → number_of name (es ++ e ∷ []) ≡ Some number
-number-kept name [] e number is = absurd (let h = is in cc)
-number-kept name (first ∷ es) e number is = by (bytes_eq name first.0.now) is (number-kept name es e number)
+-- what is found from the first place on
+finds-at : (name : List ℕ) (places : List (Option FileSlot)) (at : Option ℕ) → Finds name 0 places at → FindsAt name places at
+finds-at name places None h = h
+finds-at name places (Some at) h = let e : h.0 ≡ at = let f = h.1 in omega (arith, f) in subst (IsAt name places) e h.2
+
+pub found-at : (name : List ℕ) (places : List (Option FileSlot)) (es : List (Bor (List ℕ) × ℕ)) → map lent es ≡ numbered 0 places
+    → FindsAt name places (lookup (λ key. bytes_eq name key.now) es)
+found-at name places es numbers =
+    subst (FindsAt name places) (sym (lookup-lent name es ∙ ap (lookup (λ other. bytes_eq other name)) numbers))
+    (finds-at name places (lookup (λ other. bytes_eq other name) (numbered 0 places)) (finds name 0 places))
+
+-- a slot of the name of this entry is among those in whose places the entry stands
+pub is_in-there : (places : List (Option FileSlot)) (place : ℕ) (entry : FileRecord) → slice_get places place ≡ Some (Some (Recorded entry))
+    → is_in entry.found.name (names_of (slots_at places)) ≡ true
+is_in-there [] place entry there = absurd (let h = there in cc)
+is_in-there (None ∷ places) zero entry there = absurd (let h = there in cc)
+is_in-there (Some (Foreign stanza) ∷ places) zero entry there = absurd (let h = there in cc)
+is_in-there (Some (Recorded first) ∷ places) zero entry there =
+    let same : first ≡ entry = let h = there in cc in rw (bytes_eq-same first.found.name entry.found.name (ap (λ (e : FileRecord). e.found.name) same)) refl
+is_in-there (None ∷ places) (suc place) entry there = is_in-there places place entry there
+is_in-there (Some (Foreign stanza) ∷ places) (suc place) entry there = is_in-there places place entry there
+is_in-there (Some (Recorded first) ∷ places) (suc place) entry there =
+    rw (is_in-there places place entry there) (or-true (bytes_eq first.found.name entry.found.name))
   where
-    by : (b : Bool) → cond b (Some first.1) (number_of name es) ≡ Some number
-        → (number_of name es ≡ Some number → number_of name (es ++ e ∷ []) ≡ Some number)
-        → cond b (Some first.1) (number_of name (es ++ e ∷ [])) ≡ Some number
-    by true is later = is
-    by false is later = later is
+    or-true : (b : Bool) → (b || true) ≡ true
+    or-true true = refl
+    or-true false = refl
 
--- a name that is added has the number that comes with it
-pub number-added : (name : List ℕ) (es : List (Bor (List ℕ) × ℕ)) (e : Bor (List ℕ) × ℕ) → number_of name es ≡ None
-    → bytes_eq name e.0.now ≡ true → number_of name (es ++ e ∷ []) ≡ Some e.1
-number-added name [] e none same = rw same refl
-number-added name (first ∷ es) e none same = by (bytes_eq name first.0.now) none (λ none. number-added name es e none same)
+-- an entry before the place has another name
+before-other : (first entry : FileRecord) (places : List (Option FileSlot)) (place : ℕ)
+    → is_in first.found.name (names_of (slots_at places)) ≡ false → slice_get places place ≡ Some (Some (Recorded entry))
+    → bytes_eq first.found.name entry.found.name ≡ false
+before-other first entry places place distinct there = by (bytes_eq first.found.name entry.found.name) refl
   where
-    by : (b : Bool) → cond b (Some first.1) (number_of name es) ≡ None
-        → (number_of name es ≡ None → number_of name (es ++ e ∷ []) ≡ Some e.1)
-        → cond b (Some first.1) (number_of name (es ++ e ∷ [])) ≡ Some e.1
-    by true none later = absurd (let h = none in cc)
-    by false none later = later none
+    by : (b : Bool) → bytes_eq first.found.name entry.found.name ≡ b → b ≡ false
+    by false e = refl
+    by true e = absurd (true≢false (sym (is_in-there places place entry there)
+        ∙ subst (λ name. is_in name (names_of (slots_at places)) ≡ false) (bytes_eq-true first.found.name entry.found.name e) distinct))
 
--- each name keeps its places where one is added
-pub keeps-more : (lists : List (List ℕ)) (es : List (Bor (List ℕ) × ℕ)) (e : Bor (List ℕ) × ℕ)
-    → KeepsPlaces (places_in (listed lists es)) (places_in (listed lists (es ++ e ∷ [])))
-keeps-more lists es e name place within = by (number_of name es) refl
-  where
-    by : (o : Option ℕ) → number_of name es ≡ o → Contains (places_in (listed lists (es ++ e ∷ [])) name) place
-    by None is = absurd (Contains-nil place (subst (λ places. Contains places place) (places-nowhere name lists es is) within))
-    by (Some number) is = subst (λ places. Contains places place)
-        (places-at name lists es number is ∙ sym (places-at name lists (es ++ e ∷ []) number (number-kept name es e number is))) within
+-- the numbers stay where an entry is written over one of its name
+pub numbered-written : (number : ℕ) (places : List (Option FileSlot)) (place : ℕ) (entry new : FileRecord)
+    → slice_get places place ≡ Some (Some (Recorded entry)) → new.found.name ≡ entry.found.name
+    → numbered number (slice_set places place (Some (Recorded new))) ≡ numbered number places
+numbered-written number [] place entry new there same = refl
+numbered-written number (None ∷ places) zero entry new there same = absurd (let h = there in cc)
+numbered-written number (Some (Foreign stanza) ∷ places) zero entry new there same = absurd (let h = there in cc)
+numbered-written number (Some (Recorded first) ∷ places) zero entry new there same =
+    let e : entry ≡ first = let h = there in cc in
+    ap (λ name. (name, number) ∷ numbered (number + 1) places) (same ∙ ap (λ (e : FileRecord). e.found.name) e)
+numbered-written number (None ∷ places) (suc place) entry new there same = numbered-written (number + 1) places place entry new there same
+numbered-written number (Some (Foreign stanza) ∷ places) (suc place) entry new there same =
+    numbered-written (number + 1) places place entry new there same
+numbered-written number (Some (Recorded first) ∷ places) (suc place) entry new there same =
+    ap (λ later. (first.found.name, number) ∷ later) (numbered-written (number + 1) places place entry new there same)
 
--- a list that is added leaves each other as it was
-pub keeps-added : (lists : List (List ℕ)) (list : List ℕ) (number place : ℕ) → Contains (get_or lists number []) place
-    → Contains (get_or (lists ++ list ∷ []) number []) place
-keeps-added [] list number place within = absurd (Contains-nil place within)
-keeps-added (first ∷ lists) list zero place within = within
-keeps-added (first ∷ lists) list (suc number) place within = keeps-added lists list number place within
+-- the entry of the name is changed where one is written over it
+pub slots-written : (places : List (Option FileSlot)) (place : ℕ) (entry new : FileRecord) → slice_get places place ≡ Some (Some (Recorded entry))
+    → AreDistinct (names_of (slots_at places))
+    → slots_at (slice_set places place (Some (Recorded new))) ≡ changed_slots (is_named entry.found.name) (λ _. new) (slots_at places)
+slots-written [] place entry new there distinct = refl
+slots-written (None ∷ places) zero entry new there distinct = absurd (let h = there in cc)
+slots-written (Some (Foreign stanza) ∷ places) zero entry new there distinct = absurd (let h = there in cc)
+slots-written (Some (Recorded first) ∷ places) zero entry new there distinct =
+    let same : first.found.name ≡ entry.found.name = ap (λ (e : FileRecord). e.found.name) (let e : first ≡ entry = let h = there in cc in e) in
+    rw (bytes_eq-same first.found.name entry.found.name same)
+    (ap (λ later. Recorded new ∷ later) (sym (unnamed-changed entry.found.name (λ _. new) (slots_at places)
+    (subst (λ name. is_in name (names_of (slots_at places)) ≡ false) same distinct.0))))
+slots-written (None ∷ places) (suc place) entry new there distinct = slots-written places place entry new there distinct
+slots-written (Some (Foreign stanza) ∷ places) (suc place) entry new there distinct =
+    ap (λ later. Foreign stanza ∷ later) (slots-written places place entry new there distinct)
+slots-written (Some (Recorded first) ∷ places) (suc place) entry new there distinct =
+    rw (before-other first entry places place distinct.0 there)
+    (ap (λ later. Recorded first ∷ later) (slots-written places place entry new there distinct.1))
 
--- the list that is added comes last
-pub added-last : (lists : List (List ℕ)) (list : List ℕ) → get_or (lists ++ list ∷ []) (length lists) [] ≡ list
-added-last [] list = refl
-added-last (first ∷ lists) list = added-last lists list
+-- the name loses its number where its place is emptied
+pub numbered-emptied : (number : ℕ) (places : List (Option FileSlot)) (place : ℕ) (entry : FileRecord)
+    → slice_get places place ≡ Some (Some (Recorded entry)) → AreDistinct (names_of (slots_at places))
+    → numbered number (slice_set places place None) ≡ remove_entry (λ other. bytes_eq other entry.found.name) (numbered number places)
+numbered-emptied number [] place entry there distinct = refl
+numbered-emptied number (None ∷ places) zero entry there distinct = absurd (let h = there in cc)
+numbered-emptied number (Some (Foreign stanza) ∷ places) zero entry there distinct = absurd (let h = there in cc)
+numbered-emptied number (Some (Recorded first) ∷ places) zero entry there distinct =
+    let same : first.found.name ≡ entry.found.name = ap (λ (e : FileRecord). e.found.name) (let e : first ≡ entry = let h = there in cc in e) in
+    rw (bytes_eq-same first.found.name entry.found.name same) refl
+numbered-emptied number (None ∷ places) (suc place) entry there distinct = numbered-emptied (number + 1) places place entry there distinct
+numbered-emptied number (Some (Foreign stanza) ∷ places) (suc place) entry there distinct =
+    numbered-emptied (number + 1) places place entry there distinct
+numbered-emptied number (Some (Recorded first) ∷ places) (suc place) entry there distinct =
+    rw (before-other first entry places place distinct.0 there)
+    (ap (λ later. (first.found.name, number) ∷ later) (numbered-emptied (number + 1) places place entry there distinct.1))
 
--- the number that was found is one of the lists'
-pub number-within : (found : Option (Bor ℕ)) (numbers : List ℕ) (count number : ℕ) → All (λ n. n < count) numbers
-    → IfSome found (λ (n : Bor ℕ). IsAmong numbers n.now) → option_copied found ≡ Some number → number < count
-number-within None numbers count number all among is = absurd (let h = is in cc)
-number-within (Some found) numbers count number all among is = let same : found.now ≡ number = let h = is in cc in
-    subst (λ n. n < count) (sym among.1.1 ∙ same) (all among.0 found.now among.1.0)
+-- and its slot is no more
+pub slots-emptied : (places : List (Option FileSlot)) (place : ℕ) (entry : FileRecord) → slice_get places place ≡ Some (Some (Recorded entry))
+    → AreDistinct (names_of (slots_at places))
+    → slots_at (slice_set places place None) ≡ filter (λ slot. not (is_slot_named entry.found.name slot)) (slots_at places)
+slots-emptied [] place entry there distinct = refl
+slots-emptied (None ∷ places) zero entry there distinct = absurd (let h = there in cc)
+slots-emptied (Some (Foreign stanza) ∷ places) zero entry there distinct = absurd (let h = there in cc)
+slots-emptied (Some (Recorded first) ∷ places) zero entry there distinct =
+    let same : first.found.name ≡ entry.found.name = ap (λ (e : FileRecord). e.found.name) (let e : first ≡ entry = let h = there in cc in e) in
+    rw (bytes_eq-same first.found.name entry.found.name same)
+    (sym (unnamed-kept entry.found.name (slots_at places) (subst (λ name. is_in name (names_of (slots_at places)) ≡ false) same distinct.0)))
+slots-emptied (None ∷ places) (suc place) entry there distinct = slots-emptied places place entry there distinct
+slots-emptied (Some (Foreign stanza) ∷ places) (suc place) entry there distinct =
+    ap (λ later. Foreign stanza ∷ later) (slots-emptied places place entry there distinct)
+slots-emptied (Some (Recorded first) ∷ places) (suc place) entry there distinct =
+    rw (before-other first entry places place distinct.0 there)
+    (ap (λ later. Recorded first ∷ later) (slots-emptied places place entry there distinct.1))
 
--- the list of the number holds the places of the name
-pub places-read : (name : List ℕ) (lists : List (List ℕ)) (es : List (Bor (List ℕ) × ℕ)) (number : ℕ) (list : List ℕ)
-    → number_of name es ≡ Some number → number < length lists → list ≡ get_or lists number list → list ≡ places_in (listed lists es) name
-places-read name lists es number list e within is =
-    sym (places-listed name lists es ∙ ap (list_at lists) e
-    ∙ ap (λ found. unwrap_or found []) (slice_get_read lists (length lists) number list refl within is))
+further : (number : ℕ) (places more : List (Option FileSlot)) (before : List (List ℕ × ℕ))
+    → before ++ numbered (number + 1 + length places) more ≡ before ++ numbered (number + suc (length places)) more
+further number places more before =
+    ap (λ n. before ++ numbered n more) (let e : number + 1 + length places ≡ number + suc (length places) = omega arith in e)
 
--- where a list is put in the place of one whose places it keeps, each list keeps its places
-pub set-keeps : (lists : List (List ℕ)) (at : ℕ) (list : List ℕ) → All (Contains list) (get_or lists at [])
-    → KeepsLists lists (slice_set lists at list)
-set-keeps [] at list all number place within = absurd (Contains-nil place within)
-set-keeps (first ∷ lists) zero list all zero place within = All-contains (Contains list) first place all within
-set-keeps (first ∷ lists) zero list all (suc number) place within = within
-set-keeps (first ∷ lists) (suc at) list all zero place within = within
-set-keeps (first ∷ lists) (suc at) list all (suc number) place within = set-keeps lists at list all number place within
+-- the numbers of places behind others
+pub numbered-append : (number : ℕ) (places more : List (Option FileSlot))
+    → numbered number (places ++ more) ≡ numbered number places ++ numbered (number + length places) more
+numbered-append number [] more = ap (λ n. numbered n more) (let e : number ≡ number + 0 = omega arith in e)
+numbered-append number (None ∷ places) more = numbered-append (number + 1) places more ∙ further number places more (numbered (number + 1) places)
+numbered-append number (Some (Foreign stanza) ∷ places) more =
+    numbered-append (number + 1) places more ∙ further number places more (numbered (number + 1) places)
+numbered-append number (Some (Recorded entry) ∷ places) more =
+    ap (λ later. (entry.found.name, number) ∷ later)
+    (numbered-append (number + 1) places more ∙ further number places more (numbered (number + 1) places))
 
--- and is there
-pub set-is : (lists : List (List ℕ)) (at : ℕ) (list : List ℕ) → at < length lists → get_or (slice_set lists at list) at [] ≡ list
-set-is [] at list within = absurd (omega (arith, within))
-set-is (first ∷ lists) zero list within = refl
-set-is (first ∷ lists) (suc at) list within = set-is lists at list (omega (arith, within))
-
--- a place that is put between others is there, and they are
-pub inserted-there : (places : List ℕ) (at place : ℕ) → Contains (insert places at place) place
-inserted-there places at place = Contains-append_right (take at places) (place ∷ drop at places) place (Contains-head place (drop at places))
-
-pub inserted-keeps : (places : List ℕ) (at place : ℕ) → All (Contains (insert places at place)) places
-inserted-keeps places at place = All-intro (Contains (insert places at place)) places (λ other within.
-    elim (Contains-append_cases (take at places) (drop at places) other (subst (λ (xs : List ℕ). Contains xs other) (sym (take-append-drop at places)) within)) [
-      | inl before ↦ Contains-append_left (take at places) (place ∷ drop at places) other before
-      | inr behind ↦ Contains-append_right (take at places) (place ∷ drop at places) other (Contains-rest place (drop at places) other behind)
-    ])
-
--- the list of the name's number is that of the name
-pub entered-has : {E : Type 0} (r : Result (Unit {0}) E) (name : List ℕ) (new : List (List ℕ)) (es : List (Bor (List ℕ) × ℕ)) (at place : ℕ)
-    → OnOk r (Contains (get_or new at []) place) → number_of name es ≡ Some at → OnOk r (Contains (places_in (listed new es) name) place)
-entered-has (Ok done) name new es at place ok is = subst (λ places. Contains places place) (sym (places-at name new es at is)) ok
-entered-has (Err failed) name new es at place ok is = tt
-
--- a list of its own that is added, with a number or without, leaves each other place where it was
-pub keeps-new : (lists new : List (List ℕ)) (es : List (Bor (List ℕ) × ℕ)) (list : List ℕ) → new ≡ lists ++ list ∷ []
-    → KeepsPlaces (places_in (listed lists es)) (places_in (listed new es))
-keeps-new lists new es list is = keeps-lists lists new es (λ number place within.
-    subst (λ found. Contains (get_or found number []) place) (sym is) (keeps-added lists list number place within))
-
-pub keeps-both : (lists new : List (List ℕ)) (es entered : List (Bor (List ℕ) × ℕ)) (list : List ℕ) (e : Bor (List ℕ) × ℕ)
-    → new ≡ lists ++ list ∷ [] → entered ≡ es ++ e ∷ [] → KeepsPlaces (places_in (listed lists es)) (places_in (listed new entered))
-keeps-both lists new es entered list e is entered_is name place within =
-    subst (λ (found : List (Bor (List ℕ) × ℕ)). Contains (places_in (listed new found) name) place) (sym entered_is)
-    (keeps-more new es e name place (keeps-new lists new es list is name place within))
-
--- and is that of the name
-pub both-has : (name : List ℕ) (lists new : List (List ℕ)) (es entered : List (Bor (List ℕ) × ℕ)) (list : List ℕ)
-    (e : Bor (List ℕ) × ℕ) (place : ℕ) → new ≡ lists ++ list ∷ [] → entered ≡ es ++ e ∷ [] → list ≡ place ∷ []
-    → number_of name es ≡ None → e.0.now ≡ name → e.1 ≡ length lists → Contains (places_in (listed new entered) name) place
-both-has name lists new es entered list e place is entered_is list_is none named numbered =
-    subst (λ places. Contains places place)
-    (sym (list_is_that ∙ list_is)) (Contains-head place [])
-  where
-    list_is_that : places_in (listed new entered) name ≡ list
-    list_is_that = ap (λ (found : List (Bor (List ℕ) × ℕ)). places_in (listed new found) name) entered_is
-        ∙ places-at name new (es ++ e ∷ []) e.1 (number-added name es e none (bytes_eq-same name e.0.now (sym named)))
-        ∙ ap (λ found. get_or found e.1 []) is ∙ ap (λ number. get_or (lists ++ list ∷ []) number []) numbered ∙ added-last lists list
-
--- each number stays one of the lists'
-pub within-both : (lists new : List (List ℕ)) (es entered : List (Bor (List ℕ) × ℕ)) (list : List ℕ) (e : Bor (List ℕ) × ℕ)
-    → All (λ n. n < length lists) (values_of es) → new ≡ lists ++ list ∷ [] → entered ≡ es ++ e ∷ [] → e.1 ≡ length lists
-    → All (λ n. n < length new) (values_of entered)
-within-both lists new es entered list e all is entered_is numbered =
-    let count : length new ≡ length lists + 1 = omega (arith, ap length is, length-append lists (list ∷ [])) in
-    let values : values_of entered ≡ values_of es ++ e.1 ∷ [] = ap values_of entered_is ∙ map-append (λ (p : Bor (List ℕ) × ℕ). p.1) es (e ∷ []) in
-    subst (All (λ n. n < length new)) (sym values)
-    (All-push (λ n. n < length new) (values_of es) e.1
-    (All-weaker (λ n. n < length lists) (λ n. n < length new) (λ n below. omega (arith, count, below)) (values_of es) all)
-    (omega (arith, count, numbered)))
-
--- where each list has its gap closed, each name has
-pub closed-places : (gone : ℕ) (name : List ℕ) (lists new : List (List ℕ)) (es : List (Bor (List ℕ) × ℕ)) → new ≡ map (places_left gone) lists
-    → places_in (listed new es) name ≡ places_left gone (places_in (listed lists es) name)
-closed-places gone name lists new es is =
-    places-listed name new es ∙ ap (λ found. list_at found (number_of name es)) is ∙ by (number_of name es)
-    ∙ ap (places_left gone) (sym (places-listed name lists es))
-  where
-    at : (o : Option (List ℕ)) → unwrap_or (option_map (places_left gone) o) [] ≡ places_left gone (unwrap_or o [])
-    at None = refl
-    at (Some list) = refl
-
-    by : (o : Option ℕ) → list_at (map (places_left gone) lists) o ≡ places_left gone (list_at lists o)
-    by None = refl
-    by (Some number) = ap (λ found. unwrap_or found []) (slice_get-map (places_left gone) lists number) ∙ at (slice_get lists number)
-
--- a list that is written over one of its length
-pub refilled : {X : Type 0} (items new : List X) (count : ℕ) → count ≡ length items → length new ≡ length items
-    → take count (new ++ drop (length new) items) ≡ new
-refilled {X} items new count counted same =
-    ap (λ n. take n (new ++ drop (length new) items)) (counted ∙ sym same) ∙ ap (λ (rest : List X). take (length new) (new ++ rest)) (none items same)
-    ∙ all new
-  where
-    none : (items : List X) → length new ≡ length items → drop (length new) items ≡ []
-    none items same = drop_all (length new) items (omega (arith, same))
-
-    all : (xs : List X) → take (length xs) (xs ++ []) ≡ xs
-    all [] = refl
-    all (x ∷ xs) = ap (λ (rest : List X). x ∷ rest) (all xs)
+-- the keys that are lent are the names
+pub lent-names : (es : List (Bor (List ℕ) × ℕ)) → map (λ name. name.now) (keys_of es) ≡ map (λ p. p.0) (map lent es)
+lent-names [] = refl
+lent-names (e ∷ es) = ap (λ names. e.0.now ∷ names) (lent-names es)

@@ -1,3 +1,10 @@
-pub mod StateRecord
-pub mod Holders
-pub mod HolderLaws
+pub mod StanzaOrigin
+pub mod Written
+pub mod ReadBack
+pub mod Slots
+pub mod Left
+pub mod Applicable
+pub mod Places
+pub mod Text
+pub mod Faithful
+pub mod Error

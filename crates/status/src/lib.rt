@@ -1,19 +1,29 @@
-// The status database of dpkg: its records, as the checkers of plans read them. It stands on `rules`, which
-// says what the words of a record mean, on `relation`, and on `index` for what is unpacked. The main type is
-// `StateRecord`.
+//! The status database of dpkg (dpkg(1), "Package states"; Debian Policy 5.1): the stanzas of a status file in their order,
+//! with the actions of dpkg applied in place, and its text. It stands on `status_text`, which reads and spells stanzas, and
+//! on `index` for what is unpacked. The main type is `Database`.
 #![tactic(auto)]
 
-mod copies;
-mod holder;
-mod lookup;
-mod package_record;
-mod place_list;
-mod places;
-mod step;
-mod unpacking;
+mod apply;
+mod change;
+mod database;
+mod error;
+mod fields;
+mod group;
+mod laws;
+mod named;
+mod origin;
+mod record;
+mod table;
+mod words;
+mod write;
 
-pub use copies::try_copy;
-pub use holder::Holders;
-pub use lookup::Records;
-pub use package_record::StateRecord;
-pub use rules::{Flag, State, Step, Want};
+pub use database::Database;
+pub use error::{ApplyError, StepName};
+pub use laws::{
+    entries_are_written, what_a_step_leaves_is_faithful, what_is_faithful_reads_back,
+    what_was_read_is_faithful, what_was_read_reads_back, what_was_touched_reads_back,
+    what_was_unpacked_reads_back,
+};
+pub use record::FileRecord;
+pub use rules::Step;
+pub use status_text::{StatusError, StatusFault};

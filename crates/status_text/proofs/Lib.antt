@@ -4,3 +4,20 @@ pub mod KeptLemmas
 pub mod SeenLemmas
 pub mod SlotsLemmas
 pub mod DistinctLemmas
+pub mod LineLemmas
+pub mod MoreLemmas
+pub mod TrimLemmas
+pub mod ValueLemmas
+pub mod NameLemmas
+pub mod FieldLemmas
+pub mod StanzaLemmas
+pub mod ReadLemmas
+pub mod FoundLemmas
+pub mod ClosedLemmas
+pub mod WrittenLemmas
+mod SpellingRows
+pub mod DistinctFieldLemmas
+pub mod TouchedLemmas
+pub mod StatusLemmas
+pub mod EntryLemmas
+pub mod VersionLemmas

@@ -6,3 +6,7 @@ pub mod Record
 pub mod Kept
 pub mod Status
 pub mod Error
+pub mod Spelling
+pub mod Writable
+pub mod ReadBack
+pub mod Touched

@@ -1,11 +1,12 @@
 //! The text of dpkg's status file (dpkg(1), "Package states"; Debian Policy 5.1): its stanzas, in order, with the records
-//! of the database that plans are judged on, or the first refusal. It stands on `stanza`, `relation` and `rules`.
-//! The main type is `StatusRecord`, the main call `read_status`.
+//! of the database that plans are judged on, or the first refusal; and how stanzas are written. It stands on `stanza`,
+//! `relation` and `rules`. The main type is `StatusFile`, the main call `StatusFile::read`.
 #![tactic(auto)]
 
 mod entry;
 mod error;
 mod file;
+pub mod laws;
 mod mark;
 mod name;
 mod package;
@@ -15,6 +16,7 @@ mod seen;
 mod slot;
 mod walk;
 mod words;
+mod write;
 
 pub use error::{RequiredField, StatusError, StatusFault};
 pub use file::StatusFile;
@@ -24,3 +26,4 @@ pub use read::read_status;
 pub use record::StatusRecord;
 pub use slot::Slot;
 pub use words::Mark;
+pub use write::{write_bytes, write_field};

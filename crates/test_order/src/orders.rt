@@ -3,15 +3,14 @@ ghost use Rattle.std.specs.Prelude.{◌≡◌, map};
 ghost use Rattle.rules.specs.Database.{HasDistinctNames};
 ghost use Rattle.rules.specs.FileRecord.{records_of};
 ghost use Rattle.rules.specs.Verdict.{IsBuiltOn};
-ghost use Rattle.status_view.specs.Packages.{packages_of};
+ghost use Rattle.plancheck_state.specs.Packages.{packages_of};
 
 use order::{Ordered, is_one_each, order};
 use pins::Prefs;
+use plancheck_state::{Records, parse_packages, view};
 use relation::Pkg;
 use rules::{Step, universe_is_built};
-use status::Records;
 use status_text::{StatusFile, StatusRecord};
-use status_view::{parse_packages, view};
 use std::alloc::Global;
 use std::test::Fail;
 use universe::Universe;

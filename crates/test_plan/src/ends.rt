@@ -3,8 +3,8 @@
 use crate::packages::{ARCH, holds, is_answered};
 use debversion::Version;
 use plancheck_end::first_against;
+use plancheck_state::Records;
 use rules::{Goal, GoalLine, Reason};
-use status::Records;
 use std::alloc::{AllocError, Global};
 use std::test::Fail;
 use universe::{Candidate, Candidates, Pairs, Start, Starts, Universe};

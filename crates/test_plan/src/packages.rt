@@ -3,18 +3,17 @@
 ghost use Rattle.std.specs.Prelude.{◌≡◌, map};
 ghost use Rattle.rules.specs.Database.{HasDistinctNames};
 ghost use Rattle.rules.specs.FileRecord.{records_of};
-ghost use Rattle.status_view.specs.Packages.{packages_of};
+ghost use Rattle.plancheck_state.specs.Packages.{packages_of};
 
 use crate::ends::is_against;
 use crate::groups::is_group;
 use crate::steps::unpacks_so;
 use crate::universes::{is_built, is_looked_up};
 use crate::versions::{are_eligible, is_priority};
+use plancheck_state::{Records, parse_packages, view};
 use relation::Pkg;
 use rules::Rule;
-use status::Records;
 use status_text::{StatusFile, StatusRecord};
-use status_view::{parse_packages, view};
 use std::alloc::Global;
 use std::test::Fail;
 

@@ -2,7 +2,7 @@
 use crate::packages::{ARCH, holds, word_of};
 use index::{IndexPackage, read_alone};
 use plancheck::unpack_failing;
-use status::Records;
+use plancheck_state::Records;
 use std::alloc::Global;
 use std::test::Fail;
 

@@ -6,9 +6,9 @@ ghost use Rattle.rules.specs.Database.{HasDistinctNames, IsPresent};
 ghost use Rattle.rules.specs.Step.{is_among, is_named};
 
 use index::{IndexPackage, IndexStanza, read_alone};
+use plancheck_state::{Records, StateRecord};
 use relation::Pkg;
 use rules::{Flag, Name, State, Want, is_name};
-use status::{Records, StateRecord};
 use std::alloc::{AllocError, Global};
 use std::test::Fail;
 

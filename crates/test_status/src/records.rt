@@ -3,7 +3,7 @@
 use crate::marks::{has_mark, has_versions};
 use index::{IndexStanza, read_alone};
 use rows::unescaped;
-use status_record::FileRecord;
+use status::FileRecord;
 use status_text::{Slot, StatusError, read_status};
 use std::alloc::{AllocError, Global};
 use std::test::Fail;

@@ -1,6 +1,6 @@
 //! What the clauses don't say: that the calls succeed, and the texts of a few fields and stanzas, written by hand.
 use rows::unescaped;
-use status_spelling::{write_bytes, write_field};
+use status_text::{write_bytes, write_field};
 use std::alloc::{AllocError, Global};
 use std::str;
 use std::test::Fail;

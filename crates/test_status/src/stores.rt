@@ -2,7 +2,7 @@
 //! leave were worked out by hand from dpkg(1) and Debian Policy 5; the architecture is amd64.
 use plantext::read_step;
 use rows::unescaped;
-use status_store::{ApplyError, Database, FileRecord, Step};
+use status::{ApplyError, Database, FileRecord, Step};
 use std::alloc::{AllocError, Global};
 use std::str;
 use std::test::Fail;

@@ -1,7 +1,7 @@
 -- What is carried out is recorded with the texts that were fetched.
 use Rattle.std.proofs.Common.{◌∙◌, ap, Bor, ℕ, List, map}
 use Rattle.apply.specs.Planned.{planned}
-use Rattle.status_store.specs.Text.{slots_text}
+use Rattle.status.specs.Text.{slots_text}
 use Rattle.status_text.specs.Slot.{Store}
 use Rattle.apply_engine.specs.Planned.{AreRecorded}
 use Rattle.apply_engine.proofs.CarryLemmas.{Is}

@@ -2,7 +2,7 @@
 use Rattle.std.proofs.Common.{◌≡◌, ◌∙◌, true≢false, sym}
 use Rattle.std.specs.List.{All}
 use Rattle.rules.specs.Database.{Record}
-use Rattle.status.specs.HolderLaws.{holders-all, named-holds}
+use Rattle.plancheck_state.specs.HolderLaws.{holders-all, named-holds}
 use Rattle.fixed_order.specs.Turn.{AsksBefore, AsksBeforeBy, rank_in}
 use Rattle.fixed_order.proofs.turn.asks_before.Goals as goal
 

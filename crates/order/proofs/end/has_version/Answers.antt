@@ -3,8 +3,8 @@ use Rattle.rules.specs.Database.{Record, IsInstalled, pkg_of}
 use Rattle.rules.specs.Package.{Pkg}
 use Rattle.rules.specs.Sound.{HasVersion}
 use Rattle.rules.specs.Universe.{IsOf}
-use Rattle.status.specs.HolderLaws.{holders-any, named-holds}
-use Rattle.plancheck_end.proofs.InstalledLemmas.{some_installed, installed_some}
+use Rattle.plancheck_state.specs.HolderLaws.{holders-any, named-holds}
+use Rattle.plancheck_state.specs.InstalledLaws.{some_installed, installed_some}
 use Rattle.order.proofs.end.has_version.Goals as goal
 
 pub returns : goal.returns

@@ -1,7 +1,7 @@
 -- A record of the name holds it.
 use Rattle.rules.specs.Database.{Record, HasSoundFlag, IsInstalled}
 use Rattle.rules.specs.Version.{SameVersion}
-use Rattle.status.specs.HolderLaws.{holders-named}
+use Rattle.plancheck_state.specs.HolderLaws.{holders-named}
 use Rattle.plainness.proofs.ready.is_staying.Goals as goal
 
 pub returns : goal.returns

@@ -2,7 +2,7 @@
 use Rattle.rules.specs.Database.{Record, Stands}
 use Rattle.rules.specs.Universe.{StandsAs}
 use Rattle.rules.specs.Version.{SameVersion}
-use Rattle.status.specs.HolderLaws.{holders-named}
+use Rattle.plancheck_state.specs.HolderLaws.{holders-named}
 use Rattle.plancheck.proofs.held.stands_as.Goals as goal
 
 pub returns : goal.returns

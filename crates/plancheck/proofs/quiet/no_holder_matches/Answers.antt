@@ -1,8 +1,8 @@
 -- What doesn't hold the atom's name doesn't match it.
 use Rattle.std.proofs.Common.{◌∙◌, true≢false, subst, sym}
 use Rattle.rules.specs.Database.{Record}
-use Rattle.status.specs.HolderLaws.{holders-all, matching-holds}
-use Rattle.status.specs.Holders.{AreHolders}
+use Rattle.plancheck_state.specs.HolderLaws.{holders-all, matching-holds}
+use Rattle.plancheck_state.specs.Holders.{AreHolders}
 use Rattle.plancheck.proofs.QuietLemmas.{DoesNotMatch}
 use Rattle.plancheck.proofs.quiet.no_holder_matches.Goals as goal
 

@@ -1,6 +1,6 @@
 -- A record of the name holds it.
 use Rattle.rules.specs.Database.{HasSoundFlag, IsPresent, Record}
-use Rattle.status.specs.HolderLaws.{holders-named}
+use Rattle.plancheck_state.specs.HolderLaws.{holders-named}
 use Rattle.plancheck.proofs.remove.can_be_removed.Goals as goal
 
 pub returns : goal.returns

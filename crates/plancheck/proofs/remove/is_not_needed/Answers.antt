@@ -2,7 +2,7 @@
 use Rattle.std.proofs.Common.{◌≡◌, ◌∙◌, true≢false, sym}
 use Rattle.rules.specs.Database.{IsPresent, Record}
 use Rattle.rules.specs.Remove.{IsNeededByNone, IsNotNeeded}
-use Rattle.status.specs.HolderLaws.{holders-all, named-holds}
+use Rattle.plancheck_state.specs.HolderLaws.{holders-all, named-holds}
 use Rattle.plancheck.proofs.remove.is_not_needed.Goals as goal
 
 pub returns : goal.returns

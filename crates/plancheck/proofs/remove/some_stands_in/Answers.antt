@@ -4,7 +4,7 @@ use Rattle.std.specs.Prelude.{IsTrue, ◌↔◌}
 use Rattle.rules.specs.Database.{Record, SomeOther, Stands, pkg_of}
 use Rattle.rules.specs.ElementLaws.{Any-weaker}
 use Rattle.rules.specs.Package.{Atom, MatchesSome}
-use Rattle.status.specs.HolderLaws.{some-by-atoms}
+use Rattle.plancheck_state.specs.HolderLaws.{some-by-atoms}
 use Rattle.plancheck.proofs.remove.some_stands_in.Goals as goal
 
 pub returns : goal.returns

@@ -2,8 +2,8 @@
 use Rattle.std.proofs.Common.{◌≢◌, subst}
 use Rattle.rules.specs.Database.{Record, Stands, pkg_of}
 use Rattle.rules.specs.Package.{Matches}
-use Rattle.status.specs.HolderLaws.{holders-any, matching-holds}
-use Rattle.status.specs.Holders.{AreHolders}
+use Rattle.plancheck_state.specs.HolderLaws.{holders-any, matching-holds}
+use Rattle.plancheck_state.specs.Holders.{AreHolders}
 use Rattle.plancheck.proofs.remove.some_stands_in_atom.Goals as goal
 
 pub returns : goal.returns

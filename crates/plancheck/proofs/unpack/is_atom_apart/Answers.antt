@@ -1,8 +1,8 @@
 -- What doesn't hold the atom's name doesn't match it.
 use Rattle.std.proofs.Common.{◌∙◌, true≢false, subst, sym}
 use Rattle.rules.specs.Database.{Record}
-use Rattle.status.specs.HolderLaws.{holders-all, matching-holds}
-use Rattle.status.specs.Holders.{AreHolders}
+use Rattle.plancheck_state.specs.HolderLaws.{holders-all, matching-holds}
+use Rattle.plancheck_state.specs.Holders.{AreHolders}
 use Rattle.plancheck.specs.Apart.{IsApart}
 use Rattle.plancheck.proofs.unpack.is_atom_apart.Goals as goal
 

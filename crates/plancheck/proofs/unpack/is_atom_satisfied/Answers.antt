@@ -2,8 +2,8 @@
 use Rattle.std.proofs.Common.{◌≢◌, subst}
 use Rattle.rules.specs.Database.{Record}
 use Rattle.rules.specs.Unpack.{SatisfiesAtom}
-use Rattle.status.specs.HolderLaws.{holders-any}
-use Rattle.status.specs.Holders.{AreHolders}
+use Rattle.plancheck_state.specs.HolderLaws.{holders-any}
+use Rattle.plancheck_state.specs.Holders.{AreHolders}
 use Rattle.plancheck.proofs.SatisfiedLemmas.{satisfying-holds}
 use Rattle.plancheck.proofs.unpack.is_atom_satisfied.Goals as goal
 

@@ -2,8 +2,8 @@
 use Rattle.std.proofs.Common.{◌∙◌, ◌≢◌, true≢false, subst, sym}
 use Rattle.rules.specs.Database.{Record, IsInstalled, pkg_of}
 use Rattle.rules.specs.Package.{Matches}
-use Rattle.status.specs.HolderLaws.{holders-all, matching-holds}
-use Rattle.status.specs.Holders.{AreHolders}
+use Rattle.plancheck_state.specs.HolderLaws.{holders-all, matching-holds}
+use Rattle.plancheck_state.specs.Holders.{AreHolders}
 use Rattle.plancheck_end.proofs.content.is_atom_apart.Goals as goal
 
 pub returns : goal.returns

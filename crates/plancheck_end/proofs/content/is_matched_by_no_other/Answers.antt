@@ -1,5 +1,5 @@
 -- No other matches an atom where none matches any.
-use Rattle.plancheck_end.proofs.InstalledLemmas.{apart_by_atoms}
+use Rattle.plancheck_state.specs.InstalledLaws.{apart_by_atoms}
 use Rattle.plancheck_end.proofs.content.is_matched_by_no_other.Goals as goal
 
 pub returns : goal.returns

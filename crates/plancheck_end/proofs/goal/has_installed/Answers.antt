@@ -2,8 +2,8 @@
 use Rattle.std.proofs.Common.{◌≡◌}
 use Rattle.rules.specs.Database.{Record, IsInstalled, pkg_of}
 use Rattle.rules.specs.Package.{Pkg, Meets}
-use Rattle.status.specs.HolderLaws.{holders-any, named-holds}
-use Rattle.plancheck_end.proofs.InstalledLemmas.{some_installed, installed_some}
+use Rattle.plancheck_state.specs.HolderLaws.{holders-any, named-holds}
+use Rattle.plancheck_state.specs.InstalledLaws.{some_installed, installed_some}
 use Rattle.plancheck_end.proofs.goal.has_installed.Goals as goal
 
 pub returns : goal.returns

@@ -3,7 +3,7 @@ use Rattle.std.proofs.Common.{◌≡◌, ◌∙◌, true≢false, sym}
 use Rattle.std.specs.Prelude.{IsTrue}
 use Rattle.rules.specs.Database.{Record}
 use Rattle.rules.specs.State.{is_not_installed_state}
-use Rattle.status.specs.HolderLaws.{holders-all, named-holds}
+use Rattle.plancheck_state.specs.HolderLaws.{holders-all, named-holds}
 use Rattle.plancheck_end.proofs.goal.is_gone.Goals as goal
 
 pub returns : goal.returns

@@ -2,7 +2,7 @@
 use Rattle.rules.specs.Configure.{ArePreDependsInstalled}
 use Rattle.rules.specs.Database.{Record, installed_of}
 use Rattle.rules.specs.Sound.{MeetsClauses}
-use Rattle.status.specs.HolderLaws.{members-by-name}
+use Rattle.plancheck_state.specs.HolderLaws.{members-by-name}
 use Rattle.plancheck_group.proofs.configure.are_pre_depends_installed.Goals as goal
 
 pub returns : goal.returns

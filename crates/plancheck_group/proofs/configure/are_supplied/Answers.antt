@@ -3,7 +3,7 @@ use Rattle.std.proofs.Common.{◌++◌}
 use Rattle.rules.specs.Configure.{members_of}
 use Rattle.rules.specs.Database.{Record, installed_of}
 use Rattle.rules.specs.Sound.{MeetsClauses}
-use Rattle.status.specs.HolderLaws.{members-by-name}
+use Rattle.plancheck_state.specs.HolderLaws.{members-by-name}
 use Rattle.plancheck_group.specs.Part.{AreSupplied}
 use Rattle.plancheck_group.proofs.configure.are_supplied.Goals as goal
 

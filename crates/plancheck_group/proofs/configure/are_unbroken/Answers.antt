@@ -1,6 +1,6 @@
 -- The group's members are the records of its names.
 use Rattle.rules.specs.Configure.{AreUnbroken, IsUnbroken}
-use Rattle.status.specs.HolderLaws.{members-by-name}
+use Rattle.plancheck_state.specs.HolderLaws.{members-by-name}
 use Rattle.plancheck_group.proofs.configure.are_unbroken.Goals as goal
 
 pub returns : goal.returns

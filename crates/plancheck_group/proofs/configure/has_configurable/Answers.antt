@@ -1,6 +1,6 @@
 -- A record of the name holds it.
 use Rattle.rules.specs.Configure.{HasConfigurable, IsConfigurable}
-use Rattle.status.specs.HolderLaws.{holders-named}
+use Rattle.plancheck_state.specs.HolderLaws.{holders-named}
 use Rattle.plancheck_group.proofs.configure.has_configurable.Goals as goal
 
 pub returns : goal.returns

@@ -3,8 +3,8 @@ use Rattle.std.proofs.Common.{◌≡◌, true, subst}
 use Rattle.rules.specs.Configure.{is_present_among}
 use Rattle.rules.specs.Database.{Record, pkg_of}
 use Rattle.rules.specs.Package.{Matches}
-use Rattle.status.specs.HolderLaws.{holders-any, matching-holds}
-use Rattle.status.specs.Holders.{AreHolders}
+use Rattle.plancheck_state.specs.HolderLaws.{holders-any, matching-holds}
+use Rattle.plancheck_state.specs.Holders.{AreHolders}
 use Rattle.plancheck_group.proofs.configure.is_atom_met_among.Goals as goal
 
 pub returns : goal.returns

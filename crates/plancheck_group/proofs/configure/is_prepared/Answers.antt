@@ -2,7 +2,7 @@
 use Rattle.std.proofs.Common.{◌≡◌, ◌∙◌, true≢false, sym}
 use Rattle.rules.specs.Database.{Record, installed_of}
 use Rattle.rules.specs.Sound.{MeetsClauses}
-use Rattle.status.specs.HolderLaws.{holders-all, named-holds}
+use Rattle.plancheck_state.specs.HolderLaws.{holders-all, named-holds}
 use Rattle.plancheck_group.proofs.configure.is_prepared.Goals as goal
 
 pub returns : goal.returns

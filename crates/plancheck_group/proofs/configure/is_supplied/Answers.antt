@@ -3,7 +3,7 @@ use Rattle.std.proofs.Common.{◌≡◌, ◌++◌, ◌∙◌, true≢false, sym}
 use Rattle.rules.specs.Configure.{members_of}
 use Rattle.rules.specs.Database.{Record, installed_of}
 use Rattle.rules.specs.Sound.{MeetsClauses}
-use Rattle.status.specs.HolderLaws.{holders-all, named-holds}
+use Rattle.plancheck_state.specs.HolderLaws.{holders-all, named-holds}
 use Rattle.plancheck_group.proofs.configure.is_supplied.Goals as goal
 
 pub returns : goal.returns

@@ -5,7 +5,7 @@ use Rattle.std.specs.List.{Any}
 use Rattle.rules.specs.Configure.{is_present_among}
 use Rattle.rules.specs.Database.{Record, pkg_of}
 use Rattle.rules.specs.Package.{Atom, MatchesSome}
-use Rattle.status.specs.HolderLaws.{some-by-atoms}
+use Rattle.plancheck_state.specs.HolderLaws.{some-by-atoms}
 use Rattle.plancheck_group.proofs.configure.some_matches_among.Goals as goal
 
 pub returns : goal.returns

@@ -1,0 +1,19 @@
+-- A record of the name holds it, and the installed packages are those of the installed records.
+use Rattle.rules.specs.Database.{Record, IsInstalled, pkg_of}
+use Rattle.rules.specs.Package.{Pkg}
+use Rattle.rules.specs.Sound.{HasVersion}
+use Rattle.rules.specs.Universe.{IsOf}
+use Rattle.plancheck_state.specs.HolderLaws.{holders-any, named-holds}
+use Rattle.plancheck_state.specs.InstalledLaws.{some_installed, installed_some}
+use Rattle.plancheck_state.proofs.installed.has_version.Goals as goal
+
+pub returns : goal.returns
+unfolding HasVersion
+returns c =
+    let P : Pkg → Type 0 = IsOf c.args.name.now c.args.version.now in
+    let Q : Record → Type 0 = λ found. IsInstalled found × P (pkg_of found) in
+    let both = holders-any Q c.args.name.now c.args.db.now c.holders.result c.holders.ensures
+    (λ found has. named-holds c.args.name.now found has.1.0) in (
+      λ there. some_installed P c.args.db.now (both.0 (c.some_is_version.ensures.0 there)),
+      λ has. c.some_is_version.ensures.1 (both.1 (installed_some P c.args.db.now has)),
+    )

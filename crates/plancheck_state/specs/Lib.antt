@@ -1,0 +1,5 @@
+pub mod StateRecord
+pub mod Holders
+pub mod HolderLaws
+pub mod Packages
+pub mod InstalledLaws

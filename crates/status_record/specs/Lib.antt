@@ -1,3 +1,0 @@
-pub mod StanzaOrigin
-pub mod Written
-pub mod ReadBack

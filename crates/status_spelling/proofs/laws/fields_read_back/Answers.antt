@@ -1,9 +1,0 @@
--- The text of the fields is one stanza, and reads as that.
-use Rattle.status_spelling.specs.Spelling.{fields_text}
-use Rattle.status_spelling.proofs.StanzaLemmas.{HasFields-written}
-use Rattle.status_spelling.proofs.ReadLemmas.{ReadsAs-one}
-use Rattle.status_spelling.proofs.laws.fields_read_back.Goals as goal
-
-pub returns : goal.returns
-returns c fields can =
-    ReadsAs-one fields (fields_text fields) (record { has = HasFields-written fields can.each; some = can.some; names = can.names })

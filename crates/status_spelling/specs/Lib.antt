@@ -1,4 +1,0 @@
-pub mod Spelling
-pub mod Writable
-pub mod ReadBack
-pub mod Touched

@@ -1,8 +1,0 @@
--- The packages so far, and those of the records that are left, are the packages of all.
-use Rattle.std.proofs.Common.{◌≡◌, ◌++◌, drop, map}
-use Rattle.status_view.specs.Packages.{packages_of}
-use Rattle.status_view.proofs.packages.parse_packages.Given as goal
-
-abbrev pub invariant-loop-record : goal.invariant-loop-record
-invariant-loop-record l = l.packages.items ++ packages_of (map (λ found. found.now) (drop l.record-index l.records))
-    ≡ packages_of (map (λ found. found.now) l.records)
