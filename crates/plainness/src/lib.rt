@@ -1,5 +1,5 @@
 // Whether a change from a start to a selection is plain: whether no step of it can stand in another's way. It stands on
-// `plain`, which says what that is, on the values of `status` and `universe`, and on what `plancheck` says of a name; it
+// `plain`, which says what that is, on the values of `plancheck_state` and `universe`, and on what `plancheck` says of a name; it
 // uses nothing of what finds plans. The call is `is_plain`.
 #![tactic(auto)]
 

@@ -1,5 +1,5 @@
 // Legality of plans: whether each action is legal by Policy chapter 7 when its turn comes, and whether the end
-// is good. It stands on `rules`, which says what legal is, on the values of `relation` and `status`, on
+// is good. It stands on `rules`, which says what legal is, on the values of `relation` and `plancheck_state`, on
 // `plancheck_group` and on `plancheck_end`; it uses nothing of what finds plans. A judge of its own: the call is `check_plan`.
 #![tactic(auto)]
 

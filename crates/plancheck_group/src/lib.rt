@@ -1,6 +1,6 @@
 //! What a group of packages needs to be configured together, and whether a part of it could be configured by
 //! itself (Policy 7.2 and 7.3). It stands on `rules`, which says what a group needs, and on the values of
-//! `relation` and `status`. A part of the judge: it uses nothing of what finds plans. The calls are
+//! `relation` and `plancheck_state`. A part of the judge: it uses nothing of what finds plans. The calls are
 //! `is_indivisible` and `greatest_part`.
 #![tactic(auto)]
 
