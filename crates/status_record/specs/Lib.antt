@@ -1,3 +1,4 @@
 pub mod StanzaOrigin
+pub mod Tested
 pub mod Written
 pub mod ReadBack
