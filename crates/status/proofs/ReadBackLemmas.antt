@@ -2,7 +2,7 @@
 use Rattle.std.proofs.Common.{◌≡◌, ℕ, Bool, true, false, true≢false, not, ◌||◌, List, [], ◌∷◌, map, Option, None, Some, Result, Ok, refl, sym, ap, ◌∙◌, subst, is_some, unwrap_or, codes, if◌then◌else◌}
 use Rattle.std.specs.Option.{option_and_then, option_or}
 use Rattle.index.specs.Index.{indexed_at, indexed_with, read_entry, read_indexed, read_native, unless_name_fault}
-use Rattle.relation.specs.PackageStanza.{counts_for, field_of, is_essential, read_stanza}
+use Rattle.relation.specs.PackageStanza.{counts_for, field_of, read_stanza}
 use Rattle.index.specs.declared.error.IndexFault.{IndexFault}
 use Rattle.relation.specs.PkgFields.{fields_of}
 use Rattle.relation.specs.PkgText.{pkg_fault, pkg_name_fault, pkg_of, pkg_version_fault, relations_fault, unless_fault}

@@ -1,4 +1,5 @@
 pub mod StanzaOrigin
+pub mod Tested
 pub mod Written
 pub mod ReadBack
 pub mod Slots

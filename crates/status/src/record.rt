@@ -15,7 +15,7 @@ use index::IndexStanza;
 use relation::{Pkg, PkgError};
 use rules::{Flag, State, Want};
 use stanza::Stanza;
-use status_text::{Mark, StatusRecord};
+use status_text::{Mark, StatusRecord, TestedPkg};
 use std::alloc::{AllocError, Global};
 use std::marker::Model;
 
@@ -30,12 +30,14 @@ pub struct FileRecord<'a> {
     pub(crate) mark: Mark,
     version: Option<Version<'a>>,
     config_version: Option<Version<'a>>,
+    tested: Option<TestedPkg<'a>>,
     is_essential: bool,
 }
 
 impl<'a> Model for FileRecord<'a> {
     ghost use Rattle.rules.specs.FileRecord.{FileRecord as FileRecordValue};
     ghost use Rattle.status.specs.StanzaOrigin.{IsPastTriggers, entry_by};
+    ghost use Rattle.status.specs.Tested.{MayBeTested};
     ghost use Rattle.status_text.specs.Kept.{IsKept, kept_record};
 
     ghost Value = { FileRecordValue };
@@ -45,7 +47,8 @@ impl<'a> Model for FileRecord<'a> {
 
     ghost invariant = { λ r. IsKept r.arch.now r.stanza
         (kept_record r.arch.now r.stanza r.name.now r.mark r.version r.config_version r.is_essential)
-        × IsPastTriggers r.origin r.mark.state };
+        × IsPastTriggers r.origin r.mark.state
+        × MayBeTested (kept_record r.arch.now r.stanza r.name.now r.mark r.version r.config_version r.is_essential) r.tested };
 }
 
 pub(crate) fn version_again<'a>(version: &Option<Version<'a>>) -> Option<Version<'a>>
@@ -53,6 +56,15 @@ pub(crate) fn version_again<'a>(version: &Option<Version<'a>>) -> Option<Version
 {
     match version {
         Some(version) => Some(version.again()),
+        None => None,
+    }
+}
+
+fn tested_again<'a>(tested: &Option<TestedPkg<'a>>) -> Option<TestedPkg<'a>>
+    ensures { result ≡ tested.now }
+{
+    match tested {
+        Some(tested) => Some(tested.again()),
         None => None,
     }
 }
@@ -76,6 +88,7 @@ impl<'a> FileRecord<'a> {
             version: version_again(found.version()),
             config_version: version_again(found.config_version()),
             is_essential: found.is_essential(),
+            tested: found.tested(),
         }
     }
 
@@ -91,6 +104,7 @@ impl<'a> FileRecord<'a> {
             mark: self.mark,
             version: version_again(&self.version),
             config_version: version_again(&self.config_version),
+            tested: tested_again(&self.tested),
             is_essential: self.is_essential,
         }
     }
@@ -109,6 +123,7 @@ impl<'a> FileRecord<'a> {
             mark,
             version: version_again(&self.version),
             config_version,
+            tested: tested_again(&self.tested),
             is_essential: self.is_essential,
         }
     }
@@ -142,6 +157,7 @@ impl<'a> FileRecord<'a> {
             },
             version: Some(indexed.version().again()),
             config_version,
+            tested: None,
             is_essential: indexed.is_essential(),
         }
     }
@@ -227,8 +243,8 @@ impl<'a> FileRecord<'a> {
         (self.state().is_unconfigured() || self.state().is_installed()) && self.flag().is_sound()
     }
 
-    /// The package of a present record. Memory alone can fail. Linear in the stanza.
-    pub fn pkg(&self, alloc: Global) -> Result<Pkg<'a>, AllocError>
+    // The package of a present record, read from its stanza.
+    fn read_pkg(&self, alloc: Global) -> Result<Pkg<'a>, AllocError>
         requires { IsPresent self.now.found }
         ensures { IfOk result (λ pkg. pkg ≡ pkg_of self.now.found) }
     {
@@ -236,6 +252,18 @@ impl<'a> FileRecord<'a> {
             Ok(pkg) => Ok(pkg),
             Err(PkgError::OutOfMemory) => Err(AllocError),
             Err(_) => unreachable!(),
+        }
+    }
+
+    /// The package of a present record. Memory alone can fail. Linear in the relation fields, and in the stanza where it
+    /// was unpacked from an index.
+    pub fn pkg(&self, alloc: Global) -> Result<Pkg<'a>, AllocError>
+        requires { IsPresent self.now.found }
+        ensures { IfOk result (λ pkg. pkg ≡ pkg_of self.now.found) }
+    {
+        match &self.tested {
+            Some(tested) => tested.pkg(alloc),
+            None => self.read_pkg(alloc),
         }
     }
 }

@@ -176,11 +176,13 @@ impl<'a> StatusRecord<'a> {
     }
 
     /// The package of a present record, whose relation fields have been tested.
-    pub fn into_tested(self) -> Option<TestedPkg<'a>>
-        ensures { IsTested self.entry.found result }
+    pub fn tested(&self) -> Option<TestedPkg<'a>>
+        ensures { IsTested self.now.found result }
     {
-        let StatusRecord { tested, .. } = self;
-        tested
+        match &self.tested {
+            Some(tested) => Some(tested.again()),
+            None => None,
+        }
     }
 
     /// The package of a present record. Memory alone can fail. Linear in the relation fields.
