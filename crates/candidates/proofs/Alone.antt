@@ -5,7 +5,7 @@ use Rattle.std.specs.List.{Any, Contains, find}
 use Rattle.std.specs.List.Sorted.{IsStrictlySortedBy}
 use Rattle.std.specs.Option.{option_map, option_or}
 use Rattle.std.proofs.lemmas.Bool.{and_from, and_parts}
-use Rattle.std.proofs.lemmas.List.Elements.{Contains-append_cases}
+use Rattle.std.proofs.lemmas.List.Elements.{Contains-append_cases, filter-append}
 use Rattle.std.proofs.lemmas.Option.{same_Some}
 use Rattle.pins.specs.Prefs.{Preferences}
 use Rattle.rules.specs.Available.{is_of}
@@ -19,9 +19,9 @@ use Rattle.rules.specs.Version.{SameVersion}
 use Rattle.rules.specs.VersionOrderLaws.{SameVersion-refl}
 use Rattle.universe.proofs.Finding.{find-exists, find-some}
 use Rattle.universe.proofs.PairOrder.{is_of-parts}
-use Rattle.candidates.specs.Offer.{IsFor, Offer}
+use Rattle.candidates.specs.Offer.{IsFor, Offer, eligible, is_eligible}
 use Rattle.candidates.specs.Place.{Place, stanzas_of, with_version}
-use Rattle.candidates.specs.Rated.{AreRated, HasPlace, IsFrom, IsKept, IsRated, StandsAlone, origins_with, standing_alone}
+use Rattle.candidates.specs.Rated.{AreEligible, AreEligibleAmong, AreRated, HasPlace, IsFrom, IsKept, IsRated, StandsAlone, origins_with, standing_alone}
 use Rattle.candidates.specs.Recorded.{record_cmp, standing_as, standing_version}
 use Rattle.candidates.specs.Stanza.{IsOrdered, stanza_of}
 use Rattle.candidates.proofs.Kept.{no_places, standing_as-from, standing_as-is, standing_version-from, standing_version-is, stanza_of-same}
@@ -189,7 +189,7 @@ module _ (prefs : Preferences) (known : List Record) (places : List Place) (orde
           )
 
 -- the offers of the places and of what stands alone are those of all that is available
-pub AreRated-both : (prefs : Preferences) (db : List Record) (places : List Place) (listed alone : List Offer)
+AreRated-both : (prefs : Preferences) (db : List Record) (places : List Place) (listed alone : List Offer)
     → AreRated (HasPlace places) prefs db places listed → AreRated (StandsAlone db places) prefs db places alone
     → AreRated (IsKept db places) prefs db places (listed ++ alone)
 AreRated-both prefs db places listed alone of_places of_alone = record {
@@ -218,3 +218,14 @@ AreRated-both prefs db places listed alone of_places of_alone = record {
         or_none : (o : Option (List ℕ)) → IsSome (option_or o None) → IsSome o
         or_none None some = some
         or_none (Some text) some = refl
+
+-- what may be chosen of the places, and of what stands alone, is what may be chosen
+pub AreEligible-both : (prefs : Preferences) (db : List Record) (places : List Place) (listed further alone : List Offer)
+    → AreEligibleAmong (HasPlace places) prefs db places listed → AreRated (StandsAlone db places) prefs db places further
+    → alone ≡ eligible db further → AreEligible prefs db places (listed ++ alone)
+AreEligible-both prefs db places listed further alone of_places of_alone kept = record {
+  offers = of_places.offers ++ further;
+  rated = AreRated-both prefs db places of_places.offers further of_places.rated of_alone;
+  kept = ap (λ (xs : List Offer). xs ++ alone) of_places.kept ∙ ap (λ (xs : List Offer). eligible db of_places.offers ++ xs) kept
+      ∙ sym (filter-append (is_eligible db) of_places.offers further);
+}

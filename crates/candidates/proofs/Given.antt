@@ -14,14 +14,14 @@ use Rattle.candidates.specs.Inputs.{inputs_of}
 use Rattle.candidates.specs.Offer.{AreBest, Offer, eligible, is_eligible}
 use Rattle.candidates.specs.Place.{AreSorted, Place, places_of, stanzas_of, with_version}
 use Rattle.candidates.specs.Rated.{AreChosen, AreRated, IsKept, IsRated, kept_version, origins_among, origins_with}
-use Rattle.candidates.specs.Recorded.{IsByName, standing_version}
+use Rattle.candidates.specs.Recorded.{IsByName, standing_version, stands_above}
 use Rattle.candidates.specs.Stanza.{IsOrdered, stanza_of}
 use Rattle.candidates.proofs.AllVersions.{AreAllVersions-from}
 use Rattle.candidates.proofs.Available.{stanzas_of-places}
 use Rattle.candidates.proofs.Candidates.{AreCandidates-from}
 use Rattle.candidates.proofs.Finding.{first_of_all}
 use Rattle.candidates.proofs.Kept.{standing_version-known, stanza_of-places}
-use Rattle.candidates.proofs.Named.{of_record-known, stands_over}
+use Rattle.candidates.proofs.Named.{of_record-known}
 
 -- the stanza of a version is the same among the places in order
 stanza_of-sorted : (places sorted : List Place) → AreSorted places sorted → (name version : List ℕ)
@@ -71,7 +71,7 @@ module _ (prefs : Preferences) (db known : List Record) (places sorted : List Pl
 eligible_known : (db known : List Record) → IsByName db known → (offers : List Offer) → eligible known offers ≡ eligible db offers
 eligible_known db known named offers = filter_agree (is_eligible known) (is_eligible db)
     (λ offer. ap (λ (b : Bool). int_lt (pos 0) offer.priority && not (int_lt offer.priority (pos 1000) && b))
-    (of_record-known (stands_over offer.version) db known named offer.name)) offers
+    (of_record-known (stands_above offer.version) db known named offer.name)) offers
 
 module _ (db known : List Record) (indices : List Index) (prefs : Preferences) (request : Request) (sorted : List Place) (all : Bool)
     (best each : List Offer) (distinct : HasDistinctNames db) (named : IsByName db known) (are : AreSorted (places_of indices) sorted)

@@ -1,26 +1,26 @@
 -- The offers of the places that are behind, and how one is added.
-use Rattle.std.proofs.Common.{◌≡◌, ℕ, ◌<◌, Bool, true, false, List, [], ◌∷◌, ◌++◌, length, take, drop, Option, Some, None, refl, sym, ap, subst, ◌∙◌, arith}
+use Rattle.std.proofs.Common.{◌≡◌, ℕ, ◌+◌, ◌<◌, Bool, true, false, cond, if◌then◌else◌, List, [], ◌∷◌, ◌++◌, length, take, drop, Option, Some, None, refl, sym, ap, subst, ◌∙◌, arith}
 use Rattle.std.specs.Prelude.{is_some}
-use Rattle.std.specs.List.{Any, Contains, filter, prefix_len}
+use Rattle.std.specs.List.{Any, Contains, filter, find, prefix_len}
 use Rattle.std.specs.List.Sorted.{IsSorted}
-use Rattle.std.specs.Option.{option_map, option_or}
-use Rattle.std.proofs.lemmas.List.{append-nil, append_assoc, take-append-drop}
+use Rattle.std.specs.Option.{option_and_then, option_map, option_or}
+use Rattle.std.proofs.lemmas.List.{append-nil, append_assoc, drop-drop, take-append-drop}
 use Rattle.std.proofs.lemmas.List.Folds.{length-prefix_len}
-use Rattle.std.proofs.lemmas.List.Elements.{Contains-append_cases}
+use Rattle.std.proofs.lemmas.List.Elements.{Contains-append_cases, filter-append}
 use Rattle.std.proofs.lemmas.Option.{same_Some}
 use Rattle.pins.specs.Prefs.{Preferences}
 use Rattle.rules.specs.Database.{Record}
 use Rattle.rules.specs.ElementLaws.{Any-append_left, Any-append_right, Any-elim, Any-intro, Contains-cons, Contains-head, Contains-nil}
 use Rattle.rules.specs.Priority.{HasPriorityAmong}
-use Rattle.rules.specs.Step.{IndexPackage}
+use Rattle.rules.specs.Step.{IndexPackage, is_named}
 use Rattle.rules.specs.Universe.{IsOf}
 use Rattle.rules.specs.Version.{SameVersion}
 use Rattle.rules.specs.VersionOrderLaws.{SameVersion-refl, SameVersion-symm, SameVersion-trans}
 use Rattle.universe.proofs.PairOrder.{is_of-from, is_of-parts}
-use Rattle.candidates.specs.Offer.{IsFor, Offer}
+use Rattle.candidates.specs.Offer.{IsFor, Offer, eligible, is_eligible, is_eligible_beside}
 use Rattle.candidates.specs.Place.{IsNextRun, Place, is_like, place_cmp, stanzas_of, with_version}
-use Rattle.candidates.specs.Rated.{AreRated, HasPlace, IsOfRun, IsRated, kept_version, origins_with}
-use Rattle.candidates.specs.Recorded.{standing_version}
+use Rattle.candidates.specs.Rated.{AreEligibleAmong, AreRated, HasPlace, IsEligibleOfRun, IsOfRun, IsRated, kept_version, origins_with}
+use Rattle.candidates.specs.Recorded.{standing_as, standing_version}
 use Rattle.candidates.specs.Stanza.{stanza_of}
 use Rattle.candidates.proofs.Finding.{first_of_all}
 use Rattle.candidates.proofs.Kept.{kept_version-same, standing_version-is, standing_version-same, stanza_of-places, with_version-same}
@@ -84,7 +84,8 @@ kept_same None db name version kept is kept_is =
 
 -- the offer of a run that is all that its version has is rated
 IsRated-run : (prefs : Preferences) (db : List Record) (places : List Place) (first : Place) (more : List Place) (offer : Offer)
-    → filter (is_like first) places ≡ first ∷ more → IsOfRun prefs db first (first ∷ more) offer
+    → filter (is_like first) places ≡ first ∷ more
+    → IsOfRun prefs (standing_version db first.listed.pkg.name first.listed.pkg.version) first (first ∷ more) offer
     → IsRated prefs db places offer × IsFor first.listed.pkg.name first.listed.pkg.version offer
 IsRated-run prefs db places first more offer whole of =
     let name : List ℕ = first.listed.pkg.name in
@@ -113,7 +114,8 @@ IsRated-run prefs db places first more offer whole of =
 -- a run is put behind with its offer
 pub AreOffered-push : (prefs : Preferences) (db : List Record) (places left : List Place) (offers : List Offer)
     → AreOffered prefs db places left offers → (first : Place) (run : List Place) → IsNextRun left first run → (offer : Offer)
-    → IsOfRun prefs db first run offer → AreOffered prefs db places (drop (length run) left) (offers ++ offer ∷ [])
+    → IsOfRun prefs (standing_version db first.listed.pkg.name first.listed.pkg.version) first run offer
+    → AreOffered prefs db places (drop (length run) left) (offers ++ offer ∷ [])
 AreOffered-push prefs db places left offers are first run next offer of = record {
   before = are.before ++ front;
   parts = append_assoc are.before front later ∙ ap (λ (xs : List Place). are.before ++ xs) joined ∙ are.parts;
@@ -186,7 +188,75 @@ AreOffered-push prefs db places left offers are first run next offer of = record
 
     both : IsRated prefs db places offer × IsFor first.listed.pkg.name first.listed.pkg.version offer
     both = IsRated-run prefs db places first begins.0 offer (all_of_it ∙ begins.1)
-        (subst (λ (xs : List Place). IsOfRun prefs db first xs offer) (next.run_is ∙ begins.1) of)
+        (subst (λ (xs : List Place). IsOfRun prefs (standing_version db first.listed.pkg.name first.listed.pkg.version) first xs offer)
+        (next.run_is ∙ begins.1) of)
+
+-- the offer of a run is kept where the record of its name allows it
+pub IsEligibleOfRun-from : (prefs : Preferences) (db : List Record) (first : Place) (run : List Place) (own : Option Record)
+    (standing : Option (List ℕ)) (offer : Offer) (chosen : Option Offer) → own ≡ find (is_named first.listed.pkg.name) db
+    → standing ≡ option_and_then (standing_as first.listed.pkg.version) own → IsOfRun prefs standing first run offer
+    → chosen ≡ (if is_eligible_beside own offer then Some offer else None) → IsEligibleOfRun prefs db first run chosen
+IsEligibleOfRun-from prefs db first run own standing offer chosen found stood of kept = record {
+  offer = offer;
+  of = subst (λ (o : Option (List ℕ)). IsOfRun prefs o first run offer)
+      (stood ∙ ap (option_and_then (standing_as first.listed.pkg.version)) found) of;
+  kept = kept ∙ ap (λ (r : Option Record). if is_eligible_beside r offer then Some offer else None)
+      (found ∙ ap (λ (n : List ℕ). find (is_named n) db) (sym of.name_is));
+}
+
+-- the offers are those that may be chosen of the places that are behind
+pub record AreEligibleBehind (prefs : Preferences) (db : List Record) (places left : List Place) (chosen : List Offer) : Type 0 where
+  pub offers : List Offer
+  pub are : AreOffered prefs db places left offers
+  pub kept : chosen ≡ eligible db offers
+
+pub AreEligibleBehind-start : (prefs : Preferences) (db : List Record) (places : List Place) → IsSorted place_cmp places
+    → AreEligibleBehind prefs db places places []
+AreEligibleBehind-start prefs db places up = record {
+  offers = [];
+  are = AreOffered-start prefs db places up;
+  kept = refl;
+}
+
+pub AreEligibleAmong-behind : (prefs : Preferences) (db : List Record) (places : List Place) (chosen : List Offer)
+    → AreEligibleBehind prefs db places [] chosen → AreEligibleAmong (HasPlace places) prefs db places chosen
+AreEligibleAmong-behind prefs db places chosen behind = record {
+  offers = behind.offers;
+  rated = AreRated-offered prefs db places behind.offers behind.are;
+  kept = behind.kept;
+}
+
+-- the offer, if there is one
+abbrev pub chosen_one : Option Offer → List Offer
+chosen_one None = []
+chosen_one (Some offer) = offer ∷ []
+
+-- a run is put behind with its offer, if that may be chosen
+pub AreEligibleBehind-push : (prefs : Preferences) (db : List Record) (places left : List Place) (chosen : List Offer)
+    → AreEligibleBehind prefs db places left chosen → (first : Place) (run : List Place) → IsNextRun left first run → (one : Option Offer)
+    → IsEligibleOfRun prefs db first run one → AreEligibleBehind prefs db places (drop (length run) left) (chosen ++ chosen_one one)
+AreEligibleBehind-push prefs db places left chosen behind first run next one of = record {
+  offers = behind.offers ++ of.offer ∷ [];
+  are = AreOffered-push prefs db places left behind.offers behind.are first run next of.offer of.of;
+  kept = ap (λ (xs : List Offer). xs ++ chosen_one one) behind.kept
+      ∙ ap (λ (o : Option Offer). eligible db behind.offers ++ chosen_one o) of.kept
+      ∙ ap (λ (xs : List Offer). eligible db behind.offers ++ xs) (at (is_eligible db of.offer))
+      ∙ sym (filter-append (is_eligible db) behind.offers (of.offer ∷ []));
+}
+  where
+    at : (b : Bool) → chosen_one (if b then Some of.offer else None) ≡ cond b (of.offer ∷ []) []
+    at true = refl
+    at false = refl
+
+-- the same by the place of the run
+pub AreEligibleBehind-at : (prefs : Preferences) (db : List Record) (places : List Place) (start : ℕ) (chosen : List Offer)
+    → AreEligibleBehind prefs db places (drop start places) chosen → (first : Place) (run : List Place)
+    → IsNextRun (drop start places) first run → (one : Option Offer) → IsEligibleOfRun prefs db first run one → (after : List Offer)
+    → after ≡ chosen ++ chosen_one one → AreEligibleBehind prefs db places (drop (start + length run) places) after
+AreEligibleBehind-at prefs db places start chosen behind first run next one of after is =
+    subst (AreEligibleBehind prefs db places (drop (start + length run) places)) (sym is)
+    (subst (λ (left : List Place). AreEligibleBehind prefs db places left (chosen ++ chosen_one one)) (drop-drop (length run) start places)
+    (AreEligibleBehind-push prefs db places (drop start places) chosen behind first run next one of))
 
 -- a run has a place
 pub run_longer : (left : List Place) (first : Place) (run : List Place) → IsNextRun left first run → 0 < length run

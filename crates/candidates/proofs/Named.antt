@@ -18,7 +18,7 @@ use Rattle.rules.specs.Universe.{StandsAs}
 use Rattle.rules.specs.Version.{SameVersion, version_cmp}
 use Rattle.rules.specs.VersionOrderLaws.{version_cmp-same_left, version_cmp-same_right}
 use Rattle.universe.proofs.Finding.{find-exists, find-some}
-use Rattle.candidates.specs.Recorded.{IsByName, is_downgrade, is_held, is_of_record, stands_as}
+use Rattle.candidates.specs.Recorded.{IsByName, is_downgrade, is_held, is_of_record, stands_above, stands_as}
 use Rattle.candidates.proofs.RecordOrder.{one_record}
 use mathlib.Core.Logic.{inl, inr}
 
@@ -174,13 +174,9 @@ pub stands_as-same : (db : List Record) (name version other : List ℕ) → Same
 stands_as-same db name version other same = option_alike (stands_in version) (stands_in other)
     (λ found. ap (λ (o : Ordering). stands found && is_eq o) (version_cmp-same_right found.version version other same)) (find (is_named name) db)
 
--- the test of a version above
-abbrev pub stands_over : List ℕ → Record → Bool
-stands_over version found = stands found && is_lt (version_cmp version found.version)
-
 pub downgrade-same : (db : List Record) (name version other : List ℕ) → SameVersion version other
     → is_downgrade db name version ≡ is_downgrade db name other
-downgrade-same db name version other same = option_alike (stands_over version) (stands_over other)
+downgrade-same db name version other same = option_alike (stands_above version) (stands_above other)
     (λ found. ap (λ (o : Ordering). stands found && is_lt o) (version_cmp-same_left version other found.version same)) (find (is_named name) db)
 
 -- less, as a test
@@ -193,7 +189,7 @@ lt-is Greater passes = absurd (let e : false ≡ true = passes in cc)
 pub downgrade-is : (db : List Record) (name version : List ℕ) → is_downgrade db name version ≡ true
     → HasRecord (λ found. Stands found × (version_cmp version found.version ≡ Less)) name db
 downgrade-is db name version passes =
-    let there = of_record-is (stands_over version) db name passes in
+    let there = of_record-is (stands_above version) db name passes in
     let both = and_parts (stands there.0) (is_lt (version_cmp version there.0.version)) there.3 in
     Any-intro (λ (found : Record). (found.name ≡ name) × (Stands found × (version_cmp version found.version ≡ Less))) db there.0 there.1
     (there.2, (both.0, lt-is (version_cmp version there.0.version) both.1))
@@ -203,5 +199,5 @@ pub downgrade-from : (db : List Record) → HasDistinctNames db → (name versio
 downgrade-from db distinct name version some =
     Any-elim (λ (found : Record). (found.name ≡ name) × (Stands found × (version_cmp version found.version ≡ Less))) db
     (is_downgrade db name version ≡ true)
-    (λ found within is. of_record-from (stands_over version) db distinct name found within is.0
+    (λ found within is. of_record-from (stands_above version) db distinct name found within is.0
     ∙ and_from (stands found) (is_lt (version_cmp version found.version)) is.1.0 (ap is_lt is.1.1)) some

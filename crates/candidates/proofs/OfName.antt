@@ -21,12 +21,12 @@ use Rattle.candidates.specs.Inputs.{inputs_of}
 use Rattle.candidates.specs.Offer.{IsFor, Offer, is_eligible}
 use Rattle.candidates.specs.Place.{AreSorted, Place, has_place_name, places_of, stanzas_of, with_version}
 use Rattle.candidates.specs.Rated.{AreInOrder, AreRated, IsKept, IsRated, kept_version, origins_among, origins_with}
-use Rattle.candidates.specs.Recorded.{IsByName, is_downgrade, standing_as, standing_version}
+use Rattle.candidates.specs.Recorded.{IsByName, is_downgrade, standing_as, standing_version, stands_above}
 use Rattle.candidates.specs.Stanza.{stanza_of}
 use Rattle.candidates.proofs.Finding.{find-filter, first_of_all}
 use Rattle.candidates.proofs.Given.{AreRated-given}
 use Rattle.candidates.proofs.Kept.{stanza_of-places, standing_version-is}
-use Rattle.candidates.proofs.Named.{of_record-known, stands_over}
+use Rattle.candidates.proofs.Named.{of_record-known}
 use Rattle.candidates.proofs.Priorities.{IsEligible-from, IsEligible-is, IsEligible-one, IsKeptText-from}
 
 -- a filter that passes more changes nothing in front of one that passes less
@@ -134,7 +134,7 @@ module _ (prefs : Preferences) (db : List Record) (places : List Place) (name : 
   -- what is lower than what stands is so among these
   down_own : (other version : List ℕ) → other ≡ name → is_downgrade own_db other version ≡ is_downgrade db other version
   down_own other version named = ap (λ (n : List ℕ). is_downgrade own_db n version) named
-      ∙ ap (λ (o : Option Record). option_map_or (stands_over version) o false) found_own
+      ∙ ap (λ (o : Option Record). option_map_or (stands_above version) o false) found_own
       ∙ ap (λ (n : List ℕ). is_downgrade db n version) (sym named)
 
 -- the same offers of the name may be chosen among the records in order
@@ -142,7 +142,7 @@ may_known : (db known : List Record) (name : List ℕ) → IsByName (filter (is_
     → (offer : Offer) → offer.name ≡ name → is_eligible known offer ≡ is_eligible db offer
 may_known db known name are places prefs offer named =
     ap (λ (b : Bool). int_lt (pos 0) offer.priority && not (int_lt offer.priority (pos 1000) && b))
-    (of_record-known (stands_over offer.version) (filter (is_named name) db) known are offer.name
+    (of_record-known (stands_above offer.version) (filter (is_named name) db) known are offer.name
     ∙ down_own prefs db places name offer.name offer.version named)
 
 module _ (db known : List Record) (indices : List Index) (prefs : Preferences) (request : Request) (name : List ℕ) (sorted : List Place)

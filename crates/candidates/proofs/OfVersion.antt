@@ -1,11 +1,11 @@
 -- The priority of a version from what stands and from its places is its priority.
-use Rattle.std.proofs.Common.{◌≡◌, ℕ, ℤ, Bool, true, false, List, [], ◌∷◌, Option, Some, None, MatchOption, IsSome, refl, sym, ap, subst, ◌∙◌, bytes_eq}
+use Rattle.std.proofs.Common.{◌≡◌, ℕ, ℤ, true, false, List, [], ◌∷◌, Option, Some, None, MatchOption, IsSome, refl, sym, ap, subst, ◌∙◌, bytes_eq}
 use Rattle.std.specs.Prelude.{is_some}
 use Rattle.std.specs.List.{filter}
 use Rattle.std.specs.Option.{option_map, option_or}
 use Rattle.std.proofs.lemmas.Bool.{and_parts}
 use Rattle.pins.specs.Prefs.{Preferences}
-use Rattle.rules.specs.Available.{Index, Inputs, IsAvailable, Request, all_listed, counting_package, is_of, same_version}
+use Rattle.rules.specs.Available.{Index, Inputs, IsAvailable, Request, counting_package, is_of, same_version}
 use Rattle.rules.specs.Database.{HasDistinctNames, Record}
 use Rattle.rules.specs.Package.{Pkg}
 use Rattle.rules.specs.Priority.{HasPriorityAmong, Origin}
@@ -13,9 +13,8 @@ use Rattle.rules.specs.Step.{IndexPackage}
 use Rattle.rules.specs.Version.{SameVersion}
 use Rattle.candidates.specs.Candidates.{IsPriorityOf}
 use Rattle.candidates.specs.Inputs.{inputs_of}
-use Rattle.candidates.specs.Offer.{Offer}
 use Rattle.candidates.specs.Place.{Place, has_place_name, places_of, stanzas_of, with_version}
-use Rattle.candidates.specs.Rated.{IsPriorityFrom, IsRated, kept_among, kept_version, origins_among, origins_with}
+use Rattle.candidates.specs.Rated.{IsPriorityFrom, IsRated, kept_among, kept_version, origins_with}
 use Rattle.candidates.specs.Recorded.{standing_version}
 use Rattle.candidates.proofs.Available.{kept_version-counting, stanzas_of-places}
 use Rattle.candidates.proofs.Finding.{first_of_all}

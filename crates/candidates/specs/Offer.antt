@@ -1,15 +1,17 @@
 -- The versions of names with their priorities, and which one is to be chosen first (apt_preferences(5)).
-use Rattle.std.specs.Prelude.{◌≡◌, ◌≢◌, ℕ, ℤ, pos, Bool, not, ◌&&◌, List, [], Option, MatchOption, int_lt}
-use Rattle.std.specs.List.{All, Any, Contains, filter}
+use Rattle.std.specs.Prelude.{◌≡◌, ◌≢◌, ℕ, ℤ, pos, Bool, false, not, ◌&&◌, List, [], Option, MatchOption, int_lt}
+use Rattle.std.specs.List.{All, Any, Contains, filter, find}
 use Rattle.std.specs.List.Sorted.{IsStrictlySortedBy}
+use Rattle.std.specs.Option.{option_map_or}
 use Rattle.std.specs.Ordering.{flip_args, int_cmp, on, then_cmp}
 use Rattle.std.specs.declared.cmp.Ordering.{Ordering}
 use Rattle.std.specs.declared.cmp.Ordering.TheVariants.{Less}
 use Rattle.rules.specs.Database.{Record}
 use Rattle.rules.specs.Name.{name_cmp}
 use Rattle.rules.specs.Priority.{IsUpTo}
+use Rattle.rules.specs.Step.{is_named}
 use Rattle.rules.specs.Version.{SameVersion, version_cmp}
-use Rattle.candidates.specs.Recorded.{is_downgrade}
+use Rattle.candidates.specs.Recorded.{stands_above}
 
 -- a version of a name, and its priority
 pub record Offer : Type 0 where
@@ -21,10 +23,15 @@ pub record Offer : Type 0 where
 abbrev pub IsFor : List ℕ → List ℕ → Offer → Type 0
 IsFor name version offer = (offer.name ≡ name) × SameVersion offer.version version
 
--- the offer may be chosen: its priority is above 0, and it is no downgrade with a priority below 1000
+-- the offer may be chosen beside the record of its name, if it has one: its priority is above 0, and it is no downgrade with
+-- a priority below 1000
+abbrev pub is_eligible_beside : Option Record → Offer → Bool
+is_eligible_beside found offer = int_lt (pos 0) offer.priority
+    && not (int_lt offer.priority (pos 1000) && option_map_or (stands_above offer.version) found false)
+
+-- the offer may be chosen
 abbrev pub is_eligible : List Record → Offer → Bool
-is_eligible db offer = int_lt (pos 0) offer.priority
-    && not (int_lt offer.priority (pos 1000) && is_downgrade db offer.name offer.version)
+is_eligible db offer = is_eligible_beside (find (is_named offer.name) db) offer
 
 -- the offers that may be chosen
 abbrev pub eligible : List Record → List Offer → List Offer

@@ -9,7 +9,7 @@ use Rattle.rules.specs.Priority.{HasPriorityAmong, Origin, status_origin}
 use Rattle.rules.specs.Step.{IndexPackage}
 use Rattle.rules.specs.Universe.{IsOf}
 use Rattle.candidates.specs.Eligible.{AreByVersion}
-use Rattle.candidates.specs.Offer.{AreBest, IsFor, Offer, eligible}
+use Rattle.candidates.specs.Offer.{AreBest, IsFor, Offer, eligible, is_eligible}
 use Rattle.candidates.specs.Place.{Place, stanzas_of, with_version}
 use Rattle.candidates.specs.Recorded.{standing_version}
 use Rattle.candidates.specs.Stanza.{stanza_of}
@@ -47,14 +47,19 @@ pub record IsFrom (prefs : Preferences) (name version : List ℕ) (origins : Lis
   pub version_is : offer.version ≡ version
   pub given : HasPriorityAmong prefs.preferences prefs.target name version origins offer.priority
 
--- the offer is of the version of the first place, in the text that is kept, with the priority that it has where these are
--- all of its places
-pub record IsOfRun (prefs : Preferences) (db : List Record) (first : Place) (run : List Place) (offer : Offer) : Type 0 where
+-- the offer is of the version of the first place, in the text that is kept, with the priority that it has where it stands in
+-- this text, if it does, and these are all of its places
+pub record IsOfRun (prefs : Preferences) (standing : Option (List ℕ)) (first : Place) (run : List Place) (offer : Offer) : Type 0 where
   pub name_is : offer.name ≡ first.listed.pkg.name
-  pub kept : Some offer.version ≡ option_or (standing_version db first.listed.pkg.name first.listed.pkg.version)
-      (Some first.listed.pkg.version)
-  pub given : HasPriorityAmong prefs.preferences prefs.target offer.name offer.version
-      (origins_with (is_some (standing_version db first.listed.pkg.name first.listed.pkg.version)) run) offer.priority
+  pub kept : Some offer.version ≡ option_or standing (Some first.listed.pkg.version)
+  pub given : HasPriorityAmong prefs.preferences prefs.target offer.name offer.version (origins_with (is_some standing) run)
+      offer.priority
+
+-- it is the offer of the version of the first place, of which these are all places, if it may be chosen
+pub record IsEligibleOfRun (prefs : Preferences) (db : List Record) (first : Place) (run : List Place) (chosen : Option Offer) : Type 0 where
+  pub offer : Offer
+  pub of : IsOfRun prefs (standing_version db first.listed.pkg.name first.listed.pkg.version) first run offer
+  pub kept : chosen ≡ (if is_eligible db offer then Some offer else None)
 
 -- the version that the record stands in, where no stanza has it
 abbrev pub standing_alone : List IndexPackage → Record → Option (List ℕ)
@@ -86,11 +91,16 @@ StandsAlone db places name version =
 abbrev pub IsKept : List Record → List Place → List ℕ → List ℕ → Type 0
 IsKept db places name version = IsSome (kept_version db (stanzas_of places) name version)
 
--- of all rated offers those that may be chosen
-pub record AreEligible (prefs : Preferences) (db : List Record) (places : List Place) (chosen : List Offer) : Type 0 where
+-- of the rated offers of the versions of which this holds those that may be chosen
+pub record AreEligibleAmong (Is : List ℕ → List ℕ → Type 0) (prefs : Preferences) (db : List Record) (places : List Place)
+    (chosen : List Offer) : Type 0 where
   pub offers : List Offer
-  pub rated : AreRated (IsKept db places) prefs db places offers
+  pub rated : AreRated Is prefs db places offers
   pub kept : chosen ≡ eligible db offers
+
+-- of all rated offers those that may be chosen
+abbrev pub AreEligible : Preferences → List Record → List Place → List Offer → Type 0
+AreEligible prefs db places chosen = AreEligibleAmong (IsKept db places) prefs db places chosen
 
 -- the best of the offers that may be chosen, and where all versions are asked for each of them
 pub record AreChosen (all : Bool) (prefs : Preferences) (db : List Record) (places : List Place) (best each : List Offer) : Type 0 where

@@ -36,9 +36,17 @@ standing_as version found = if stands found && same_version found.version versio
 abbrev pub standing_version : List Record → List ℕ → List ℕ → Option (List ℕ)
 standing_version db name version = option_and_then (standing_as version) (find (is_named name) db)
 
+-- the version of the name doesn't stand, and the name isn't held
+abbrev pub is_free : List Record → List ℕ → List ℕ → Bool
+is_free db name version = not (stands_as db name version) && not (is_held db name)
+
+-- the record stands in a version above this one
+abbrev pub stands_above : List ℕ → Record → Bool
+stands_above version found = stands found && is_lt (version_cmp version found.version)
+
 -- the version is lower than the one of the name that stands
 abbrev pub is_downgrade : List Record → List ℕ → List ℕ → Bool
-is_downgrade db name version = is_of_record (λ found. stands found && is_lt (version_cmp version found.version)) db name
+is_downgrade db name version = is_of_record (stands_above version) db name
 
 -- the order of records: by name
 abbrev pub record_cmp : Record → Record → Ordering

@@ -1,12 +1,12 @@
 // The records of the start in the order of their names, found by their names.
 
-ghost use Rattle.std.specs.Prelude.{◌≡◌, IfOk, map};
+ghost use Rattle.std.specs.Prelude.{◌≡◌, IfOk, false, map};
 ghost use Rattle.std.specs.List.{find};
 ghost use Rattle.std.specs.List.Sorted.{IsStrictlySortedBy};
-ghost use Rattle.std.specs.Option.{option_copied};
+ghost use Rattle.std.specs.Option.{option_and_then, option_copied, option_map_or};
 ghost use Rattle.rules.specs.Database.{HasDistinctNames};
 ghost use Rattle.rules.specs.Step.{is_named};
-ghost use Rattle.candidates.specs.Recorded.{IsByName, is_downgrade, is_held, is_recorded, record_cmp, standing_version, stands_as};
+ghost use Rattle.candidates.specs.Recorded.{IsByName, is_free, is_recorded, record_cmp, standing_as, stands_above};
 
 use crate::recorded::{Recorded, by_name};
 use debversion::Version;
@@ -69,8 +69,8 @@ impl<'p, 'a> Known<'p, 'a> {
     }
 }
 
-// The record of the name. Linear in the name alone.
-fn record_of<'k, 'p, 'a>(known: &'k Known<'p, 'a>, name: &[u8]) -> Option<&'k Recorded<'p, 'a>>
+/// The record of the name. Linear in the name alone.
+pub fn record_of<'k, 'p, 'a>(known: &'k Known<'p, 'a>, name: &[u8]) -> Option<&'k Recorded<'p, 'a>>
     ensures { option_copied result ≡ find (is_named name.now) known.now }
 {
     match known.names.get_index_of(name) {
@@ -79,13 +79,13 @@ fn record_of<'k, 'p, 'a>(known: &'k Known<'p, 'a>, name: &[u8]) -> Option<&'k Re
     }
 }
 
-/// Whether the name is held.
-pub fn is_held(known: &Known<'_, '_>, name: &[u8]) -> bool
-    ensures { result ≡ is_held known.now name.now }
+/// Whether the version of the name doesn't stand and the name isn't held.
+pub fn is_free(known: &Known<'_, '_>, name: &[u8], version: &Version<'_>) -> bool
+    ensures { result ≡ is_free known.now name.now version.now }
 {
     match record_of(known, name) {
-        None => false,
-        Some(found) => found.is_held(),
+        None => true,
+        Some(found) => !found.stands_as(version) && !found.is_held(),
     }
 }
 
@@ -99,35 +99,24 @@ pub fn is_recorded(known: &Known<'_, '_>, name: &[u8]) -> bool
     }
 }
 
-/// Whether the version of the name stands.
-pub fn stands_as(known: &Known<'_, '_>, name: &[u8], version: &Version<'_>) -> bool
-    ensures { result ≡ stands_as known.now name.now version.now }
-{
-    match record_of(known, name) {
-        None => false,
-        Some(found) => found.stands_as(version),
-    }
-}
-
-/// The version of the name that stands, where it is this one: the text may be another.
-pub fn standing_version<'a>(
-    known: &Known<'_, 'a>,
-    name: &[u8],
+/// The version that the record stands in, where it is this one: the text may be another.
+pub fn standing_in<'a>(
+    recorded: Option<&Recorded<'_, 'a>>,
     version: &Version<'_>,
 ) -> Option<Version<'a>>
-    ensures { result ≡ standing_version known.now name.now version.now }
+    ensures { result ≡ option_and_then (standing_as version.now) (option_copied recorded.entry) }
 {
-    match record_of(known, name) {
+    match recorded {
         None => None,
         Some(found) => found.standing_as(version),
     }
 }
 
-/// Whether the version is lower than the one of the name that stands.
-pub fn is_downgrade(known: &Known<'_, '_>, name: &[u8], version: &Version<'_>) -> bool
-    ensures { result ≡ is_downgrade known.now name.now version.now }
+/// Whether the version is lower than the one that the record stands in.
+pub fn is_below(recorded: Option<&Recorded<'_, '_>>, version: &Version<'_>) -> bool
+    ensures { result ≡ option_map_or (stands_above version.now) (option_copied recorded.entry) false }
 {
-    match record_of(known, name) {
+    match recorded {
         None => false,
         Some(found) => found.stands_above(version),
     }

@@ -13,7 +13,7 @@ mod prefix;
 mod rated;
 mod recorded;
 
-pub use known::{Known, is_held, is_recorded, stands_as};
+pub use known::{Known, is_free, is_recorded};
 pub use of_name::{candidate, eligible};
 pub use of_version::priority;
 pub use offer::Offer;

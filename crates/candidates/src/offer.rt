@@ -1,13 +1,15 @@
 // The versions of names with their priorities, and which one is to be chosen first (apt_preferences(5)).
 
-ghost use Rattle.std.specs.Prelude.{◌≡◌, [], IfOk, if◌then◌else◌, refl};
+ghost use Rattle.std.specs.Prelude.{◌≡◌, [], IfOk, None, Some, if◌then◌else◌, refl};
 ghost use Rattle.std.specs.Cmp.{eq_by_cmp_equiv, partial_equiv_from_equiv, po};
+ghost use Rattle.std.specs.Option.{option_copied};
 ghost use Rattle.std.specs.Ordering.{as_partial_cmp, eq_by_cmp};
 ghost use Rattle.candidates.specs.Eligible.{AreByVersion};
-ghost use Rattle.candidates.specs.Offer.{AreBest, IsFirstChoice, choice_cmp, eligible, is_eligible, offer_cmp};
+ghost use Rattle.candidates.specs.Offer.{AreBest, IsFirstChoice, choice_cmp, eligible, is_eligible, is_eligible_beside, offer_cmp};
 ghost use Rattle.candidates.specs.OfferLaws.{offer_cmp_total};
 
-use crate::known::{Known, is_downgrade};
+use crate::known::{Known, is_below, record_of};
+use crate::recorded::Recorded;
 use debversion::Version;
 use std::alloc::{AllocError, Global};
 use std::cmp::Ordering;
@@ -85,11 +87,31 @@ impl<'a> Offer<'a> {
     }
 }
 
+// Whether the offer may be chosen beside the record of its name.
+fn is_eligible_beside(recorded: Option<&Recorded<'_, '_>>, offer: &Offer<'_>) -> bool
+    ensures { result ≡ is_eligible_beside (option_copied recorded.entry) offer.now }
+{
+    offer.priority > 0 && !(offer.priority < 1000 && is_below(recorded, &offer.version))
+}
+
+/// The offer, if it may be chosen beside the record of its name.
+pub fn eligible_beside<'a>(
+    recorded: Option<&Recorded<'_, '_>>,
+    offer: Offer<'a>,
+) -> Option<Offer<'a>>
+    ensures { result ≡ (if is_eligible_beside (option_copied recorded.entry) offer.entry then Some offer.entry else None) }
+{
+    if is_eligible_beside(recorded, &offer) {
+        Some(offer)
+    } else {
+        None
+    }
+}
+
 fn is_eligible(known: &Known<'_, '_>, offer: &Offer<'_>) -> bool
     ensures { result ≡ is_eligible known.now offer.now }
 {
-    offer.priority > 0
-        && !(offer.priority < 1000 && is_downgrade(known, offer.name, &offer.version))
+    is_eligible_beside(record_of(known, offer.name), offer)
 }
 
 /// The offers that may be chosen: those with a priority above 0 that are no downgrade with a priority below 1000.

@@ -5,12 +5,12 @@ ghost use Rattle.std.specs.List.Sorted.{IsSorted, IsStrictlySortedBy};
 ghost use Rattle.std.specs.Option.{option_or};
 ghost use Rattle.rules.specs.Priority.{status_origin};
 ghost use Rattle.candidates.specs.Place.{place_cmp, stanzas_of};
-ghost use Rattle.candidates.specs.Rated.{AreChosen, AreEligible, AreRated, HasPlace, IsFrom, IsKept, IsOfRun, StandsAlone, origins_with, standing_alone};
+ghost use Rattle.candidates.specs.Rated.{AreChosen, AreEligible, AreEligibleAmong, AreRated, HasPlace, IsEligibleOfRun, IsFrom, IsOfRun, StandsAlone, origins_with, standing_alone};
 ghost use Rattle.candidates.specs.Recorded.{record_cmp};
 ghost use Rattle.candidates.specs.Stanza.{IsOrdered, listed_cmp};
 
-use crate::known::{Known, standing_version};
-use crate::offer::{Offer, again_if, best_of, eligible};
+use crate::known::{Known, record_of, standing_in};
+use crate::offer::{Offer, again_if, best_of, eligible, eligible_beside};
 use crate::order::{Found, stanza_of};
 use crate::place::{Place, run_from};
 use crate::recorded::Recorded;
@@ -68,24 +68,40 @@ fn kept<'a>(standing: Option<Version<'a>>, first: &Place<'_, 'a>) -> Version<'a>
     }
 }
 
-// The offer of the version of the first place, of which these are all places.
+// The offer of the version of the first place, of which these are all places, where it stands in this text, if it does.
 fn offer_of<'a>(
     alloc: Global,
     prefs: &Prefs,
-    known: &Known<'_, 'a>,
+    standing: Option<Version<'a>>,
     first: &Place<'_, 'a>,
     run: &[Place<'_, 'a>],
 ) -> Result<Offer<'a>, AllocError>
     requires { run.now ≢ [] }
-    ensures { IfOk result (λ offer. IsOfRun prefs.now known.now first.now run.now offer) }
+    ensures { IfOk result (λ offer. IsOfRun prefs.now standing.entry first.now run.now offer) }
 {
-    let standing = standing_version(known, first.name(), first.version());
     let origins = origins_with(alloc, standing.is_some(), run)?;
     let version = kept(standing, first);
     Ok(offer_from(prefs, first.name(), version, origins.as_slice()))
 }
 
-// The offers of the versions that have places.
+// The offer of the version of the first place, of which these are all places, if it may be chosen.
+fn eligible_of<'a>(
+    alloc: Global,
+    prefs: &Prefs,
+    known: &Known<'_, 'a>,
+    first: &Place<'_, 'a>,
+    run: &[Place<'_, 'a>],
+) -> Result<Option<Offer<'a>>, AllocError>
+    requires { run.now ≢ [] }
+    ensures { IfOk result (λ chosen. IsEligibleOfRun prefs.now known.now first.now run.now chosen) }
+{
+    let record = record_of(known, first.name());
+    let standing = standing_in(record, first.version());
+    let offer = offer_of(alloc, prefs, standing, first, run)?;
+    Ok(eligible_beside(record, offer))
+}
+
+// The offers of the versions that have places and may be chosen. What the start says of a name is looked up once a version.
 fn listed_offers<'a>(
     alloc: Global,
     prefs: &Prefs,
@@ -93,13 +109,16 @@ fn listed_offers<'a>(
     places: &[Place<'_, 'a>],
 ) -> Result<Vec<Offer<'a>>, AllocError>
     requires places { IsSorted place_cmp places.now }
-    ensures { IfOk result (λ offers. AreRated (HasPlace places.now) prefs.now known.now places.now offers.items) }
+    ensures { IfOk result (λ offers. AreEligibleAmong (HasPlace places.now) prefs.now known.now places.now offers.items) }
 {
     let mut offers = Vec::new(alloc);
     let mut start = 0;
     while let Some((first, run)) = run_from(places, start) {
-        offers.push(offer_of(alloc, prefs, known, first, run)?)?;
         start += run.len();
+        let Some(offer) = eligible_of(alloc, prefs, known, first, run)? else {
+            continue;
+        };
+        offers.push(offer)?;
     }
     Ok(offers)
 }
@@ -141,24 +160,6 @@ fn standing_offers<'a>(
     Ok(offers)
 }
 
-// The offers of all versions that are available.
-fn rated_offers<'a>(
-    alloc: Global,
-    prefs: &Prefs,
-    known: &Known<'_, 'a>,
-    places: &[Place<'_, 'a>],
-    ordered: &[Found<'_, 'a>],
-) -> Result<Vec<Offer<'a>>, AllocError>
-    requires places { IsSorted place_cmp places.now }
-    requires ordered { IsOrdered (stanzas_of places.now) ordered.now }
-    ensures { IfOk result (λ offers. AreRated (IsKept known.now places.now) prefs.now known.now places.now offers.items) }
-{
-    let mut offers = listed_offers(alloc, prefs, known, places)?;
-    let mut further = standing_offers(alloc, prefs, known.as_slice(), places, ordered)?;
-    offers.append(&mut further)?;
-    Ok(offers)
-}
-
 /// The offers of the versions that may be chosen. Linear in the places and the records but for their look-ups among the
 /// stanzas in order, and for each version what `Prefs::priority` costs.
 pub fn eligible_offers<'a>(
@@ -172,8 +173,11 @@ pub fn eligible_offers<'a>(
     requires ordered { IsOrdered (stanzas_of places.now) ordered.now }
     ensures { IfOk result (λ offers. AreEligible prefs.now known.now places.now offers.items) }
 {
-    let offers = rated_offers(alloc, prefs, known, places, ordered)?;
-    Ok(eligible(known, offers))
+    let mut offers = listed_offers(alloc, prefs, known, places)?;
+    let further = standing_offers(alloc, prefs, known.as_slice(), places, ordered)?;
+    let mut alone = eligible(known, further);
+    offers.append(&mut alone)?;
+    Ok(offers)
 }
 
 /// The offer of each name that is to be chosen first of those that may be, in the order of names, and each that may be, where

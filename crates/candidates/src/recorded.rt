@@ -2,14 +2,13 @@
 
 ghost use Rattle.std.specs.Prelude.{◌≡◌, ◌&&◌, IfOk, None, Some, if◌then◌else◌, map, not, refl};
 ghost use Rattle.std.specs.Cmp.{eq_by_cmp_equiv, partial_equiv_from_equiv, po};
-ghost use Rattle.std.specs.Ordering.{as_partial_cmp, eq_by_cmp, is_lt};
+ghost use Rattle.std.specs.Ordering.{as_partial_cmp, eq_by_cmp};
 ghost use Rattle.rules.specs.Available.{same_version};
 ghost use Rattle.rules.specs.Database.{Stands, pkg_of, stands};
 ghost use Rattle.rules.specs.FileRecord.{records_of};
 ghost use Rattle.rules.specs.State.{is_hold, is_not_installed_state};
 ghost use Rattle.rules.specs.Universe.{start_of};
-ghost use Rattle.rules.specs.Version.{version_cmp};
-ghost use Rattle.candidates.specs.Recorded.{IsByName, record_cmp, standing_as};
+ghost use Rattle.candidates.specs.Recorded.{IsByName, record_cmp, standing_as, stands_above};
 ghost use Rattle.candidates.specs.RecordedLaws.{record_cmp_total};
 
 use debversion::Version;
@@ -118,7 +117,7 @@ impl<'p, 'a> Recorded<'p, 'a> {
     }
 
     pub(crate) fn stands_above(&self, version: &Version<'_>) -> bool
-        ensures { result ≡ (stands self.now && is_lt (version_cmp version.now self.now.version)) }
+        ensures { result ≡ stands_above version.now self.now }
     {
         match self.standing() {
             None => false,

@@ -1,12 +1,12 @@
 -- Which pairs a request chooses from (this project's own, after apt-get(8)).
-use Rattle.std.specs.Prelude.{not, Bool, List, map, ◌++◌, ◌||◌, ◌&&◌, Option, Some, None, if◌then◌else◌}
+use Rattle.std.specs.Prelude.{Bool, List, map, ◌++◌, ◌||◌, Option, Some, None, if◌then◌else◌}
 use Rattle.std.specs.List.{Any, Contains, filter, filter_map}
 use Rattle.std.specs.List.Sorted.{IsStrictlySortedBy}
 use Rattle.rules.specs.Database.{Record, pkg_of, stands}
 use Rattle.rules.specs.Step.{IndexPackage}
 use Rattle.rules.specs.Universe.{IsOf, Pair, pair_cmp}
 use Rattle.candidates.specs.Offer.{Offer}
-use Rattle.candidates.specs.Recorded.{is_held, stands_as}
+use Rattle.candidates.specs.Recorded as Recorded
 use Rattle.candidates.specs.Stanza.{stanza_of}
 use Rattle.universe_build.specs.Choice.{Exact, best_exacts, is_sought, listed_pair}
 
@@ -25,7 +25,7 @@ standing_pairs listed db = filter_map (standing_pair listed) db
 
 -- the stanza is free to be chosen: its version doesn't stand, and its name isn't held
 abbrev pub is_free : List Record → IndexPackage → Bool
-is_free db found = not (stands_as db found.pkg.name found.pkg.version) && not (is_held db found.pkg.name)
+is_free db found = Recorded.is_free db found.pkg.name found.pkg.version
 
 -- the stanzas of the best offers' versions, and those that are asked for
 abbrev pub admitted_among : List Offer → List Exact → List IndexPackage → List IndexPackage

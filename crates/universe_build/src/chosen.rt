@@ -12,7 +12,7 @@ ghost use Rattle.universe_build.specs.Chosen.{ArePairs, admitted_among, chosen_p
 
 use crate::best::{is_best, place_from};
 use crate::exact::{Exact, exacts_of, is_sought};
-use candidates::{Found, Known, Offer, Recorded, is_held, stands_as, stanza_of};
+use candidates::{Found, Known, Offer, Recorded, stanza_of};
 use index::IndexEntry;
 use rules::GoalLine;
 use std::alloc::{AllocError, Global};
@@ -22,7 +22,7 @@ use universe::Pair;
 fn is_free(known: &Known<'_, '_>, found: &Found<'_, '_>) -> bool
     ensures { result ≡ is_free known.now found.now }
 {
-    !stands_as(known, found.name(), found.version()) && !is_held(known, found.name())
+    candidates::is_free(known, found.name(), found.version())
 }
 
 // Whether the stanza is of a version that is chosen or asked for. The best offer of its name is looked for at this place

@@ -1,5 +1,5 @@
 -- The priority from what stands and from the places is that of the version.
-use Rattle.std.proofs.Common.{◌≡◌, ℕ, List, Option, map, ap, subst, ◌∙◌}
+use Rattle.std.proofs.Common.{ℕ, List, Option, map, ap, subst, ◌∙◌}
 use Rattle.rules.specs.Database.{Record}
 use Rattle.rules.specs.FileRecord.{records_of}
 use Rattle.candidates.specs.Inputs.{indices_of}
