@@ -201,7 +201,8 @@ fn is_held_alone(record: Option<&FileRecord<'_>>) -> bool {
 }
 
 fn finds_records(db: &Database<'_>) -> bool {
-    matches!(db.names(), [b"b", b"a"])
+    db.arch() == ARCH
+        && matches!(db.names(), [b"b", b"a"])
         && db.record(b"x").is_none()
         && is_held_alone(db.record(b"a"))
 }
