@@ -21,7 +21,7 @@ use Rattle.rules.specs.NamedLaws.{bytes_eq-true, bytes_eq-same}
 use Rattle.rules.specs.Priority.{IsUpTo}
 use Rattle.rules.specs.Version.{version_cmp}
 use Rattle.rules.specs.VersionOrderLaws.{version_cmp-antisymm}
-use Rattle.universe.proofs.Finding.{find-exists, find-some}
+use Rattle.universe.specs.FindLaws.{find-exists, find-some}
 use Rattle.candidates.specs.Offer.{AreBest, IsBeaten, Offer, choice_cmp, offer_cmp, offer_name_cmp}
 use Rattle.candidates.specs.OfferLaws.{offer_cmp_total, offer_name_cmp_total}
 use Rattle.candidates.proofs.Finding.{find-dedup}

@@ -15,7 +15,7 @@ use Rattle.rules.specs.Universe.{IsKeptText}
 use Rattle.rules.specs.Version.{SameVersion}
 use Rattle.rules.specs.VersionOrderLaws.{SameVersion-refl}
 use Rattle.rules.specs.NamedLaws.{bytes_eq-same, bytes_eq-true}
-use Rattle.universe.proofs.Finding.{find-none, find-some, sorted-one}
+use Rattle.universe.specs.FindLaws.{find-none, find-some, sorted-one}
 use Rattle.candidates.specs.Candidates.{AreCandidates, IsCandidateOf}
 use Rattle.candidates.specs.Inputs.{inputs_of}
 use Rattle.candidates.specs.Offer.{AreBest, IsBeaten, IsFor, Offer, eligible, is_eligible, offer_name_cmp}

@@ -15,14 +15,13 @@ use Rattle.rules.specs.Package.{Pkg}
 use Rattle.rules.specs.Step.{IndexPackage, is_named}
 use Rattle.rules.specs.Version.{SameVersion, version_cmp}
 use Rattle.rules.specs.VersionOrderLaws.{version_cmp-same_right}
-use Rattle.universe.proofs.Finding.{find-some}
-use Rattle.universe.proofs.PairOrder.{is_of-parts}
+use Rattle.universe.specs.FindLaws.{find-agree, find-some}
+use Rattle.universe.specs.PairLaws.{is_of-parts}
 use Rattle.candidates.specs.Place.{Place, stanzas_of, with_version}
 use Rattle.candidates.specs.Rated.{kept_version}
 use Rattle.candidates.specs.Recorded.{IsByName, standing_as, standing_version}
 use Rattle.candidates.specs.Stanza.{stanza_of}
 use Rattle.candidates.proofs.Finding.{find-filter, first_of_all}
-use Rattle.rules.proofs.UniverseLemmas.{find-agree}
 
 -- a package has the one text of a version where it has the other
 pub is_of-same : (name version other : List ℕ) (pkg : Pkg) → SameVersion version other → is_of name version pkg ≡ is_of name other pkg

@@ -18,9 +18,9 @@ use Rattle.rules.specs.Step.{IndexPackage, is_named, no_relations}
 use Rattle.rules.specs.declared.status.Flag.TheVariants as flags
 use Rattle.rules.specs.declared.status.State.TheVariants.{NotInstalled}
 use Rattle.rules.specs.declared.status.Want.TheVariants.{Unknown}
-use Rattle.universe.proofs.Finding.{not_back, sorted-one}
-use Rattle.universe.proofs.PairOrder.{is_of-parts, pkg_order-ties, same_pair}
-use Rattle.universe.proofs.Searching.{searched_find, searched_none}
+use Rattle.universe.specs.FindLaws.{not_back, sorted-one}
+use Rattle.universe.specs.PairLaws.{is_of-parts, pkg_order-ties, same_pair}
+use Rattle.universe.specs.SearchLaws.{searched_find, searched_none}
 use Rattle.candidates.specs.Stanza.{listed_cmp, stanza_of}
 use Rattle.universe.specs.Pair.{pkg_order}
 use Rattle.candidates.specs.StanzaLaws.{listed_cmp_total}

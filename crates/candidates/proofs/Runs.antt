@@ -11,7 +11,7 @@ use Rattle.std.proofs.lemmas.List.Elements.{Contains-append_right, filter-append
 use Rattle.std.proofs.lemmas.List.Sorted.{ranks_by, sorted_far}
 use Rattle.rules.specs.ElementLaws.{Contains-filter, Contains-head, Contains-nil, Contains-rest}
 use Rattle.rules.specs.VersionOrderLaws.{SameVersion-symm, SameVersion-trans}
-use Rattle.universe.proofs.PairOrder.{is_of-from, is_of-parts}
+use Rattle.universe.specs.PairLaws.{is_of-from, is_of-parts}
 use Rattle.candidates.specs.Place.{Place, is_like, place_cmp}
 use Rattle.candidates.specs.StanzaLaws.{place_cmp_total}
 use Rattle.candidates.proofs.StanzaOrder.{listed_cmp-tied, listed_cmp-ties}

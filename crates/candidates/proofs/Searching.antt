@@ -7,16 +7,16 @@ use Rattle.std.specs.Ordering.{is_lt, ordering_reverse, ordering_then}
 use Rattle.std.specs.declared.cmp.Ordering.{Ordering}
 use Rattle.std.specs.declared.cmp.Ordering.TheVariants.{Less, Equal, Greater}
 use Rattle.std.proofs.lemmas.List.Sorted.{searchable_from_sorted}
+use Rattle.std.proofs.lemmas.Map.Keys.{Less-from_sorted}
 use Rattle.std.proofs.lemmas.Map.Text.{is_eq-slice_cmp}
 use Rattle.rules.specs.Available.{is_of}
 use Rattle.rules.specs.ElementLaws.{Any-elim, Any-from_list_any, list_any-from_contains}
 use Rattle.rules.specs.Name.{name_cmp}
 use Rattle.rules.specs.Step.{IndexPackage}
 use Rattle.rules.specs.Version.{version_cmp}
-use Rattle.rules.proofs.Rising.{AllPairs-rising}
-use Rattle.universe.proofs.Finding.{find-some}
-use Rattle.universe.proofs.PairOrder.{of_itself}
-use Rattle.universe.proofs.Searching.{searched_any}
+use Rattle.universe.specs.FindLaws.{find-some}
+use Rattle.universe.specs.PairLaws.{of_itself}
+use Rattle.universe.specs.SearchLaws.{searched_any}
 use Rattle.candidates.specs.Stanza.{IsOrdered, has_name, listed_cmp}
 use Rattle.candidates.proofs.Ordered.{found_ordered, ordered_stanza}
 
@@ -32,7 +32,7 @@ sorted_names : (ordered : List IndexPackage) → IsStrictlySortedBy listed_cmp o
 sorted_names ordered ascending k d low high =
     let first : IndexPackage = get_or ordered k d in
     let next : IndexPackage = get_or ordered (k + 1) d in
-    let below : listed_cmp first next ≡ Less = AllPairs-rising listed_cmp ordered ascending k (k + 1) d (omega arith) high in
+    let below : listed_cmp first next ≡ Less = Less-from_sorted listed_cmp ordered k (k + 1) d ascending (omega arith) high in
     ap is_lt (nat_list_cmp_total.antisymm next.pkg.name first.pkg.name)
     ∙ not_before (name_cmp first.pkg.name next.pkg.name) (version_cmp first.pkg.version next.pkg.version) below
 

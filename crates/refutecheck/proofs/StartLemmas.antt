@@ -7,7 +7,7 @@ use Rattle.rules.specs.ElementLaws.{Any-elim, Any-intro, Contains-cons, Contains
 use Rattle.rules.specs.NamedLaws.{bytes_eq-same, bytes_eq-true}
 use Rattle.rules.specs.Universe.{Start, is_start_of}
 use Rattle.rules.proofs.Rising.{pairs_head, pairs_tail}
-use Rattle.universe.proofs.Finding.{find-none, find-some}
+use Rattle.universe.specs.FindLaws.{find-none, find-some}
 use Rattle.universe.specs.Universe.{HaveDistinctNames}
 use mathlib.Core.Logic.{inl, inr}
 

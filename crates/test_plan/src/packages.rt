@@ -9,7 +9,7 @@ use crate::ends::is_against;
 use crate::groups::is_group;
 use crate::steps::unpacks_so;
 use crate::universes::{is_built, is_looked_up};
-use crate::versions::{are_eligible, is_priority};
+use crate::versions::{are_eligible, is_preferred, is_priority};
 use plancheck_state::{Records, parse_packages, view};
 use relation::Pkg;
 use rules::Rule;
@@ -80,6 +80,7 @@ fn is_answer_over(
     match verb {
         "build" => is_built(alloc, records, words, wanted),
         "eligible" => are_eligible(alloc, records, words, wanted),
+        "prefers" => is_preferred(alloc, records, words, wanted),
         "priority" => is_priority(alloc, records, words, wanted),
         "providers" | "stanza" | "number" | "start" | "candidate" => is_looked_up(
             alloc, records, asked, wanted,

@@ -5,7 +5,7 @@ ghost use Rattle.rules.specs.Database.{HasDistinctNames};
 ghost use Rattle.rules.specs.FileRecord.{records_of};
 
 use crate::universes::{all_hold, indices_of};
-use candidates::{Offer, eligible, priority};
+use candidates::{Offer, candidate, eligible, priority};
 use debversion::Version;
 use pins::Prefs;
 use status_text::StatusRecord;
@@ -50,6 +50,25 @@ fn is_spelled(alloc: Global, offer: &Offer<'_>, word: &str) -> Result<bool, Fail
     let (version, priority) = word.split_once('@').unwrap_or((word, ""));
     let spelled = offer.priority().to_string(alloc)?;
     Ok(offer.version().text() == version.as_bytes() && spelled.as_str() == priority)
+}
+
+/// Whether this is the candidate of the name with its priority. The words say the indices, the preferences and the name.
+pub(crate) fn is_preferred(
+    alloc: Global,
+    records: &[&StatusRecord<'_>],
+    words: &str,
+    wanted: &str,
+) -> Result<bool, Fail>
+    requires { HasDistinctNames (records_of (map (λ r. r.now) records.now)) }
+{
+    let (indices, rest) = words.split_once(';').unwrap_or((words, ""));
+    let (prefs, name) = rest.split_once(';').unwrap_or((rest, ""));
+    let prefs = Prefs::read(alloc, prefs.as_bytes(), None)?;
+    let indices = indices_of(alloc, indices)?;
+    match candidate(alloc, records, indices.as_slice(), &prefs, name.as_bytes())? {
+        None => Ok(wanted == "none"),
+        Some(offer) => Ok(offer.name() == name.as_bytes() && is_spelled(alloc, &offer, wanted)?),
+    }
 }
 
 /// Whether this is the priority of the version of the name. The words say the indices, the preferences, and the name with the
@@ -144,6 +163,26 @@ Package: a$Status: install ok unpacked$Version: 2$Architecture: all→priority o
 Package: a$Status: install ok half-installed$Version: 1.5$Architecture: all→priority one two;;a 1.5→none
 Package: b$Status: install ok installed$Version: 2$Architecture: all→priority one two;;a 2→500
 ";
+
+// Two indices, the preferences and a name, and its candidate: the version with the greatest priority, of several such the
+// highest, and none below the one that stands unless it has 1000.
+const PREFERRED: &str = "\
+→prefers one two;;a→2@500
+→prefers one two-;;a→1.0@500
+→prefers one-- two-;;a→1.0@100
+→prefers equal one;;a→1.00@500
+→prefers one two;;c→none
+→prefers one two;Package: a$Pin: version *$Pin-Priority: 0$;a→none
+→prefers one two;Package: a$Pin: version 1.0$Pin-Priority: 501$;a→1.0@501
+Package: a$Status: install ok installed$Version: 1.5$Architecture: all→prefers one two-;;a→1.5@100
+Package: a$Status: install ok installed$Version: 1.5$Architecture: all→prefers one two-;Package: a$Pin: version 1.0$Pin-Priority: 1000$;a→1.0@1000
+Package: c$Status: install ok installed$Version: 1.5$Architecture: all→prefers one two;;c→1.5@100
+";
+
+#[test]
+fn of_the_versions_that_may_be_chosen_one_is_preferred(rt: HostRuntime) -> Result<(), Fail> {
+    all_hold(rt.alloc(), PREFERRED)
+}
 
 #[test]
 fn a_version_has_this_priority_where_it_is_available(rt: HostRuntime) -> Result<(), Fail> {

@@ -11,8 +11,8 @@ use Rattle.rules.specs.NamedLaws.{bytes_eq-true, bytes_eq-same}
 use Rattle.rules.specs.Universe.{Candidate}
 use Rattle.rules.specs.Universe.{candidate_cmp}
 use Rattle.rules.specs.UniverseLaws.{candidate_cmp_total}
-use Rattle.universe.proofs.Finding.{not_back, sorted-one}
-use Rattle.universe.proofs.Searching.{searched_find, searched_none}
+use Rattle.universe.specs.FindLaws.{not_back, sorted-one}
+use Rattle.universe.specs.SearchLaws.{searched_find, searched_none}
 
 -- candidates of one name tie
 candidate_cmp-tied : (name : List ℕ) (candidate other : Candidate) → bytes_eq candidate.name name ≡ true → bytes_eq other.name name ≡ true

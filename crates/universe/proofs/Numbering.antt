@@ -14,8 +14,9 @@ use Rattle.rules.specs.UniverseLaws.{pair_cmp_total}
 use Rattle.rules.proofs.Rising.{AllPairs-rising}
 use Rattle.universe.specs.Pair.{pkg_order}
 use Rattle.universe.specs.Universe.{place_among}
-use Rattle.universe.proofs.Finding.{find-none}
-use Rattle.universe.proofs.PairOrder.{one_pair, pkg_order-ties, searched_no_pair}
+use Rattle.universe.specs.FindLaws.{find-none}
+use Rattle.universe.specs.PairLaws.{pkg_order-ties}
+use Rattle.universe.proofs.PairOrder.{one_pair, searched_no_pair}
 use mathlib.Core.Logic.{inl, inr}
 
 -- the first place at which the test passes

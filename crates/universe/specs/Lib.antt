@@ -1,2 +1,5 @@
 pub mod Pair
 pub mod Universe
+pub mod FindLaws
+pub mod PairLaws
+pub mod SearchLaws

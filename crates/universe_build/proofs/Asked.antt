@@ -14,7 +14,7 @@ use Rattle.rules.specs.declared.goal.Goal.{Goal}
 use Rattle.rules.specs.declared.goal.Goal.TheVariants as goal
 use Rattle.rules.specs.declared.op.Op.{Op}
 use Rattle.rules.specs.declared.op.Op.TheVariants as operator
-use Rattle.universe.proofs.PairOrder.{is_of-from, is_of-parts}
+use Rattle.universe.specs.PairLaws.{is_of-from, is_of-parts}
 use Rattle.candidates.specs.Offer.{IsFor, Offer}
 use Rattle.universe_build.specs.Choice.{Exact, best_exacts, exact_of, exacts_of, is_sought, is_exactly, offered_exact}
 use mathlib.Core.Logic.{inl, inr}

@@ -12,8 +12,8 @@ use Rattle.rules.specs.Name.{name_cmp}
 use Rattle.rules.specs.NamedLaws.{bytes_eq-true, bytes_eq-same}
 use Rattle.rules.specs.Step.{IndexPackage}
 use Rattle.rules.specs.Version.{version_cmp}
-use Rattle.universe.proofs.Finding.{find-none, find-some, not_back, sorted-one}
-use Rattle.universe.proofs.Searching.{searched_find, searched_none}
+use Rattle.universe.specs.FindLaws.{find-none, find-some, not_back, sorted-one}
+use Rattle.universe.specs.SearchLaws.{searched_find, searched_none}
 use Rattle.candidates.specs.Offer.{Offer, offer_name_cmp}
 use Rattle.candidates.specs.OfferLaws.{offer_name_cmp_total}
 use Rattle.universe_build.specs.Choice.{best_exacts, is_sought}

@@ -17,8 +17,8 @@ use Rattle.rules.specs.Universe.{Candidate, IsAdmitted, IsKeptCandidate, IsOf, I
 use Rattle.rules.specs.Version.{SameVersion}
 use Rattle.rules.specs.VersionOrderLaws.{SameVersion-refl, SameVersion-symm, SameVersion-trans}
 use Rattle.rules.specs.declared.goal.Goal.{Goal}
-use Rattle.rules.proofs.Rising.{AllPairs-rising}
-use Rattle.universe.proofs.PairOrder.{of_itself}
+use Rattle.std.proofs.lemmas.Map.Keys.{Less-from_sorted}
+use Rattle.universe.specs.PairLaws.{of_itself}
 use Rattle.candidates.specs.Candidates.{AreCandidates}
 use Rattle.candidates.specs.Eligible.{AreAllVersions}
 use Rattle.candidates.specs.Inputs.{inputs_of}
@@ -323,7 +323,7 @@ module _ (db : List Record) (indices : List Index) (prefs : Preferences) (reques
   })
   unfolding IsKeptCandidate
   universe_of pairs chosen = record {
-    ascending = AllPairs-rising pair_cmp pairs chosen.ascending;
+    ascending = λ i j d before within. Less-from_sorted pair_cmp pairs i j d chosen.ascending before within;
     admitted = λ name version. (
       λ admitted.
           let there = made_admitted name version admitted in
@@ -353,5 +353,6 @@ module _ (db : List Record) (indices : List Index) (prefs : Preferences) (reques
         let top = top_of name version priority candidate in
         Any-intro (λ (candidate : Candidate). (candidate.name ≡ name) × SameVersion candidate.version version) (map candidate_at best)
         (candidate_at top.0) (Contains-map_intro candidate_at best top.0 top.1) top.2;
-    candidates_ascending = AllPairs-rising candidate_cmp (map candidate_at best) (candidates_ascend best are.ascending);
+    candidates_ascending = λ i j d before within. Less-from_sorted candidate_cmp (map candidate_at best) i j d
+        (candidates_ascend best are.ascending) before within;
   }

@@ -16,11 +16,11 @@ use Rattle.rules.specs.Step.{IndexPackage}
 use Rattle.rules.specs.Version.{version_cmp}
 use Rattle.rules.specs.declared.goal.Goal.{Goal}
 use Rattle.rules.specs.declared.goal.GoalLine.{GoalLine}
-use Rattle.universe.proofs.PairOrder.{is_eq-then}
-use Rattle.universe.proofs.Searching.{searched_any}
+use Rattle.universe.specs.PairLaws.{is_eq-then}
+use Rattle.universe.specs.SearchLaws.{searched_any}
 use Rattle.candidates.specs.Recorded.{IsByName, is_recorded}
 use Rattle.candidates.specs.Stanza.{IsOrdered, has_name}
-use Rattle.rules.proofs.UniverseLemmas.{find-agree}
+use Rattle.universe.specs.FindLaws.{find-agree}
 use Rattle.candidates.proofs.Searching.{has_name-ordered}
 use Rattle.universe_build.specs.Build.{first_unknown, is_unknown, named_by}
 use Rattle.universe_build.specs.Choice.{Exact, exact_at, exact_cmp, is_sought}

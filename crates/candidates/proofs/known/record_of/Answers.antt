@@ -3,7 +3,7 @@ use Rattle.std.proofs.Common.{◌≡◌, ◌<◌, ◌∙◌, List, ap, arith, le
 use Rattle.std.specs.List.{find, slice_get}
 use Rattle.rules.specs.Database.{Record}
 use Rattle.rules.specs.Step.{is_named}
-use Rattle.universe.proofs.Searching.{got}
+use Rattle.universe.specs.SearchLaws.{got}
 use Rattle.index.proofs.NameTable.{as_many, found_item, found_none}
 use Rattle.candidates.proofs.RecordNames.{name_of}
 use Rattle.candidates.proofs.known.record_of.Goals as goal

@@ -5,7 +5,7 @@ use Rattle.std.proofs.lemmas.Fn.{always_returns_same}
 use Rattle.rules.specs.Name.{name_cmp}
 use Rattle.rules.specs.Universe.{Candidate}
 use Rattle.universe.proofs.CandidateOrder.{searched_candidate, searched_no_candidate}
-use Rattle.universe.proofs.Searching.{got}
+use Rattle.universe.specs.SearchLaws.{got}
 use Rattle.universe.proofs.candidates.candidate_among.Goals as goal
 
 pub returns-in-Ok : goal.returns-in-Ok

@@ -5,7 +5,7 @@ use Rattle.std.proofs.lemmas.Fn.{always_returns_same}
 use Rattle.rules.specs.Universe.{Pair}
 use Rattle.universe.specs.Pair.{pkg_order}
 use Rattle.universe.proofs.PairOrder.{searched_no_pair, searched_pair}
-use Rattle.universe.proofs.Searching.{got}
+use Rattle.universe.specs.SearchLaws.{got}
 use Rattle.universe.proofs.pairs.pair_of.Goals as goal
 
 pub returns-in-Ok : goal.returns-in-Ok

@@ -4,7 +4,7 @@ use Rattle.std.specs.List.Sorted.{IsBinarySearchResult, IsSearchInRange}
 use Rattle.std.proofs.lemmas.Fn.{always_returns_same}
 use Rattle.rules.specs.Name.{name_cmp}
 use Rattle.candidates.specs.Offer.{Offer}
-use Rattle.universe.proofs.Searching.{got}
+use Rattle.universe.specs.SearchLaws.{got}
 use Rattle.universe_build.proofs.BestOffer.{searched_no_offer, searched_offer}
 use Rattle.universe_build.proofs.best.offer_of.Goals as goal
 

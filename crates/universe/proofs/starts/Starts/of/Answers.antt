@@ -3,7 +3,7 @@ use Rattle.std.proofs.Common.{◌≡◌, ◌<◌, ◌∙◌, List, ap, arith, le
 use Rattle.std.specs.List.{find, slice_get}
 use Rattle.index.proofs.NameTable.{as_many, found_item, found_none}
 use Rattle.rules.specs.Universe.{Start, is_start_of}
-use Rattle.universe.proofs.Searching.{got}
+use Rattle.universe.specs.SearchLaws.{got}
 use Rattle.universe.proofs.StartNames.{name_of}
 use Rattle.universe.proofs.starts.Starts.of.Goals as goal
 

@@ -1,4 +1,4 @@
--- What `find` finds, and what is in a list that is strictly in order.
+-- What `find` finds, and what is in a list that is strictly in order: laws for the crates above too.
 use Rattle.std.proofs.Common.{◌≡◌, ◌+◌, Bool, true, false, cond, List, [], ◌∷◌, get_or, Option, Some, None, ◌⊎◌, refl, sym, ap, subst, ◌∙◌, arith}
 use Rattle.std.specs.Cmp.{IsTotalOrder, tied_back}
 use Rattle.std.specs.List.{Contains, find}
@@ -7,11 +7,10 @@ use Rattle.std.specs.Ordering.{is_lt, ordering_reverse}
 use Rattle.std.specs.declared.cmp.Ordering.{Ordering}
 use Rattle.std.specs.declared.cmp.Ordering.TheVariants.{Less, Equal}
 use Rattle.std.proofs.lemmas.List.Elements.{All-contains}
-use Rattle.std.proofs.lemmas.Map.Keys.{sorted_tail}
+use Rattle.std.proofs.lemmas.Map.Keys.{Less-from_sorted, sorted_tail}
 use Rattle.std.proofs.lemmas.Map.Views.{All-after_first}
 use Rattle.std.proofs.lemmas.Option.{same_Some}
 use Rattle.rules.specs.ElementLaws.{Contains-cons, Contains-head, Contains-nil, Contains-rest}
-use Rattle.rules.proofs.Rising.{AllPairs-rising}
 use mathlib.Core.Logic.{inl, inr}
 
 -- what is found is an element that passes
@@ -27,6 +26,14 @@ find-some {X} p (y ∷ ys) x found = at (p y) refl found (find-some p ys x)
     at false here whole rest =
         let later : Contains ys x × (p x ≡ true) = rest whole in
         (Contains-rest y ys x later.0, later.1)
+
+-- what is found is the same by a test that passes alike
+pub find-agree : {X : Type 0} (p q : X → Bool) → ((x : X) → p x ≡ q x) → (xs : List X) → find p xs ≡ find q xs
+find-agree p q same [] = refl
+find-agree p q same (x ∷ xs) =
+    let here : p x ≡ q x = same x in
+    let rest : find p xs ≡ find q xs = find-agree p q same xs in
+    cc
 
 -- where nothing is found, no element passes
 pub find-none : {X : Type 0} (p : X → Bool) (xs : List X) → find p xs ≡ None → (x : X) → Contains xs x → p x ≡ false
@@ -73,5 +80,5 @@ pub not_back : {X : Type 0} (R : X → X → Ordering) → ((x y : X) → R x y 
     → IsStrictlySortedBy R xs → IsSorted R xs
 not_back R turns xs ascending k d low high =
     let below : R (get_or xs k d) (get_or xs (k + 1) d) ≡ Less =
-    AllPairs-rising R xs ascending k (k + 1) d (omega arith) high in
+    Less-from_sorted R xs k (k + 1) d ascending (omega arith) high in
     ap is_lt (turns (get_or xs (k + 1) d) (get_or xs k d) ∙ ap ordering_reverse below)

@@ -1,4 +1,4 @@
--- What a binary search in a sorted list finds.
+-- What a binary search in a sorted list finds: laws for the crates above too.
 use Rattle.std.proofs.Common.{◌≡◌, ℕ, zero, suc, ◌<◌, ◌≤◌, Bool, true, false, IsSome, unwrap_or, List, [], ◌∷◌, length, get_or, Result, Ok, Err, Option, Some, None, refl, sym, ap, ◌∙◌, arith}
 use Rattle.std.specs.Prelude.{is_ok}
 use Rattle.std.specs.List.{Any, Contains, find, list_any, slice_get}
@@ -10,7 +10,7 @@ use Rattle.std.specs.declared.cmp.Ordering.TheVariants.{Less, Equal, Greater}
 use Rattle.std.proofs.lemmas.Bool.{cases_lt, false_from_ne_true}
 use Rattle.std.proofs.lemmas.List.Elements.{Contains-get_or}
 use Rattle.rules.specs.ElementLaws.{Any-from_list_any, Contains-head, Contains-rest, list_any-from_contains}
-use Rattle.universe.proofs.Finding.{find-exists, find-some}
+use Rattle.universe.specs.FindLaws.{find-exists, find-some}
 use mathlib.Core.Logic.{inl, inr}
 
 -- a binary search tells whether an element passes, where just those that are found equal pass
