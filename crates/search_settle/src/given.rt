@@ -95,39 +95,39 @@ impl<'e> Given<'e> {
     }
 
     /// The literals of the clause at a place.
-    pub(crate) fn clause(&self, place: u32) -> &[i32]
+    pub(crate) fn clause(&self, place: usize) -> &[i32]
         ensures { result.now ≡ clause_at self.now place }
     {
-        self.clauses.clause(place as usize)
+        self.clauses.clause(place)
     }
 
     /// The places of the clauses with the literal that the number isn't selected.
-    pub(crate) fn places_without(&self, number: u32) -> &[u32]
+    pub(crate) fn places_without(&self, number: u32) -> &[usize]
         ensures { result.now ≡ places_without self.now number }
     {
         self.occurrences.at(unselected_place(number))
     }
 
     /// The places of the clauses with the literal that the number is selected.
-    pub(crate) fn places_with(&self, number: u32) -> &[u32] {
+    pub(crate) fn places_with(&self, number: u32) -> &[usize] {
         self.occurrences.at(selected_place(number))
     }
 
     /// The sibling of the number by the clause at a place.
-    pub(crate) fn sibling_at(&self, number: u32, place: u32) -> Option<u32>
+    pub(crate) fn sibling_at(&self, number: u32, place: usize) -> Option<u32>
         ensures { result ≡ sibling_at self.now number place }
     {
-        match self.roles.get(place as usize) {
+        match self.roles.get(place) {
             None => None,
             Some(role) => sibling_of(number, *role),
         }
     }
 
     /// Whether the clause at a place says what the number needs.
-    pub(crate) fn is_need_at(&self, number: u32, place: u32) -> bool
+    pub(crate) fn is_need_at(&self, number: u32, place: usize) -> bool
         ensures { result ≡ is_need_at self.now number place }
     {
-        match self.roles.get(place as usize) {
+        match self.roles.get(place) {
             None => false,
             Some(role) => is_need_of(number, *role),
         }

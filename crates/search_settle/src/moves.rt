@@ -32,7 +32,7 @@ pub(crate) fn is_allowed(given: &Given<'_>, set: &Vec<bool>, change: Change) -> 
 }
 
 // Whether the sibling of which the premise at a place speaks, if it speaks of one, is selected.
-fn is_sibling_selected(given: &Given<'_>, set: &Vec<bool>, number: u32, place: u32) -> bool
+fn is_sibling_selected(given: &Given<'_>, set: &Vec<bool>, number: u32, place: usize) -> bool
     ensures { result ≡ is_sibling_selected given.now (holds set.now.items) number place }
 {
     match given.sibling_at(number, place) {
@@ -144,7 +144,7 @@ fn replacing_at(
     known: &Known,
     set: &Vec<bool>,
     out: u32,
-    place: u32,
+    place: usize,
 ) -> Option<Change>
     requires indexed { IsIndexed given.now }
     requires before { AreTrue (holds set.now.items) given.now.clauses }

@@ -12,7 +12,7 @@ use std::marker::Model;
 /// For each literal the places of the clauses in which it occurs, ascending.
 #[derive(Drop)]
 pub(crate) struct Occurrences {
-    lists: Vec<Vec<u32>>,
+    lists: Vec<Vec<usize>>,
 }
 
 impl Model for Occurrences {
@@ -37,7 +37,7 @@ impl Occurrences {
     }
 
     // The list at a place; an empty one where there is none.
-    pub(crate) fn at(&self, place: usize) -> &[u32]
+    pub(crate) fn at(&self, place: usize) -> &[usize]
         ensures { result.now ≡ slice_index_or self.now place [] }
     {
         match self.lists.get(place) {
@@ -47,7 +47,7 @@ impl Occurrences {
     }
 
     // Puts a clause at the end of a list.
-    fn push(&mut self, place: usize, clause: u32) -> Result<(), AllocError>
+    fn push(&mut self, place: usize, clause: usize) -> Result<(), AllocError>
         ensures long { length self.new ≡ length self.old }
         ensures others { OnOk result ((at : ℕ) → at ≢ place → slice_index_or self.new at [] ≡ slice_index_or self.old at []) }
         ensures pushed { OnOk result (place < length self.old → slice_index_or self.new place [] ≡ slice_index_or self.old place [] ++ clause ∷ []) }
@@ -60,7 +60,7 @@ impl Occurrences {
     }
 
     // Puts a clause under a literal.
-    fn push_under(&mut self, literal: &i32, clause: u32) -> Result<(), AllocError>
+    fn push_under(&mut self, literal: &i32, clause: usize) -> Result<(), AllocError>
         ensures long { length self.new ≡ length self.old }
         ensures others { OnOk result ((at : ℕ) → at ≢ place_of literal.now → slice_index_or self.new at [] ≡ slice_index_or self.old at []) }
         ensures pushed { OnOk result (place_of literal.now < length self.old
@@ -71,7 +71,7 @@ impl Occurrences {
     }
 
     // Puts a clause under each of its literals.
-    fn push_clause(&mut self, clause: &[i32], place: u32) -> Result<(), AllocError>
+    fn push_clause(&mut self, clause: &[i32], place: usize) -> Result<(), AllocError>
         ensures { OnOk result (Gains self.old self.new clause.now place) }
     {
         for literal in clause {
@@ -88,10 +88,7 @@ pub(crate) fn occurrences_of(alloc: Global, clauses: &Clauses) -> Result<Occurre
 {
     let mut lists = Occurrences::new(alloc, 2 * (clauses.numbers() as usize) + 2)?;
     for place in 0..clauses.len() {
-        let Ok(number) = u32::try_from(place) else {
-            return Err(AllocError);
-        };
-        lists.push_clause(clauses.clause(place), number)?;
+        lists.push_clause(clauses.clause(place), place)?;
     }
     Ok(lists)
 }

@@ -111,7 +111,7 @@ impl Reached {
         known: &Known,
         set: &Vec<bool>,
         number: u32,
-        place: u32,
+        place: usize,
     ) -> Result<(), AllocError>
         requires found { IsFound given.now known.now (holds set.now.items) self.old }
         requires long { length self.old.marks ≡ length set.now.items }
