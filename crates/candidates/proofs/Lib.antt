@@ -1,3 +1,4 @@
+pub mod VersionedLemmas
 pub mod RecordNames
 pub mod AllVersions
 pub mod Alone

@@ -48,6 +48,8 @@ impl<'p, 'a> Recorded<'p, 'a> {
         if !self.record.stands() {
             return None;
         }
+        // What stands has a version, as its stanza was read.
+        let _origin = self.record.origin();
         match self.record.version() {
             Some(version) => Some(version.again()),
             None => unreachable!(),
