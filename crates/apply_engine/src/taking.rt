@@ -3,6 +3,7 @@ ghost use Rattle.std.specs.Prelude.{◌≡◌, ◌≢◌, ◌↔◌, IfErr, IfOk
 ghost use Rattle.inputs.specs.Indices.{released};
 ghost use Rattle.inputs.specs.Texts.{Shelved, texts_of};
 ghost use Rattle.rules.specs.declared.step.Verdict.TheVariants as verdict;
+ghost use Rattle.status.specs.Text.{slots_text};
 ghost use Rattle.unpack_texts.specs.Texts.{IsTextsRefusal};
 ghost use Rattle.cli_engine.specs.Answer.{IsAnswer};
 ghost use Rattle.apply_engine.specs.Applied.{IfDone, IfJudged, IfText, verdict_of};
@@ -24,7 +25,7 @@ use inputs::{
 use rules::{Release, Step, Verdict};
 use status::Database;
 use status_text::StatusFile;
-use std::alloc::Global;
+use std::alloc::{AllocError, Global};
 use universe::Universe;
 use unpack_texts::fetch_texts;
 
@@ -36,6 +37,15 @@ fn is_yes(found: &Verdict) -> bool
         Verdict::Yes => true,
         _ => false,
     }
+}
+
+// The text of a database that no action has touched: that of this status file.
+fn start_text(alloc: Global, status_file: &StatusFile<'_>) -> Result<Vec<u8>, AllocError>
+    ensures { IfOk result (λ text. text.items ≡ slots_text status_file.now.slots) }
+{
+    let database = Database::of(alloc, status_file)?;
+    let text = database.text(alloc)?;
+    Ok(text)
 }
 
 // Fetches the texts of the stanzas that the steps unpack, and carries the steps out.
@@ -63,8 +73,7 @@ fn take<S: Shelf, D: Disk>(
     ensures count { CountsDisk result (D.faults disk.old) (D.faults disk.new) }
 {
     let texts = fetch_texts(alloc, shelf, settings.arch, files, universe, steps)?;
-    let database = Database::of(alloc, status_file)?;
-    let start = database.text(alloc)?;
+    let start = start_text(alloc, status_file)?;
     carry_out(
         alloc,
         disk,

@@ -1,8 +1,6 @@
 -- What is carried out is recorded with the texts that were fetched.
-use Rattle.std.proofs.Common.{◌∙◌, ap, Bor, ℕ, List, map}
+use Rattle.std.proofs.Common.{◌∙◌, Bor, ℕ, List, map}
 use Rattle.apply.specs.Planned.{planned}
-use Rattle.status.specs.Text.{slots_text}
-use Rattle.status_text.specs.Slot.{Store}
 use Rattle.apply_engine.specs.Planned.{AreRecorded}
 use Rattle.apply_engine.proofs.CarryLemmas.{Is}
 use Rattle.apply_engine.proofs.LeftLemmas.{carried_result, left_weaker}
@@ -17,7 +15,7 @@ returns-clause-left g c honest =
     left_weaker (Is c.as_slice.result.now (planned steps c.as_slice-2.result.now))
     (AreRecorded c.args.settings.now.arch.now (g.S.Shelf.found c.args.shelf.now) files c.args.universe.now steps slots) c.args.settings.now.arch.now
     (recorded_of c.args.settings.now.arch.now (g.S.Shelf.found c.args.shelf.now) files c.args.universe.now steps slots c.as_slice.result.now c.as_slice-2.result.now
-    (c.as_slice.ensures.value ∙ c.in_ok-start.ensures.text ∙ ap (λ (db : Store). slots_text db.slots) c.in_ok-database.ensures)
+    (c.as_slice.ensures.value ∙ c.in_ok-start.ensures)
     (λ at known. rw c.as_slice-2.ensures.value (c.in_ok-texts.ensures.texts at known)))
     (g.D.Disk.facts c.args.disk.now) (g.D.Disk.facts c.carry_out.new.disk) c.carry_out.result (c.carry_out.ensures.left honest)
 
@@ -29,6 +27,6 @@ returns-clause-done g c =
     carried_result (Is c.as_slice.result.now (planned steps c.as_slice-2.result.now))
     (AreRecorded c.args.settings.now.arch.now (g.S.Shelf.found c.args.shelf.now) files c.args.universe.now steps slots) c.args.settings.now.arch.now
     (recorded_of c.args.settings.now.arch.now (g.S.Shelf.found c.args.shelf.now) files c.args.universe.now steps slots c.as_slice.result.now c.as_slice-2.result.now
-    (c.as_slice.ensures.value ∙ c.in_ok-start.ensures.text ∙ ap (λ (db : Store). slots_text db.slots) c.in_ok-database.ensures)
+    (c.as_slice.ensures.value ∙ c.in_ok-start.ensures)
     (λ at known. rw c.as_slice-2.ensures.value (c.in_ok-texts.ensures.texts at known)))
     c.carry_out.result c.carry_out.ensures.done
