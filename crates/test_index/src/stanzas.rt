@@ -7,7 +7,6 @@ use index::Index;
 use pins::Prefs;
 use rows::unescaped;
 use rules::{Release, Text};
-use status_text::StatusFile;
 use std::alloc::{AllocError, Global};
 use universe::Universe;
 use universe_build::build;
@@ -109,19 +108,8 @@ fn all_hold(alloc: Global, universe: &Universe<'_, '_>, most: usize) -> Result<b
 }
 
 fn all_hold_over(alloc: Global, indices: &[Index<'_>], most: usize) -> Result<bool, AllocError> {
-    let Ok(nothing) = StatusFile::read(alloc, b"", ARCH) else {
-        return Ok(false);
-    };
-    let start = nothing.records(alloc)?;
     let prefs = Prefs::without_records(alloc, None)?;
-    match build(
-        alloc,
-        start.as_slice(),
-        indices,
-        &prefs,
-        Vec::new(alloc),
-        true,
-    ) {
+    match build(alloc, &[], indices, &prefs, Vec::new(alloc), true) {
         Ok(universe) => all_hold(alloc, &universe, most),
         Err(_) => Ok(false),
     }
