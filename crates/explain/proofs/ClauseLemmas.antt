@@ -1,11 +1,10 @@
 -- What follows from lines follows from their copies under other numbers.
-use Rattle.std.proofs.Common.{◌≡◌, ℕ, List, [], ◌∷◌, ◌++◌, Some, map, refl, sym, ap, subst, ◌∙◌, append_assoc}
-use Rattle.std.specs.Prelude.{◌↔◌, slice_index}
+use Rattle.std.proofs.Common.{◌≡◌, ℕ, List, [], ◌∷◌, ◌++◌, Some, map, refl, sym, ap, subst, ◌∙◌, append_assoc, arith}
+use Rattle.std.specs.Prelude.{slice_index}
 use Rattle.std.specs.List.{Contains}
 use Rattle.std.proofs.lemmas.List.Elements.{Contains-append_right}
-use Rattle.std.proofs.Common.{length, ◌<◌, arith}
 use Rattle.rules.specs.Universe.{Universe}
-use Rattle.refutation.specs.Clause.{HasAt, item_at, negation, IsEmptyClause}
+use Rattle.refutation.specs.Clause.{HasAt, item_at, IsEmptyClause}
 use Rattle.refutation.specs.Following.{IsOpen, FalseAfter, EndsFalse}
 use Rattle.refutation.specs.Refutation.{IsInLine, IsGoodLine, AreGoodLines}
 use Rattle.refutation.specs.declared.line.Line.{Line}

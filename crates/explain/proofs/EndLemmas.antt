@@ -1,14 +1,14 @@
 -- What is kept in the end.
-use Rattle.std.proofs.Common.{◌≡◌, ℕ, ◌+◌, ◌<◌, ◌≤◌, Bool, List, [], ◌∷◌, ◌++◌, Some, length, take, refl, sym, ap, subst, ◌∙◌, arith}
+use Rattle.std.proofs.Common.{◌≡◌, ℕ, ◌+◌, ◌<◌, ◌≤◌, Bool, List, Some, length, take, sym, ap, subst, ◌∙◌, arith}
 use Rattle.std.specs.Prelude.{◌⊎◌, slice_index}
 use Rattle.std.proofs.lemmas.List.{length_push, take_all}
 use Rattle.rules.specs.Universe.{Universe}
-use Rattle.refutation.specs.Clause.{HasAt, item_at}
-use Rattle.refutation.specs.Refutation.{AreGoodLines, EndsEmpty, IsAccepted}
+use Rattle.refutation.specs.Clause.{item_at}
+use Rattle.refutation.specs.Refutation.{AreGoodLines, EndsEmpty}
 use Rattle.refutation.specs.declared.line.Line.{Line}
 use Rattle.explain.specs.Needed.{AreAllNamed, IsNamedLater, StaysAccepted}
 use Rattle.explain.specs.Marks.{AreMarks, IsNamedBehind}
-use Rattle.explain.specs.Kept.{AreKept, IsCopyOf, IsWaiting}
+use Rattle.explain.specs.Kept.{AreKept, IsWaiting}
 use Rattle.explain.proofs.ItemLemmas.{item_last, item_within, last_split}
 use Rattle.explain.proofs.ClauseLemmas.{same_empty}
 use mathlib.Core.Logic.{inl, inr}

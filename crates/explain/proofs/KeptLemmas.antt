@@ -1,11 +1,10 @@
 -- The marked lines, one after another.
-use Rattle.std.proofs.Common.{◌≡◌, ◌≢◌, ℕ, ◌+◌, ◌<◌, ◌≤◌, Bool, true, false, List, [], ◌∷◌, ◌++◌, Some, None, length, take, refl, sym, ap, subst, ◌∙◌, arith, length-append}
+use Rattle.std.proofs.Common.{◌≡◌, ◌≢◌, ℕ, ◌+◌, ◌<◌, ◌≤◌, Bool, true, false, List, [], ◌∷◌, ◌++◌, Some, length, take, refl, sym, ap, subst, ◌∙◌, arith}
 use Rattle.std.specs.Prelude.{◌⊎◌, slice_get, slice_index, slice_index_or}
 use Rattle.std.specs.List.{Contains}
 use Rattle.std.proofs.lemmas.Bool.{cases_eq}
 use Rattle.std.proofs.lemmas.List.{length_push}
 use Rattle.std.proofs.lemmas.List.Elements.{Contains-push_cases}
-use Rattle.std.proofs.lemmas.Option.{slice_get_within}
 use Rattle.rules.specs.Universe.{Universe}
 use Rattle.refutation.specs.Clause.{HasAt, item_at}
 use Rattle.refutation.specs.Refutation.{AreGoodLines}
@@ -13,7 +12,7 @@ use Rattle.refutation.specs.declared.line.Line.{Line}
 use Rattle.refutation.specs.declared.line.Line.TheVariants as line
 use Rattle.refutation.specs.declared.line.Premise.{Premise}
 use Rattle.refutation.proofs.LineLemmas.{empty_list_is_good, good_lines_grow}
-use Rattle.explain.specs.Needed.{ArePremisesOf, HintsAt, IsNamedLater, renumbered}
+use Rattle.explain.specs.Needed.{HintsAt, IsNamedLater, renumbered}
 use Rattle.explain.specs.Marks.{AreMarks, IsMarked, IsNamedBehind}
 use Rattle.explain.specs.Kept.{AreKept, IsCopyOf, IsWaiting}
 use Rattle.explain.proofs.ItemLemmas.{has_push, item_last, item_of_place, item_of_take, item_within, new_number, old_number, place_contained, same_item, take_next}

@@ -1,15 +1,14 @@
 -- Marks, one line after another from the last back to the first.
-use Rattle.std.proofs.Common.{◌≡◌, ◌≢◌, ℕ, ◌+◌, ◌-◌, ◌<◌, ◌≤◌, Bool, true, false, List, [], ◌∷◌, ◌++◌, Some, None, length, take, replicate, get_or, refl, sym, ap, subst, ◌∙◌, arith}
-use Rattle.std.specs.Prelude.{◌⊎◌, slice_index_or}
+use Rattle.std.proofs.Common.{◌≡◌, ℕ, ◌-◌, ◌<◌, ◌≤◌, Bool, List, [], ◌∷◌, ◌++◌, Some, length, sym, subst, ◌∙◌, arith}
+use Rattle.std.specs.Prelude.{◌⊎◌}
 use Rattle.std.specs.List.{Contains}
-use Rattle.std.proofs.lemmas.Bool.{cases_eq, cases_order}
-use Rattle.std.proofs.lemmas.List.{get_or_append_left, get_or_past, get_or_push, get_or-replicate, length-replicate, length_push}
+use Rattle.std.proofs.lemmas.Bool.{cases_order}
 use Rattle.std.proofs.lemmas.List.Elements.{Contains-append_left, Contains-push, Contains-push_cases}
 use Rattle.refutation.specs.Clause.{HasAt, item_at}
 use Rattle.refutation.specs.declared.line.Line.{Line}
 use Rattle.explain.specs.Needed.{HintsAt}
 use Rattle.explain.specs.Marks.{AreMarks, IsMarked, IsNamedBehind, MarksAlso}
-use Rattle.explain.proofs.ItemLemmas.{item_within, same_item}
+use Rattle.explain.proofs.ItemLemmas.{same_item}
 use mathlib.Core.Logic.{inl, inr}
 
 -- some numbers are marked, and then others

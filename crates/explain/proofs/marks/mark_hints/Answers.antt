@@ -1,5 +1,5 @@
 -- One hint more, and in the end all are marked.
-use Rattle.std.proofs.Common.{◌≡◌, ℕ, ◌+◌, ◌<◌, List, [], ◌∷◌, ◌++◌, length, take, get_or, subst, sym, arith}
+use Rattle.std.proofs.Common.{ℕ, ◌<◌, List, length, take, get_or, subst, sym, arith}
 use Rattle.std.specs.List.{Contains}
 use Rattle.std.proofs.lemmas.List.{take_all, take_more}
 use Rattle.explain.specs.Marks.{MarksAlso}
