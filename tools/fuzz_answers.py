@@ -23,6 +23,8 @@ ANSWERS = {
               2: rb"undecided (?:limit [0-9]+|blocked start|blocked stuck)\n"},
     "apply": {0: rb"applied [0-9]+\n", 1: VERDICT},
 }
+# Of words that begin with none of them, as --version and --help do.
+HELP = {0: rb"(?s:.+)"}
 CONTROL = rb"(?:status|sources|%s|preferences)" % INDEX
 PACKAGES = rb"(?:status|%s)" % INDEX
 TEXT = rb"(?:status|sources|%s|preferences|request|plan|refutation)" % INDEX
@@ -56,7 +58,7 @@ def faults_of(printed, texts, kind, is_call):
     if printed.status not in (0, 1, 2):
         return [f"its exit status is {printed.status}"]
     faults = ["there is something on standard error"] if printed.err else []
-    form = ANSWERS.get(kind, {}).get(printed.status) if is_call else rb"(?s:.*)"
+    form = ANSWERS.get(kind, HELP).get(printed.status) if is_call else rb"(?s:.*)"
     if form is None or not re.fullmatch(form, printed.out):
         faults.append(f"it is no answer of {kind} with status {printed.status}")
     return faults
