@@ -71,11 +71,15 @@ def rows(world, words, *rows_of_file):
 
 
 def texts():
-    """A text may have so many bytes. Of a longer one nothing is tested: a line of a colon alone is none of any text."""
+    """A text may have so many bytes. Of a longer one nothing is tested, but of an index what stands in front: a line of a colon
+    alone is none of any text."""
     for where, name in PLACES.items():
         begin = "File: index1\n" if name == "sources" else ""
+        passed = "" if name == "index1" else ":\n"
         yield Case(f"bytes of {where}", {name: filled(TEXT_BYTES, begin)}, CHECK_PLAN, "0 yes")
-        yield Case(f"bytes of {where} passed", {name: filled(TEXT_BYTES + 1, ":\n")}, CHECK_PLAN, f"3 {where}: E10 TooLarge")
+        yield Case(f"bytes of {where} passed", {name: filled(TEXT_BYTES + 1, passed)}, CHECK_PLAN, f"3 {where}: E10 TooLarge")
+    yield Case("bytes of index 1 passed behind a bad line", {"index1": filled(TEXT_BYTES + 1, ":\n")}, CHECK_PLAN,
+               "3 index 1: E3 BadFieldName 1")
     begin = "plan 1\nunpack a 1"
     yield from rows({}, CHECK_PLAN,
                     ("bytes of a plan", "answer", filled(TEXT_BYTES, begin, "1", "\n"), "1 no step 1 F10 NotAdmitted"),
