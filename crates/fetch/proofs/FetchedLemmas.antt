@@ -4,11 +4,12 @@ use Rattle.std.proofs.Math.ListN.{length-map}
 use Rattle.std.proofs.lemmas.List.{drop_more, get_or-map}
 use Rattle.rules.specs.Step.{IndexPackage}
 use Rattle.rules.specs.declared.limits.TheConstants.{TEXT_BYTES}
+use Rattle.stanza.specs.declared.form.Form.TheVariants.{Plain}
 use Rattle.stanza.specs.Reading.{Reading, begins}
 use Rattle.fetch.specs.Fetched.{AreFetched, HasRead, IsChanged, IsFetched, IsGone, Items, items_in}
 
 -- at first all is still to be read
-pub has-begun : (text : List ℕ) (reading : Reading) → reading ≡ begins false TEXT_BYTES → HasRead (items_in text) 0 reading text
+pub has-begun : (text : List ℕ) (reading : Reading) → reading ≡ begins Plain TEXT_BYTES → HasRead (items_in text) 0 reading text
 has-begun text reading e = rw e (record { before = []; is = refl; count = refl; last = tt; some = λ less. absurd (omega arith) })
 
 -- one of the packages is gone

@@ -1,10 +1,11 @@
 -- The texts of stanzas that are fetched in a second reading of an index (that a change is refused is this project's own).
-use Rattle.std.specs.Prelude.{◌≡◌, ℕ, ◌+◌, true, false, List, [], ◌∷◌, ◌++◌, length, map, Some, Result, Ok, is_some, IfSome, ◌<◌}
+use Rattle.std.specs.Prelude.{◌≡◌, ℕ, ◌+◌, true, List, [], ◌∷◌, ◌++◌, length, map, Some, Result, Ok, is_some, IfSome, ◌<◌}
 use Rattle.std.specs.List.{AllZip, Any}
 use Rattle.index.specs.Alone.{alone}
 use Rattle.rules.specs.FileRecord.{IndexStanza}
 use Rattle.rules.specs.Step.{IndexPackage}
 use Rattle.rules.specs.declared.limits.TheConstants.{TEXT_BYTES}
+use Rattle.stanza.specs.declared.form.Form.TheVariants.{Plain}
 use Rattle.stanza.specs.Reading.{Reading, to_read}
 use Rattle.stanza.specs.Stanza.{StanzaText}
 use Rattle.stanza.specs.Streamed.{read_within}
@@ -19,7 +20,7 @@ Items = List (Result StanzaText ReadError)
 
 -- what is read of the text of an index
 abbrev pub items_in : List ℕ → Items
-items_in text = read_within false 1 TEXT_BYTES text
+items_in text = read_within Plain 1 TEXT_BYTES text
 
 -- the stanza has this number among what is read, counted from 1
 pub record IsStanzaAt (items : Items) (number : ℕ) (stanza : StanzaText) : Type 0 where

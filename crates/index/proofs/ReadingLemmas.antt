@@ -5,6 +5,7 @@ use Rattle.rules.specs.FileRecord.{IndexStanza}
 use Rattle.rules.specs.declared.index_place.IndexPlace.{IndexPlace}
 use Rattle.rules.specs.declared.limits.TheConstants.{TEXT_BYTES}
 use Rattle.rules.specs.declared.release.Release.{Release}
+use Rattle.stanza.specs.declared.form.Form.TheVariants.{Plain}
 use Rattle.stanza.specs.Reading.{Reaches, Reading, begins, to_read}
 use Rattle.stanza.specs.Stanza.{StanzaText, items_of}
 use Rattle.stanza.specs.Streamed.{as_read, read_within}
@@ -27,7 +28,7 @@ abbrev none : ReadStanzas
 none = record { listed = []; skipped = 0 }
 
 -- at first nothing was kept, and all is still to be read
-pub start_rows : (arch : List ℕ) (number before : ℕ) (kept : KeptRows) (reader : Reading) (text : List ℕ) → reader ≡ begins false TEXT_BYTES
+pub start_rows : (arch : List ℕ) (number before : ℕ) (kept : KeptRows) (reader : Reading) (text : List ℕ) → reader ≡ begins Plain TEXT_BYTES
     → kept.rows.items ≡ [] → kept.skipped ≡ 0
     → read_stream arch number before text
     ≡ with_stanzas (stanzas_at arch number kept) (stanzas_read arch (first_place number) (to_read reader text) (before + length kept.rows.items))
@@ -83,9 +84,9 @@ items_read arch place (Ok stanza ∷ items) count =
 
 -- a text that isn't too long is read as it is whole
 pub stream_is : (arch : List ℕ) (number before : ℕ) (release : Release) (text : List ℕ) → length text ≤ TEXT_BYTES
-    → read_within false 1 TEXT_BYTES text ≡ map as_read (items_of false text)
+    → read_within Plain 1 TEXT_BYTES text ≡ map as_read (items_of Plain text)
     → with_release release (read_stream arch number before text) ≡ read_index arch number release before text
 stream_is arch number before release text fits same =
     ap (λ (list : List (Result StanzaText ReadError)). with_release release (stanzas_read arch (first_place number) list before)) same
-    ∙ ap (with_release release) (items_read arch (first_place number) (items_of false text) before)
+    ∙ ap (with_release release) (items_read arch (first_place number) (items_of Plain text) before)
     ∙ sym (rw (le-ltb TEXT_BYTES (length text) fits) refl)

@@ -12,6 +12,7 @@ use Rattle.rules.specs.Step.{IndexPackage}
 use Rattle.rules.specs.declared.index_place.IndexPlace.{IndexPlace}
 use Rattle.rules.specs.declared.release.Release.{Release}
 use Rattle.rules.specs.declared.limits.TheConstants.{TEXT_BYTES, PACKAGES}
+use Rattle.stanza.specs.declared.form.Form.TheVariants.{Plain}
 use Rattle.stanza.specs.declared.error.StanzaError.{StanzaError}
 use Rattle.stanza.specs.Field.{value_named}
 use Rattle.stanza.specs.Stanza.{StanzaText, items_of}
@@ -112,4 +113,4 @@ with_release release (Ok stanzas) = Ok (record { index = record { release = rele
 abbrev pub read_index : List ℕ → ℕ → Release → ℕ → List ℕ → Result ReadIndex IndexFault
 read_index arch number release before text =
     if nat_lt TEXT_BYTES (length text) then Err fault.TooLarge
-    else with_release release (stanzas_in arch (first_place number) (items_of false text) before)
+    else with_release release (stanzas_in arch (first_place number) (items_of Plain text) before)

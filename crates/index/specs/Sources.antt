@@ -1,7 +1,8 @@
 -- A sources text (this project's own): control text with comments, each stanza of which is an index.
-use Rattle.std.specs.Prelude.{ℕ, ◌+◌, ◌==◌, Bool, false, List, [], ◌∷◌, ◌++◌, length, Option, Some, None, Result, Ok, Err, codes, bytes_eq, nat_lt, if◌then◌else◌, true}
+use Rattle.std.specs.Prelude.{ℕ, ◌+◌, ◌==◌, Bool, false, List, [], ◌∷◌, ◌++◌, length, Option, Some, None, Result, Ok, Err, codes, bytes_eq, nat_lt, if◌then◌else◌}
 use Rattle.std.specs.Option.{option_map_or}
 use Rattle.rules.specs.declared.release.Release.{Release}
+use Rattle.stanza.specs.declared.form.Form.TheVariants.{Commented}
 use Rattle.stanza.specs.declared.error.StanzaError.{StanzaError}
 use Rattle.stanza.specs.Field.{FieldText, value_named}
 use Rattle.stanza.specs.Stanza.{StanzaText, items_of}
@@ -68,4 +69,4 @@ sources_in (item ∷ items) count = source_then count (read_source_item item) (s
 
 -- the indices of a sources text in order, or its first refusal
 abbrev pub read_sources : List ℕ → Result (List SourceText) SourcesFault
-read_sources text = if nat_lt TEXT_BYTES (length text) then Err TooLarge else sources_in (items_of true text) 0
+read_sources text = if nat_lt TEXT_BYTES (length text) then Err TooLarge else sources_in (items_of Commented text) 0

@@ -1,6 +1,6 @@
 -- An index whose text comes piece by piece: its stanzas are read as far as the text is, and a text that is too long is
 -- refused where that shows (that limit is this project's own).
-use Rattle.std.specs.Prelude.{◌≡◌, ℕ, ⊤, false, List, [], ◌∷◌, Option, Some, None, Result, Ok, Err, if◌then◌else◌}
+use Rattle.std.specs.Prelude.{◌≡◌, ℕ, ⊤, List, [], ◌∷◌, Option, Some, None, Result, Ok, Err, if◌then◌else◌}
 use Rattle.relation.specs.PackageStanza.{counts_for}
 use Rattle.relation.specs.PkgText.{pkg_fault, pkg_name_fault}
 use Rattle.relation.specs.PkgValues.{PkgValues, values_of}
@@ -8,6 +8,7 @@ use Rattle.relation.specs.declared.error.PkgFault.{PkgFault}
 use Rattle.rules.specs.FileRecord.{IndexStanza}
 use Rattle.rules.specs.declared.index_place.IndexPlace.{IndexPlace}
 use Rattle.rules.specs.declared.limits.TheConstants.{TEXT_BYTES}
+use Rattle.stanza.specs.declared.form.Form.TheVariants.{Plain}
 use Rattle.stanza.specs.Stanza.{StanzaText}
 use Rattle.stanza.specs.Streamed.{read_within}
 use Rattle.stanza.specs.declared.error.ReadError.{ReadError}
@@ -60,7 +61,7 @@ stanzas_read arch place (item ∷ items) count = entry_then count (read_streamed
 -- the stanzas of a text for an architecture, as the index of this number, behind so many packages of earlier indices, or the
 -- first refusal
 abbrev pub read_stream : List ℕ → ℕ → ℕ → List ℕ → Result ReadStanzas IndexFault
-read_stream arch number before text = stanzas_read arch (first_place number) (read_within false 1 TEXT_BYTES text) before
+read_stream arch number before text = stanzas_read arch (first_place number) (read_within Plain 1 TEXT_BYTES text) before
 
 -- the error of a reading by an error of its reader, and by one of its stanzas
 abbrev pub of_read_error : ReadError → StreamError

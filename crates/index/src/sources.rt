@@ -1,7 +1,8 @@
 //! Sources texts: which indices there are, and the release keys of each (this project's own format).
-ghost use Rattle.std.specs.Prelude.{◌≡◌, ◌<◌, Err, IfErr, IfOk, Ok, codes, length, true};
+ghost use Rattle.std.specs.Prelude.{◌≡◌, ◌<◌, Err, IfErr, IfOk, Ok, codes, length};
 ghost use Rattle.std.specs.Option.{option_copied};
 ghost use Rattle.rules.specs.declared.limits.TheConstants.{TEXT_BYTES};
+ghost use Rattle.stanza.specs.declared.form.Form.TheVariants.{Commented};
 ghost use Rattle.stanza.specs.Field.{value_named};
 ghost use Rattle.stanza.specs.Stanza.{items_of};
 ghost use Rattle.index.specs.Error.{IsSourcesFault};
@@ -130,8 +131,8 @@ fn read_source_item<'a>(
 
 // The indices of a text that isn't too long.
 fn sources_in<'a>(alloc: Global, text: &'a [u8]) -> Result<Vec<IndexSource<'a>>, SourcesError>
-    ensures ok { IfOk result (λ sources. Spec.sources_in (items_of true text.now) 0 ≡ Ok sources.items) }
-    ensures err { IfErr result (λ e. IsSourcesFault e (Spec.sources_in (items_of true text.now) 0)) }
+    ensures ok { IfOk result (λ sources. Spec.sources_in (items_of Commented text.now) 0 ≡ Ok sources.items) }
+    ensures err { IfErr result (λ e. IsSourcesFault e (Spec.sources_in (items_of Commented text.now) 0)) }
 {
     let mut sources = Vec::new(alloc);
     for item in Stanzas::with_comments(text) {

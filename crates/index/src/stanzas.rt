@@ -1,6 +1,7 @@
 //! The stanzas of an index's text that count, and how many don't.
 ghost use Rattle.std.specs.Prelude.{◌≡◌, ◌+◌, ◌<◌, ◌^◌, [], IfErr, IfOk, OnOk, Ok, Result, false, length, nat_le, ℕ};
 ghost use Rattle.rules.specs.declared.limits.TheConstants.{PACKAGES as MOST};
+ghost use Rattle.stanza.specs.declared.form.Form.TheVariants.{Plain};
 ghost use Rattle.stanza.specs.Stanza.{items_of};
 ghost use Rattle.index.specs.declared.error.IndexFault.{IndexFault as Fault};
 ghost use Rattle.index.specs.Error.{IsIndexFault};
@@ -78,8 +79,8 @@ pub fn stanzas_in<'a>(
     before: usize,
 ) -> Result<ReadStanzas<'a>, IndexError>
     requires { length text.now < 2 ^ 32 }
-    ensures ok { IfOk result (λ stanzas. Spec.stanzas_in arch.now (Spec.first_place number) (items_of false text.now) before ≡ Ok stanzas) }
-    ensures err { IfErr result (λ e. IsIndexFault e (Spec.stanzas_in arch.now (Spec.first_place number) (items_of false text.now) before)) }
+    ensures ok { IfOk result (λ stanzas. Spec.stanzas_in arch.now (Spec.first_place number) (items_of Plain text.now) before ≡ Ok stanzas) }
+    ensures err { IfErr result (λ e. IsIndexFault e (Spec.stanzas_in arch.now (Spec.first_place number) (items_of Plain text.now) before)) }
 {
     let mut stanzas = ReadStanzas::new(alloc);
     let mut place = IndexPlace {

@@ -3,6 +3,7 @@ use Rattle.std.proofs.Common.{◌≡◌, ℕ, Bool, true, false, List, [], Some,
 use Rattle.std.specs.Prelude.{length, nat_lt}
 use Rattle.rules.specs.Database.{HasDistinctNames, Record}
 use Rattle.rules.specs.declared.limits.TheConstants.{TEXT_BYTES}
+use Rattle.stanza.specs.declared.form.Form.TheVariants.{Plain}
 use Rattle.stanza.specs.Stanza.{items_of}
 use Rattle.status_text.specs.Slot.{FileSlot}
 use Rattle.status_text.specs.Status.{read_status, slots_in}
@@ -44,5 +45,5 @@ pub distinct_start : (texts : Texts) (start : List Record) → HasStart texts st
 distinct_start texts start is =
     let (text, read) = status-read texts is.slots is.status in
     subst HasDistinctNames (sym is.start_is)
-    (distinct_names texts.arch (items_of false text) is.slots
-    (not-long (nat_lt TEXT_BYTES (length text)) (slots_in texts.arch (items_of false text) []) is.slots read))
+    (distinct_names texts.arch (items_of Plain text) is.slots
+    (not-long (nat_lt TEXT_BYTES (length text)) (slots_in texts.arch (items_of Plain text) []) is.slots read))

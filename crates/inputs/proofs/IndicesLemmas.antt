@@ -14,6 +14,7 @@ use Rattle.rules.specs.Step.{IndexPackage}
 use Rattle.rules.specs.declared.index_place.IndexPlace.{IndexPlace}
 use Rattle.rules.specs.declared.limits.TheConstants.{PACKAGES, TEXT_BYTES}
 use Rattle.rules.specs.declared.release.Release.{Release}
+use Rattle.stanza.specs.declared.form.Form.TheVariants.{Plain}
 use Rattle.stanza.specs.Stanza.{StanzaText}
 use Rattle.stanza.specs.Streamed.{read_within}
 use Rattle.stanza.specs.declared.error.ReadError.{ReadError}
@@ -154,7 +155,7 @@ index_fits arch found number before source stanzas same within = at (found numbe
         → before + length stanzas.listed ≤ PACKAGES
     at None same = absurd (let e = same in cc)
     at (Some text) same = kept (read_stream arch number before text) same
-        (λ r is. stanzas_fit arch (first_place number) (read_within false 1 TEXT_BYTES text) before r is within)
+        (λ r is. stanzas_fit arch (first_place number) (read_within Plain 1 TEXT_BYTES text) before r is within)
 
 -- two lists of one length that each get one more have one length
 pub lengths_more : {A B : Type 0} (some more : List A) (others further : List B) (x : A) (y : B) → length some ≡ length others

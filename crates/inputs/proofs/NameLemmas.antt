@@ -23,6 +23,7 @@ use Rattle.rules.specs.Package.{Pkg}
 use Rattle.rules.specs.Step.{IndexPackage, is_named}
 use Rattle.rules.specs.declared.index_place.IndexPlace.{IndexPlace}
 use Rattle.rules.specs.declared.limits.TheConstants.{TEXT_BYTES}
+use Rattle.stanza.specs.declared.form.Form.TheVariants.{Plain}
 use Rattle.stanza.specs.Field.{FieldText}
 use Rattle.stanza.specs.Stanza.{StanzaText, items_of}
 use Rattle.stanza.specs.Streamed.{read_within}
@@ -139,10 +140,10 @@ pub status_named : (arch text : List ℕ) (slots : List FileSlot) → status.rea
     → All IsNamed (records_of (entries_of slots))
 status_named arch text slots is = at (nat_lt TEXT_BYTES (length text)) is
   where
-    at : (b : Bool) → (if b then Err Rattle.status_text.specs.declared.error.StatusFault.TheVariants.TooLarge else status.slots_in arch (items_of false text) []) ≡ Ok slots
+    at : (b : Bool) → (if b then Err Rattle.status_text.specs.declared.error.StatusFault.TheVariants.TooLarge else status.slots_in arch (items_of Plain text) []) ≡ Ok slots
         → All IsNamed (records_of (entries_of slots))
     at true is = absurd (let e = is in cc)
-    at false is = slots_named arch (items_of false text) [] slots is
+    at false is = slots_named arch (items_of Plain text) [] slots is
 
 -- Indices
 
@@ -238,7 +239,7 @@ index_named arch number before source text read is = at (read_stream arch number
         → with_fault fault.Index (with_release source.release found) ≡ Ok read → All IsListedNamed read.index.listed
     at (Err refused) was is = absurd (let e = is in cc)
     at (Ok rest) was is = subst (λ (r : ReadIndex). All IsListedNamed r.index.listed) (ok_is _ read is)
-        (stanzas_named arch (first_place number) (read_within false 1 TEXT_BYTES text) before rest was)
+        (stanzas_named arch (first_place number) (read_within Plain 1 TEXT_BYTES text) before rest was)
 
 -- Packages
 

@@ -1,7 +1,8 @@
 -- A preferences file (apt_preferences(5)): control text with comments, each stanza of which is a record.
-use Rattle.std.specs.Prelude.{ℕ, List, [], ◌∷◌, ◌++◌, length, nat_lt, true, Option, Result, Ok, Err, if◌then◌else◌}
+use Rattle.std.specs.Prelude.{ℕ, List, [], ◌∷◌, ◌++◌, length, nat_lt, Option, Result, Ok, Err, if◌then◌else◌}
 use Rattle.rules.specs.declared.limits.TheConstants.{TEXT_BYTES}
 use Rattle.rules.specs.declared.release.Preference.{Preference}
+use Rattle.stanza.specs.declared.form.Form.TheVariants.{Commented}
 use Rattle.stanza.specs.Stanza.{StanzaText, items_of}
 use Rattle.stanza.specs.declared.error.StanzaError.{StanzaError}
 use Rattle.pins.specs.Record.{read_item}
@@ -30,4 +31,4 @@ records_in (item ∷ items) = record_then (read_item item) (records_in items)
 
 -- the records of a preferences file in order, or its first refusal
 abbrev pub read_preferences : List ℕ → Result (List Preference) PrefsFault
-read_preferences text = if nat_lt TEXT_BYTES (length text) then Err fault.TooLarge else records_in (items_of true text)
+read_preferences text = if nat_lt TEXT_BYTES (length text) then Err fault.TooLarge else records_in (items_of Commented text)

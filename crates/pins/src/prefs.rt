@@ -1,8 +1,9 @@
 // What the administrator prefers.
 
-ghost use Rattle.std.specs.Prelude.{◌≡◌, ◌<◌, [], Err, IfErr, IfOk, Ok, length, true};
+ghost use Rattle.std.specs.Prelude.{◌≡◌, ◌<◌, [], Err, IfErr, IfOk, Ok, length};
 ghost use Rattle.std.specs.Option.{option_copied};
 ghost use Rattle.rules.specs.declared.limits.TheConstants.{TEXT_BYTES};
+ghost use Rattle.stanza.specs.declared.form.Form.TheVariants.{Commented};
 ghost use Rattle.stanza.specs.Stanza.{items_of};
 ghost use Rattle.pins.specs.Error.{IsPrefsFault};
 ghost use Rattle.pins.specs.Prefs.{read_preferences, records_in};
@@ -33,8 +34,8 @@ impl Model for Prefs {
 
 // The records of a text that isn't too long.
 fn records_in(alloc: Global, text: &[u8]) -> Result<Vec<Preference>, PrefsError>
-    ensures ok { IfOk result (λ records. records_in (items_of true text.now) ≡ Ok records.items) }
-    ensures err { IfErr result (λ e. IsPrefsFault e (records_in (items_of true text.now))) }
+    ensures ok { IfOk result (λ records. records_in (items_of Commented text.now) ≡ Ok records.items) }
+    ensures err { IfErr result (λ e. IsPrefsFault e (records_in (items_of Commented text.now))) }
 {
     let mut records = Vec::new(alloc);
     for item in Stanzas::with_comments(text) {

@@ -5,6 +5,7 @@ use Rattle.std.proofs.lemmas.Bool.{cases_Bool}
 use Rattle.std.proofs.lemmas.List.{append-nil}
 use Rattle.std.proofs.lemmas.List.Elements.{Contains-append_cases, Contains-push_cases}
 use Rattle.std.specs.List.{list_any, concat, slice_split, onto_first, AllByRecursion}
+use Rattle.stanza.specs.declared.form.Form.{Form}
 use Rattle.stanza.specs.declared.error.StanzaError.{StanzaError}
 use Rattle.stanza.specs.declared.error.StanzaError.TheVariants.{BadLine, BadFieldName, DuplicateField}
 use Rattle.stanza.specs.Line.{lines_of, is_separator, is_comment, is_continuation, begins_field, IsWhole}
@@ -84,12 +85,12 @@ split-parts (line ∷ lines) are = elim (cases_Bool (is_separator line)) [
 -- ---- where an item comes from
 
 -- a part without a fault, which has the stanza
-record Origin (commented : Bool) (stanza : StanzaText) : Type 0 where
+record Origin (form : Form) (stanza : StanzaText) : Type 0 where
   n : ℕ
   part : List (List ℕ)
   is_part : IsPart part
-  clean : first_fault commented [] n part ≡ None
-  is : stanza_in commented n part ≡ Some stanza
+  clean : first_fault form [] n part ≡ None
+  is : stanza_in form n part ≡ Some stanza
 
 contains-nil : (x : Result StanzaText StanzaError) → Contains {X = Result StanzaText StanzaError} [] x → ⊥
 contains-nil x has = absurd (omega (arith, has.1))
@@ -109,41 +110,41 @@ ok-same e = cc
 ok-err : {x : StanzaText} {e : StanzaError} → ◌≡◌ {A = Result StanzaText StanzaError} (Err e) (Ok x) → ⊥
 ok-err h = cc
 
-origin-before : (commented : Bool) (stanza : StanzaText) (fault : Option StanzaError) (found : Option StanzaText) (later : Items) → (Contains later (Ok stanza) → Origin commented stanza) → (fault ≡ None → found ≡ Some stanza → Origin commented stanza) → Contains (before_items fault found later) (Ok stanza) → Origin commented stanza
-origin-before commented stanza (Some fault) found later behind here has = elim (contains-cons (Err fault) [] (Ok stanza) has) [
+origin-before : (form : Form) (stanza : StanzaText) (fault : Option StanzaError) (found : Option StanzaText) (later : Items) → (Contains later (Ok stanza) → Origin form stanza) → (fault ≡ None → found ≡ Some stanza → Origin form stanza) → Contains (before_items fault found later) (Ok stanza) → Origin form stanza
+origin-before form stanza (Some fault) found later behind here has = elim (contains-cons (Err fault) [] (Ok stanza) has) [
   | inl e ↦ absurd (ok-err e)
   | inr none ↦ absurd (contains-nil (Ok stanza) none)
 ]
-origin-before commented stanza None None later behind here has = behind has
-origin-before commented stanza None (Some first) later behind here has = elim (contains-cons (Ok first) later (Ok stanza) has) [
+origin-before form stanza None None later behind here has = behind has
+origin-before form stanza None (Some first) later behind here has = elim (contains-cons (Ok first) later (Ok stanza) has) [
   | inl e ↦ here refl (ap (λ x. Some x) (ok-same e))
   | inr rest ↦ behind rest
 ]
 
-origin : (commented : Bool) (stanza : StanzaText) (n : ℕ) (parts : List (List (List ℕ))) → AllByRecursion IsPart parts → Contains (items_of_parts commented n parts) (Ok stanza) → Origin commented stanza
-origin commented stanza n [] are has = absurd (contains-nil (Ok stanza) has)
-origin commented stanza n (part ∷ parts) are has =
-    origin-before commented stanza (first_fault commented [] n part) (stanza_in commented n part) (items_of_parts commented (n + length part + 1) parts)
-    (origin commented stanza (n + length part + 1) parts are.1)
+origin : (form : Form) (stanza : StanzaText) (n : ℕ) (parts : List (List (List ℕ))) → AllByRecursion IsPart parts → Contains (items_of_parts form n parts) (Ok stanza) → Origin form stanza
+origin form stanza n [] are has = absurd (contains-nil (Ok stanza) has)
+origin form stanza n (part ∷ parts) are has =
+    origin-before form stanza (first_fault form [] n part) (stanza_in form n part) (items_of_parts form (n + length part + 1) parts)
+    (origin form stanza (n + length part + 1) parts are.1)
     (λ clean is. record { n = n; part = part; is_part = are.0; clean = clean; is = is })
     has
 
 -- ---- the lines of a stanza
 
 -- lines of a text without a separator and without a fault, of which the first and the last are no comments
-pub record Alone (commented : Bool) (stanza : StanzaText) : Type 0 where
+pub record Alone (form : Form) (stanza : StanzaText) : Type 0 where
   pub lines : List (List ℕ)
   pub are : AreLines lines
   pub inside : NoSeparators lines
-  pub clean : (m : ℕ) → first_fault commented [] m lines ≡ None
-  pub first : (m : ℕ) → stanza_in commented m lines ≡ Some (stanza_of commented m lines)
+  pub clean : (m : ℕ) → first_fault form [] m lines ≡ None
+  pub first : (m : ℕ) → stanza_in form m lines ≡ Some (stanza_of form m lines)
   pub n : ℕ
-  pub is : stanza ≡ stanza_of commented n lines
+  pub is : stanza ≡ stanza_of form n lines
 
 -- a fault does not hang on the number of the line
-fault_of-number : (commented : Bool) (before : List (List ℕ)) (n m : ℕ) (line : List ℕ) → fault_of commented before n line ≡ None → fault_of commented before m line ≡ None
-fault_of-number commented before n m line clean =
-    go (is_comment commented line) (is_continuation line) (is_open commented before) (list_any is_colon line) (is_name (name_of line)) (is_repeated commented before (name_of line)) clean where
+fault_of-number : (form : Form) (before : List (List ℕ)) (n m : ℕ) (line : List ℕ) → fault_of form before n line ≡ None → fault_of form before m line ≡ None
+fault_of-number form before n m line clean =
+    go (is_comment form line) (is_continuation line) (is_open form before) (list_any is_colon line) (is_name (name_of line)) (is_repeated form before (name_of line)) clean where
       go : (comment continues opened colon name repeated : Bool) → cond comment None (cond continues (cond opened None (Some (BadLine n))) (cond (not colon) (Some (BadLine n)) (cond (not name) (Some (BadFieldName n)) (cond repeated (Some (DuplicateField n)) None)))) ≡ None
           → cond comment None (cond continues (cond opened None (Some (BadLine m))) (cond (not colon) (Some (BadLine m)) (cond (not name) (Some (BadFieldName m)) (cond repeated (Some (DuplicateField m)) None)))) ≡ None
       go true a b d e f h = refl
@@ -161,35 +162,35 @@ or_then-none (Some fault) y h = cc
 both-none : (x y : Option StanzaError) → x ≡ None → y ≡ None → or_then x y ≡ None
 both-none x y p q = ap (λ z. or_then z y) p ∙ q
 
-first_fault-number : (commented : Bool) (before : List (List ℕ)) (n m : ℕ) (lines : List (List ℕ)) → first_fault commented before n lines ≡ None → first_fault commented before m lines ≡ None
-first_fault-number commented before n m [] clean = refl
-first_fault-number commented before n m (line ∷ lines) clean =
-    let parts = or_then-none (fault_of commented before n line) (first_fault commented (before ++ line ∷ []) (n + 1) lines) clean in
-    both-none (fault_of commented before m line) (first_fault commented (before ++ line ∷ []) (m + 1) lines)
-    (fault_of-number commented before n m line parts.0) (first_fault-number commented (before ++ line ∷ []) (n + 1) (m + 1) lines parts.1)
+first_fault-number : (form : Form) (before : List (List ℕ)) (n m : ℕ) (lines : List (List ℕ)) → first_fault form before n lines ≡ None → first_fault form before m lines ≡ None
+first_fault-number form before n m [] clean = refl
+first_fault-number form before n m (line ∷ lines) clean =
+    let parts = or_then-none (fault_of form before n line) (first_fault form (before ++ line ∷ []) (n + 1) lines) clean in
+    both-none (fault_of form before m line) (first_fault form (before ++ line ∷ []) (m + 1) lines)
+    (fault_of-number form before n m line parts.0) (first_fault-number form (before ++ line ∷ []) (n + 1) (m + 1) lines parts.1)
 
 -- the lines that are kept stand at the front
-kept-front : (commented : Bool) (lines : List (List ℕ)) → (dropped : List (List ℕ)) × (lines ≡ without_last_comments commented lines ++ dropped)
-kept-front commented [] = ([], refl)
-kept-front commented (line ∷ lines) =
-    let later = kept-front commented lines in
-    go (without_last_comments commented lines) later.0 later.1 where
-      go : (kept dropped : List (List ℕ)) → lines ≡ kept ++ dropped → (others : List (List ℕ)) × (line ∷ lines ≡ before_kept commented line kept ++ others)
-      go [] dropped e = elim (cases_Bool (is_comment commented line)) [
+kept-front : (form : Form) (lines : List (List ℕ)) → (dropped : List (List ℕ)) × (lines ≡ without_last_comments form lines ++ dropped)
+kept-front form [] = ([], refl)
+kept-front form (line ∷ lines) =
+    let later = kept-front form lines in
+    go (without_last_comments form lines) later.0 later.1 where
+      go : (kept dropped : List (List ℕ)) → lines ≡ kept ++ dropped → (others : List (List ℕ)) × (line ∷ lines ≡ before_kept form line kept ++ others)
+      go [] dropped e = elim (cases_Bool (is_comment form line)) [
         | inl h ↦ (line ∷ lines, rw h refl)
         | inr h ↦ (dropped, rw h (ap (λ x. line ∷ x) e))
       ]
       go (next ∷ kept) dropped e = (dropped, ap (λ x. line ∷ x) e)
 
-kept-again : (commented : Bool) (lines : List (List ℕ)) → without_last_comments commented (without_last_comments commented lines) ≡ without_last_comments commented lines
-kept-again commented [] = refl
-kept-again commented (line ∷ lines) = go (without_last_comments commented lines) (kept-again commented lines) where
-  go : (kept : List (List ℕ)) → without_last_comments commented kept ≡ kept → without_last_comments commented (before_kept commented line kept) ≡ before_kept commented line kept
-  go [] e = elim (cases_Bool (is_comment commented line)) [
+kept-again : (form : Form) (lines : List (List ℕ)) → without_last_comments form (without_last_comments form lines) ≡ without_last_comments form lines
+kept-again form [] = refl
+kept-again form (line ∷ lines) = go (without_last_comments form lines) (kept-again form lines) where
+  go : (kept : List (List ℕ)) → without_last_comments form kept ≡ kept → without_last_comments form (before_kept form line kept) ≡ before_kept form line kept
+  go [] e = elim (cases_Bool (is_comment form line)) [
     | inl h ↦ rw h refl
     | inr h ↦ rw h (rw h refl)
   ]
-  go (next ∷ kept) e = ap (before_kept commented line) e
+  go (next ∷ kept) e = ap (before_kept form line) e
 
 NoSeparators-front : (a b : List (List ℕ)) → NoSeparators (a ++ b) → NoSeparators a
 NoSeparators-front [] b inside = tt
@@ -204,69 +205,69 @@ AreLines-front (line ∷ next ∷ a) b are = (are.0, elim are.1 [ inl none ↦ a
   nothing e = cc
 
 -- the stanza of lines that begin with a field's, without the comments at their end
-alone-kept : (commented : Bool) (n : ℕ) (line : List ℕ) (lines : List (List ℕ)) → IsPart (line ∷ lines) → is_comment commented line ≡ false → first_fault commented [] n (line ∷ lines) ≡ None → Alone commented (stanza_of commented n (without_last_comments commented (line ∷ lines)))
+alone-kept : (form : Form) (n : ℕ) (line : List ℕ) (lines : List (List ℕ)) → IsPart (line ∷ lines) → is_comment form line ≡ false → first_fault form [] n (line ∷ lines) ≡ None → Alone form (stanza_of form n (without_last_comments form (line ∷ lines)))
 unfolding AreLines
-alone-kept commented n line lines part other clean =
-    let kept = without_last_comments commented (line ∷ lines) in
-    let front = kept-front commented (line ∷ lines) in
-    let some = kept-some commented line lines other in
-    let clean_front : first_fault commented [] n kept ≡ None =
-    (or_then-none (first_fault commented [] n kept) (first_fault commented kept (n + length kept) front.0)
-    (sym (first_fault-append commented [] n kept front.0) ∙ ap (first_fault commented [] n) (sym front.1) ∙ clean)).0 in
+alone-kept form n line lines part other clean =
+    let kept = without_last_comments form (line ∷ lines) in
+    let front = kept-front form (line ∷ lines) in
+    let some = kept-some form line lines other in
+    let clean_front : first_fault form [] n kept ≡ None =
+    (or_then-none (first_fault form [] n kept) (first_fault form kept (n + length kept) front.0)
+    (sym (first_fault-append form [] n kept front.0) ∙ ap (first_fault form [] n) (sym front.1) ∙ clean)).0 in
     record {
       lines = kept;
       are = AreLines-front kept front.0 (subst AreLines front.1 part.lines);
       inside = NoSeparators-front kept front.0 (subst NoSeparators front.1 part.inside);
-      clean = λ m. first_fault-number commented [] n m kept clean_front;
-      first = λ m. ap (stanza_in commented m) some.1 ∙ (rw other refl) ∙ ap (λ ls. Some (stanza_of commented m (without_last_comments commented ls))) (sym some.1) ∙ ap (λ ls. Some (stanza_of commented m ls)) (kept-again commented (line ∷ lines));
+      clean = λ m. first_fault-number form [] n m kept clean_front;
+      first = λ m. ap (stanza_in form m) some.1 ∙ (rw other refl) ∙ ap (λ ls. Some (stanza_of form m (without_last_comments form ls))) (sym some.1) ∙ ap (λ ls. Some (stanza_of form m ls)) (kept-again form (line ∷ lines));
       n = n;
       is = refl;
     }
 
-alone-in : (commented : Bool) (stanza : StanzaText) (n : ℕ) (part : List (List ℕ)) → IsPart part → first_fault commented [] n part ≡ None → stanza_in commented n part ≡ Some stanza → Alone commented stanza
+alone-in : (form : Form) (stanza : StanzaText) (n : ℕ) (part : List (List ℕ)) → IsPart part → first_fault form [] n part ≡ None → stanza_in form n part ≡ Some stanza → Alone form stanza
 unfolding AreLines
-alone-in commented stanza n [] part clean is = absurd (nothing is) where
+alone-in form stanza n [] part clean is = absurd (nothing is) where
   nothing : ◌≡◌ {A = Option StanzaText} None (Some stanza) → ⊥
   nothing e = cc
-alone-in commented stanza n (line ∷ lines) part clean is = elim (cases_Bool (is_comment commented line)) [
-  | inl h ↦ alone-in commented stanza (n + 1) lines (record { lines = part.lines.2; inside = part.inside.1 }) (behind h) (rw h at is)
-  | inr h ↦ subst (Alone commented) (some-same (rw h at is)) (alone-kept commented n line lines part h clean)
+alone-in form stanza n (line ∷ lines) part clean is = elim (cases_Bool (is_comment form line)) [
+  | inl h ↦ alone-in form stanza (n + 1) lines (record { lines = part.lines.2; inside = part.inside.1 }) (behind h) (rw h at is)
+  | inr h ↦ subst (Alone form) (some-same (rw h at is)) (alone-kept form n line lines part h clean)
 ] where
-  behind : is_comment commented line ≡ true → first_fault commented [] (n + 1) lines ≡ None
-  behind h = sym (first_fault-comment commented line h [] (n + 1) lines) ∙ (rw h at clean)
+  behind : is_comment form line ≡ true → first_fault form [] (n + 1) lines ≡ None
+  behind h = sym (first_fault-comment form line h [] (n + 1) lines) ∙ (rw h at clean)
 
   some-same : {x y : StanzaText} → ◌≡◌ {A = Option StanzaText} (Some x) (Some y) → x ≡ y
   some-same e = cc
 
 -- the value of a name does not hang on the number of the line
-value_named-number : (commented : Bool) (n m : ℕ) (lines : List (List ℕ)) (name : List ℕ) → value_named name (fields_of commented n lines) ≡ value_named name (fields_of commented m lines)
-value_named-number commented n m [] name = refl
-value_named-number commented n m (line ∷ lines) name = elim (cases_Bool (begins_field commented line)) [
-  | inl h ↦ rw h (ap (λ x. cond (same_name (name_of line) name) (Some (value_of line (continued lines))) x) (value_named-number commented (n + 1) (m + 1) lines name))
-  | inr h ↦ rw h (value_named-number commented (n + 1) (m + 1) lines name)
+value_named-number : (form : Form) (n m : ℕ) (lines : List (List ℕ)) (name : List ℕ) → value_named name (fields_of form n lines) ≡ value_named name (fields_of form m lines)
+value_named-number form n m [] name = refl
+value_named-number form n m (line ∷ lines) name = elim (cases_Bool (begins_field form line)) [
+  | inl h ↦ rw h (ap (λ x. cond (same_name (name_of line) name) (Some (value_of line (continued lines))) x) (value_named-number form (n + 1) (m + 1) lines name))
+  | inr h ↦ rw h (value_named-number form (n + 1) (m + 1) lines name)
 ]
 
-IsAlone-from : (commented : Bool) (stanza : StanzaText) → Alone commented stanza → IsAlone commented stanza
+IsAlone-from : (form : Form) (stanza : StanzaText) → Alone form stanza → IsAlone form stanza
 unfolding items_of
-IsAlone-from commented stanza a =
+IsAlone-from form stanza a =
     let raw : stanza.raw ≡ concat a.lines = ap (λ (s : StanzaText). s.raw) a.is in
     let lines : lines_of stanza.raw ≡ a.lines = ap lines_of raw ∙ lines_of-concat a.lines a.are in
     let line : stanza.line ≡ a.n = ap (λ (s : StanzaText). s.line) a.is in
     record {
-      itself = a.is ∙ ap (λ k. stanza_of commented k a.lines) (sym line) ∙ ap (stanza_of commented stanza.line) (sym lines);
-      alone = ap (items_of_lines commented 1) (lines ∙ sym (append-nil a.lines))
-          ∙ items-front commented 1 a.lines [] (stanza_of commented 1 a.lines) a.inside tt (a.clean 1) (a.first 1)
-          ∙ ap (λ ls. Ok (stanza_of commented 1 ls) ∷ []) (sym lines);
-      values = λ name. ap (λ ls. value_named name (fields_of commented 1 ls)) lines ∙ value_named-number commented 1 a.n a.lines name
+      itself = a.is ∙ ap (λ k. stanza_of form k a.lines) (sym line) ∙ ap (stanza_of form stanza.line) (sym lines);
+      alone = ap (items_of_lines form 1) (lines ∙ sym (append-nil a.lines))
+          ∙ items-front form 1 a.lines [] (stanza_of form 1 a.lines) a.inside tt (a.clean 1) (a.first 1)
+          ∙ ap (λ ls. Ok (stanza_of form 1 ls) ∷ []) (sym lines);
+      values = λ name. ap (λ ls. value_named name (fields_of form 1 ls)) lines ∙ value_named-number form 1 a.n a.lines name
           ∙ ap (λ (s : StanzaText). value_named name s.fields) (sym a.is);
     }
 
 -- each stanza of a text has such lines
-pub alone-from_items : (commented : Bool) (text : List ℕ) (stanza : StanzaText) → Contains (items_of commented text) (Ok stanza) → Alone commented stanza
+pub alone-from_items : (form : Form) (text : List ℕ) (stanza : StanzaText) → Contains (items_of form text) (Ok stanza) → Alone form stanza
 unfolding items_of
-alone-from_items commented text stanza has =
-    let found = origin commented stanza 1 (slice_split is_separator (lines_of text)) (split-parts (lines_of text) (AreLines-lines_of text)) has in
-    alone-in commented stanza found.n found.part found.is_part found.clean found.is
+alone-from_items form text stanza has =
+    let found = origin form stanza 1 (slice_split is_separator (lines_of text)) (split-parts (lines_of text) (AreLines-lines_of text)) has in
+    alone-in form stanza found.n found.part found.is_part found.clean found.is
 
-pub items_of-IsAlone : (commented : Bool) (text : List ℕ) (stanza : StanzaText) → Contains (items_of commented text) (Ok stanza) → IsAlone commented stanza
-items_of-IsAlone commented text stanza has = IsAlone-from commented stanza (alone-from_items commented text stanza has)
+pub items_of-IsAlone : (form : Form) (text : List ℕ) (stanza : StanzaText) → Contains (items_of form text) (Ok stanza) → IsAlone form stanza
+items_of-IsAlone form text stanza has = IsAlone-from form stanza (alone-from_items form text stanza has)

@@ -4,6 +4,7 @@ use Rattle.std.proofs.lemmas.Bool.{cases_Bool}
 use Rattle.std.proofs.lemmas.List.{append-nil, map-append}
 use Rattle.std.specs.List.{list_any, slice_split, onto_first}
 use Rattle.std.specs.Option.{option_to_list}
+use Rattle.stanza.specs.declared.form.Form.{Form}
 use Rattle.stanza.specs.declared.error.StanzaError.{StanzaError}
 use Rattle.stanza.specs.declared.error.StanzaError.TheVariants.{BadLine, BadFieldName, DuplicateField}
 use Rattle.stanza.specs.Line.{lines_of, is_separator, is_comment, is_continuation}
@@ -20,9 +21,9 @@ Items = List (Result StanzaText StanzaError)
 -- ---- parts
 
 -- the first fault of the parts
-parts_fault : Bool → ℕ → List (List (List ℕ)) → Option StanzaError
-parts_fault commented n [] = None
-parts_fault commented n (part ∷ parts) = or_then (first_fault commented [] n part) (parts_fault commented (n + length part + 1) parts)
+parts_fault : Form → ℕ → List (List (List ℕ)) → Option StanzaError
+parts_fault form n [] = None
+parts_fault form n (part ∷ parts) = or_then (first_fault form [] n part) (parts_fault form (n + length part + 1) parts)
 
 -- the fault with which items end
 fault_in : Items → Option StanzaError
@@ -40,12 +41,12 @@ fault_in-before None None later = refl
 fault_in-before None (Some stanza) later = refl
 fault_in-before (Some fault) stanza later = refl
 
-fault_in-parts : (commented : Bool) (n : ℕ) (parts : List (List (List ℕ))) → fault_in (items_of_parts commented n parts) ≡ parts_fault commented n parts
+fault_in-parts : (form : Form) (n : ℕ) (parts : List (List (List ℕ))) → fault_in (items_of_parts form n parts) ≡ parts_fault form n parts
 unfolding fault_in parts_fault
-fault_in-parts commented n [] = refl
-fault_in-parts commented n (part ∷ parts) =
-    fault_in-before (first_fault commented [] n part) (stanza_in commented n part) (items_of_parts commented (n + length part + 1) parts)
-    ∙ ap (or_then (first_fault commented [] n part)) (fault_in-parts commented (n + length part + 1) parts)
+fault_in-parts form n [] = refl
+fault_in-parts form n (part ∷ parts) =
+    fault_in-before (first_fault form [] n part) (stanza_in form n part) (items_of_parts form (n + length part + 1) parts)
+    ∙ ap (or_then (first_fault form [] n part)) (fault_in-parts form (n + length part + 1) parts)
 
 fault_in-stanzas : (stanzas : List StanzaText) (later : Items) → fault_in (map Ok stanzas ++ later) ≡ fault_in later
 unfolding fault_in
@@ -71,44 +72,44 @@ or_then-none None y h = (refl, h)
 or_then-none (Some fault) y h = cc
 
 -- the items of parts that are grouped are the stanzas
-items-from_stanzas : (commented : Bool) (n : ℕ) (parts : List (List (List ℕ))) (stanzas : List StanzaText) → AreStanzas commented n parts stanzas → items_of_parts commented n parts ≡ map Ok stanzas
-items-from_stanzas commented n [] stanzas are = sym (ap (map Ok) are)
-items-from_stanzas commented n (part ∷ parts) stanzas are =
+items-from_stanzas : (form : Form) (n : ℕ) (parts : List (List (List ℕ))) (stanzas : List StanzaText) → AreStanzas form n parts stanzas → items_of_parts form n parts ≡ map Ok stanzas
+items-from_stanzas form n [] stanzas are = sym (ap (map Ok) are)
+items-from_stanzas form n (part ∷ parts) stanzas are =
     let pieces = are.0 in
     let groups = are.1 in
     let later = are.2.0 in
-    let items = items_of_parts commented (n + length part + 1) parts in
-    let here : option_to_list (stanza_in commented n part) ≡ stanza_with commented n pieces =
-    ap (λ p. option_to_list (stanza_in commented n p)) groups.lines ∙ stanza_in-pieces commented n pieces groups.each in
-    ap (λ f. before_items f (stanza_in commented n part) items) (clean-from_Groups commented n part pieces groups)
-    ∙ before_items-none (stanza_in commented n part) items
+    let items = items_of_parts form (n + length part + 1) parts in
+    let here : option_to_list (stanza_in form n part) ≡ stanza_with form n pieces =
+    ap (λ p. option_to_list (stanza_in form n p)) groups.lines ∙ stanza_in-pieces form n pieces groups.each in
+    ap (λ f. before_items f (stanza_in form n part) items) (clean-from_Groups form n part pieces groups)
+    ∙ before_items-none (stanza_in form n part) items
     ∙ ap (λ s. map Ok s ++ items) here
-    ∙ ap (λ x. map Ok (stanza_with commented n pieces) ++ x) (items-from_stanzas commented (n + length part + 1) parts later are.2.2)
-    ∙ sym (map-append Ok (stanza_with commented n pieces) later)
+    ∙ ap (λ x. map Ok (stanza_with form n pieces) ++ x) (items-from_stanzas form (n + length part + 1) parts later are.2.2)
+    ∙ sym (map-append Ok (stanza_with form n pieces) later)
     ∙ sym (ap (map Ok) are.2.1)
 
 -- parts without a fault are grouped
-stanzas-from_clean : (commented : Bool) (n : ℕ) (parts : List (List (List ℕ))) → parts_fault commented n parts ≡ None → (stanzas : List StanzaText) × AreStanzas commented n parts stanzas
+stanzas-from_clean : (form : Form) (n : ℕ) (parts : List (List (List ℕ))) → parts_fault form n parts ≡ None → (stanzas : List StanzaText) × AreStanzas form n parts stanzas
 unfolding parts_fault
-stanzas-from_clean commented n [] clean = ([], refl)
-stanzas-from_clean commented n (part ∷ parts) clean =
-    let both = or_then-none (first_fault commented [] n part) (parts_fault commented (n + length part + 1) parts) clean in
-    let groups = Groups-from_clean commented n part both.0 in
-    let later = stanzas-from_clean commented (n + length part + 1) parts both.1 in
-    (stanza_with commented n groups.0 ++ later.0, (groups.0, groups.1, (later.0, refl, later.1)))
+stanzas-from_clean form n [] clean = ([], refl)
+stanzas-from_clean form n (part ∷ parts) clean =
+    let both = or_then-none (first_fault form [] n part) (parts_fault form (n + length part + 1) parts) clean in
+    let groups = Groups-from_clean form n part both.0 in
+    let later = stanzas-from_clean form (n + length part + 1) parts both.1 in
+    (stanza_with form n groups.0 ++ later.0, (groups.0, groups.1, (later.0, refl, later.1)))
 
-clean-from_stanzas : (commented : Bool) (n : ℕ) (parts : List (List (List ℕ))) (stanzas : List StanzaText) → AreStanzas commented n parts stanzas → parts_fault commented n parts ≡ None
+clean-from_stanzas : (form : Form) (n : ℕ) (parts : List (List (List ℕ))) (stanzas : List StanzaText) → AreStanzas form n parts stanzas → parts_fault form n parts ≡ None
 unfolding fault_in
-clean-from_stanzas commented n parts stanzas are =
-    sym (fault_in-parts commented n parts) ∙ ap fault_in (items-from_stanzas commented n parts stanzas are ∙ sym (append-nil (map Ok stanzas))) ∙ fault_in-stanzas stanzas []
+clean-from_stanzas form n parts stanzas are =
+    sym (fault_in-parts form n parts) ∙ ap fault_in (items-from_stanzas form n parts stanzas are ∙ sym (append-nil (map Ok stanzas))) ∙ fault_in-stanzas stanzas []
 
-stanzas-from_items : (commented : Bool) (n : ℕ) (parts : List (List (List ℕ))) (stanzas : List StanzaText) → items_of_parts commented n parts ≡ map Ok stanzas → AreStanzas commented n parts stanzas
+stanzas-from_items : (form : Form) (n : ℕ) (parts : List (List (List ℕ))) (stanzas : List StanzaText) → items_of_parts form n parts ≡ map Ok stanzas → AreStanzas form n parts stanzas
 unfolding fault_in
-stanzas-from_items commented n parts stanzas is =
-    let clean : parts_fault commented n parts ≡ None =
-    sym (fault_in-parts commented n parts) ∙ ap fault_in (is ∙ sym (append-nil (map Ok stanzas))) ∙ fault_in-stanzas stanzas [] in
-    let found = stanzas-from_clean commented n parts clean in
-    subst (AreStanzas commented n parts) (map_Ok-same found.0 stanzas (sym (items-from_stanzas commented n parts found.0 found.1) ∙ is)) found.1
+stanzas-from_items form n parts stanzas is =
+    let clean : parts_fault form n parts ≡ None =
+    sym (fault_in-parts form n parts) ∙ ap fault_in (is ∙ sym (append-nil (map Ok stanzas))) ∙ fault_in-stanzas stanzas [] in
+    let found = stanzas-from_clean form n parts clean in
+    subst (AreStanzas form n parts) (map_Ok-same found.0 stanzas (sym (items-from_stanzas form n parts found.0 found.1) ∙ is)) found.1
 
 -- ---- the fault at the end
 
@@ -124,25 +125,25 @@ ends-before (Some x) stanza later rest fault ends h = ([], ap (λ e. Err e ∷ [
 ends-before None None later rest fault ends h = ends h
 ends-before None (Some stanza) later rest fault ends h = let found = ends h in (stanza ∷ found.0, ap (λ x. Ok stanza ∷ x) found.1)
 
-ends-from_fault : (commented : Bool) (n : ℕ) (parts : List (List (List ℕ))) (fault : StanzaError) → parts_fault commented n parts ≡ Some fault → EndsWith (items_of_parts commented n parts) fault
+ends-from_fault : (form : Form) (n : ℕ) (parts : List (List (List ℕ))) (fault : StanzaError) → parts_fault form n parts ≡ Some fault → EndsWith (items_of_parts form n parts) fault
 unfolding parts_fault
-ends-from_fault commented n [] fault h = cc
-ends-from_fault commented n (part ∷ parts) fault h =
-    ends-before (first_fault commented [] n part) (stanza_in commented n part) (items_of_parts commented (n + length part + 1) parts) (parts_fault commented (n + length part + 1) parts) fault
-    (ends-from_fault commented (n + length part + 1) parts fault) h
+ends-from_fault form n [] fault h = cc
+ends-from_fault form n (part ∷ parts) fault h =
+    ends-before (first_fault form [] n part) (stanza_in form n part) (items_of_parts form (n + length part + 1) parts) (parts_fault form (n + length part + 1) parts) fault
+    (ends-from_fault form (n + length part + 1) parts fault) h
 
-fault-from_ends : (commented : Bool) (n : ℕ) (parts : List (List (List ℕ))) (fault : StanzaError) → EndsWith (items_of_parts commented n parts) fault → parts_fault commented n parts ≡ Some fault
+fault-from_ends : (form : Form) (n : ℕ) (parts : List (List (List ℕ))) (fault : StanzaError) → EndsWith (items_of_parts form n parts) fault → parts_fault form n parts ≡ Some fault
 unfolding EndsWith fault_in
-fault-from_ends commented n parts fault ends =
-    sym (fault_in-parts commented n parts) ∙ ap fault_in ends.1 ∙ fault_in-stanzas ends.0 (Err fault ∷ [])
+fault-from_ends form n parts fault ends =
+    sym (fault_in-parts form n parts) ∙ ap fault_in ends.1 ∙ fault_in-stanzas ends.0 (Err fault ∷ [])
 
 -- ---- lines
 
 -- the first fault of lines, of which the first stands after these in its part
-lines_fault : Bool → List (List ℕ) → ℕ → List (List ℕ) → Option StanzaError
-lines_fault commented before n [] = None
-lines_fault commented before n (line ∷ lines) =
-    cond (is_separator line) (lines_fault commented [] (n + 1) lines) (or_then (fault_of commented before n line) (lines_fault commented (before ++ line ∷ []) (n + 1) lines))
+lines_fault : Form → List (List ℕ) → ℕ → List (List ℕ) → Option StanzaError
+lines_fault form before n [] = None
+lines_fault form before n (line ∷ lines) =
+    cond (is_separator line) (lines_fault form [] (n + 1) lines) (or_then (fault_of form before n line) (lines_fault form (before ++ line ∷ []) (n + 1) lines))
 
 -- the lines of the last part
 last_part : List (List ℕ) → List (List ℕ) → List (List ℕ)
@@ -154,58 +155,58 @@ or_then-assoc None y z = refl
 or_then-assoc (Some x) y z = refl
 
 -- the first fault of parts, where the first goes on behind these lines
-split_fault : Bool → List (List ℕ) → ℕ → List (List (List ℕ)) → Option StanzaError
-split_fault commented before n [] = None
-split_fault commented before n (part ∷ parts) = or_then (first_fault commented before n part) (parts_fault commented (n + length part + 1) parts)
+split_fault : Form → List (List ℕ) → ℕ → List (List (List ℕ)) → Option StanzaError
+split_fault form before n [] = None
+split_fault form before n (part ∷ parts) = or_then (first_fault form before n part) (parts_fault form (n + length part + 1) parts)
 
-split_fault-parts : (commented : Bool) (n : ℕ) (parts : List (List (List ℕ))) → split_fault commented [] n parts ≡ parts_fault commented n parts
+split_fault-parts : (form : Form) (n : ℕ) (parts : List (List (List ℕ))) → split_fault form [] n parts ≡ parts_fault form n parts
 unfolding split_fault parts_fault
-split_fault-parts commented n [] = refl
-split_fault-parts commented n (part ∷ parts) = refl
+split_fault-parts form n [] = refl
+split_fault-parts form n (part ∷ parts) = refl
 
 -- a fault in the lines is one in the parts
-lines_fault-split : (commented : Bool) (before : List (List ℕ)) (n : ℕ) (lines : List (List ℕ)) → lines_fault commented before n lines ≡ split_fault commented before n (slice_split is_separator lines)
+lines_fault-split : (form : Form) (before : List (List ℕ)) (n : ℕ) (lines : List (List ℕ)) → lines_fault form before n lines ≡ split_fault form before n (slice_split is_separator lines)
 unfolding lines_fault split_fault parts_fault
-lines_fault-split commented before n [] = refl
-lines_fault-split commented before n (line ∷ lines) = elim (cases_Bool (is_separator line)) [
-  | inl h ↦ rw (h, add-zero) (lines_fault-split commented [] (n + 1) lines ∙ split_fault-parts commented (n + 1) (slice_split is_separator lines))
+lines_fault-split form before n [] = refl
+lines_fault-split form before n (line ∷ lines) = elim (cases_Bool (is_separator line)) [
+  | inl h ↦ rw (h, add-zero) (lines_fault-split form [] (n + 1) lines ∙ split_fault-parts form (n + 1) (slice_split is_separator lines))
   | inr h ↦
       let later = split-some lines in
       let next = before ++ line ∷ [] in
       let count : n + 1 + length later.0 + 1 ≡ n + suc (length later.0) + 1 = omega arith in
-      let first = first_fault commented next (n + 1) later.0 in
+      let first = first_fault form next (n + 1) later.0 in
       rw (h, later.2)
-      (ap (or_then (fault_of commented before n line)) (lines_fault-split commented next (n + 1) lines ∙ ap (split_fault commented next (n + 1)) later.2)
-      ∙ sym (or_then-assoc (fault_of commented before n line) first (parts_fault commented (n + 1 + length later.0 + 1) later.1))
-      ∙ ap (λ k. or_then (or_then (fault_of commented before n line) first) (parts_fault commented k later.1)) count)
+      (ap (or_then (fault_of form before n line)) (lines_fault-split form next (n + 1) lines ∙ ap (split_fault form next (n + 1)) later.2)
+      ∙ sym (or_then-assoc (fault_of form before n line) first (parts_fault form (n + 1 + length later.0 + 1) later.1))
+      ∙ ap (λ k. or_then (or_then (fault_of form before n line) first) (parts_fault form k later.1)) count)
 ]
 
-lines_fault-parts : (commented : Bool) (n : ℕ) (lines : List (List ℕ)) → lines_fault commented [] n lines ≡ parts_fault commented n (slice_split is_separator lines)
-lines_fault-parts commented n lines = lines_fault-split commented [] n lines ∙ split_fault-parts commented n (slice_split is_separator lines)
+lines_fault-parts : (form : Form) (n : ℕ) (lines : List (List ℕ)) → lines_fault form [] n lines ≡ parts_fault form n (slice_split is_separator lines)
+lines_fault-parts form n lines = lines_fault-split form [] n lines ∙ split_fault-parts form n (slice_split is_separator lines)
 
-lines_fault-append : (commented : Bool) (before : List (List ℕ)) (n : ℕ) (a b : List (List ℕ)) → lines_fault commented before n (a ++ b) ≡ or_then (lines_fault commented before n a) (lines_fault commented (last_part before a) (n + length a) b)
+lines_fault-append : (form : Form) (before : List (List ℕ)) (n : ℕ) (a b : List (List ℕ)) → lines_fault form before n (a ++ b) ≡ or_then (lines_fault form before n a) (lines_fault form (last_part before a) (n + length a) b)
 unfolding lines_fault last_part
-lines_fault-append commented before n [] b = rw add-zero refl
-lines_fault-append commented before n (line ∷ a) b =
+lines_fault-append form before n [] b = rw add-zero refl
+lines_fault-append form before n (line ∷ a) b =
     let count : n + 1 + length a ≡ n + suc (length a) = omega arith in
     elim (cases_Bool (is_separator line)) [
-      | inl h ↦ rw h (lines_fault-append commented [] (n + 1) a b ∙ ap (λ k. or_then (lines_fault commented [] (n + 1) a) (lines_fault commented (last_part [] a) k b)) count)
+      | inl h ↦ rw h (lines_fault-append form [] (n + 1) a b ∙ ap (λ k. or_then (lines_fault form [] (n + 1) a) (lines_fault form (last_part [] a) k b)) count)
       | inr h ↦
           let next = before ++ line ∷ [] in
-          rw h (ap (or_then (fault_of commented before n line)) (lines_fault-append commented next (n + 1) a b
-          ∙ ap (λ k. or_then (lines_fault commented next (n + 1) a) (lines_fault commented (last_part next a) k b)) count)
-          ∙ sym (or_then-assoc (fault_of commented before n line) (lines_fault commented next (n + 1) a) (lines_fault commented (last_part next a) (n + suc (length a)) b)))
+          rw h (ap (or_then (fault_of form before n line)) (lines_fault-append form next (n + 1) a b
+          ∙ ap (λ k. or_then (lines_fault form next (n + 1) a) (lines_fault form (last_part next a) k b)) count)
+          ∙ sym (or_then-assoc (fault_of form before n line) (lines_fault form next (n + 1) a) (lines_fault form (last_part next a) (n + suc (length a)) b)))
     ]
 
 -- the line of the first fault, and what stands before it
-record Faulty (commented : Bool) (before : List (List ℕ)) (n : ℕ) (lines : List (List ℕ)) (fault : StanzaError) : Type 0 where
+record Faulty (form : Form) (before : List (List ℕ)) (n : ℕ) (lines : List (List ℕ)) (fault : StanzaError) : Type 0 where
   front : List (List ℕ)
   line : List ℕ
   after : List (List ℕ)
   joined : lines ≡ front ++ line ∷ after
-  clean : lines_fault commented before n front ≡ None
+  clean : lines_fault form before n front ≡ None
   inside : is_separator line ≡ false
-  here : fault_of commented (last_part before front) (n + length front) line ≡ Some fault
+  here : fault_of form (last_part before front) (n + length front) line ≡ Some fault
 
 different : {fault : StanzaError} → ◌≡◌ {A = Option StanzaError} None (Some fault) → ⊥
 different e = cc
@@ -215,15 +216,15 @@ cons-joined : (first : List ℕ) (lines front : List (List ℕ)) (line : List �
 cons-joined first lines front line after e = ap (λ x. first ∷ x) e
 
 -- the fault of a line at another spelling of its number
-fault-at : (commented : Bool) (before : List (List ℕ)) (m n : ℕ) (line : List ℕ) (fault : StanzaError) → m ≡ n → fault_of commented before m line ≡ Some fault → fault_of commented before n line ≡ Some fault
-fault-at commented before m n line fault same is = subst (λ k. fault_of commented before k line ≡ Some fault) same is
+fault-at : (form : Form) (before : List (List ℕ)) (m n : ℕ) (line : List ℕ) (fault : StanzaError) → m ≡ n → fault_of form before m line ≡ Some fault → fault_of form before n line ≡ Some fault
+fault-at form before m n line fault same is = subst (λ k. fault_of form before k line ≡ Some fault) same is
 
-Later : Bool → ℕ → List (List ℕ) → StanzaError → Type 0
-Later commented n lines fault = (before : List (List ℕ)) → lines_fault commented before n lines ≡ Some fault → Faulty commented before n lines fault
+Later : Form → ℕ → List (List ℕ) → StanzaError → Type 0
+Later form n lines fault = (before : List (List ℕ)) → lines_fault form before n lines ≡ Some fault → Faulty form before n lines fault
 
-faulty-behind : (commented : Bool) (before : List (List ℕ)) (n : ℕ) (line : List ℕ) (lines : List (List ℕ)) (fault : StanzaError) → Later commented (n + 1) lines fault → is_separator line ≡ true → lines_fault commented before n (line ∷ lines) ≡ Some fault → Faulty commented before n (line ∷ lines) fault
+faulty-behind : (form : Form) (before : List (List ℕ)) (n : ℕ) (line : List ℕ) (lines : List (List ℕ)) (fault : StanzaError) → Later form (n + 1) lines fault → is_separator line ≡ true → lines_fault form before n (line ∷ lines) ≡ Some fault → Faulty form before n (line ∷ lines) fault
 unfolding lines_fault last_part Later
-faulty-behind commented before n line lines fault recur separator h =
+faulty-behind form before n line lines fault recur separator h =
     let later = recur [] (rw separator at h) in
     let count : n + 1 + length later.front ≡ n + suc (length later.front) = omega arith in
     record {
@@ -233,14 +234,14 @@ faulty-behind commented before n line lines fault recur separator h =
       joined = cons-joined line lines later.front later.line later.after later.joined;
       clean = rw separator later.clean;
       inside = later.inside;
-      here = rw separator (fault-at commented (last_part [] later.front) (n + 1 + length later.front) (n + suc (length later.front)) later.line fault count later.here);
+      here = rw separator (fault-at form (last_part [] later.front) (n + 1 + length later.front) (n + suc (length later.front)) later.line fault count later.here);
     }
 
-faulty-inside : (commented : Bool) (before : List (List ℕ)) (n : ℕ) (line : List ℕ) (lines : List (List ℕ)) (fault : StanzaError) → Later commented (n + 1) lines fault → is_separator line ≡ false → (first : Option StanzaError) → fault_of commented before n line ≡ first → lines_fault commented before n (line ∷ lines) ≡ Some fault → Faulty commented before n (line ∷ lines) fault
+faulty-inside : (form : Form) (before : List (List ℕ)) (n : ℕ) (line : List ℕ) (lines : List (List ℕ)) (fault : StanzaError) → Later form (n + 1) lines fault → is_separator line ≡ false → (first : Option StanzaError) → fault_of form before n line ≡ first → lines_fault form before n (line ∷ lines) ≡ Some fault → Faulty form before n (line ∷ lines) fault
 unfolding lines_fault last_part Later
-faulty-inside commented before n line lines fault recur other None is h =
+faulty-inside form before n line lines fault recur other None is h =
     let next = before ++ line ∷ [] in
-    let rest : lines_fault commented next (n + 1) lines ≡ Some fault = ap (λ f. or_then f (lines_fault commented next (n + 1) lines)) (sym is) ∙ (rw other at h) in
+    let rest : lines_fault form next (n + 1) lines ≡ Some fault = ap (λ f. or_then f (lines_fault form next (n + 1) lines)) (sym is) ∙ (rw other at h) in
     let later = recur next rest in
     let count : n + 1 + length later.front ≡ n + suc (length later.front) = omega arith in
     record {
@@ -248,12 +249,12 @@ faulty-inside commented before n line lines fault recur other None is h =
       line = later.line;
       after = later.after;
       joined = cons-joined line lines later.front later.line later.after later.joined;
-      clean = rw other (ap (λ f. or_then f (lines_fault commented next (n + 1) later.front)) is ∙ later.clean);
+      clean = rw other (ap (λ f. or_then f (lines_fault form next (n + 1) later.front)) is ∙ later.clean);
       inside = later.inside;
-      here = rw other (fault-at commented (last_part next later.front) (n + 1 + length later.front) (n + suc (length later.front)) later.line fault count later.here);
+      here = rw other (fault-at form (last_part next later.front) (n + 1 + length later.front) (n + suc (length later.front)) later.line fault count later.here);
     }
-faulty-inside commented before n line lines fault recur other (Some first) is h =
-    let same : ◌≡◌ {A = Option StanzaError} (Some first) (Some fault) = ap (λ f. or_then f (lines_fault commented (before ++ line ∷ []) (n + 1) lines)) (sym is) ∙ (rw other at h) in
+faulty-inside form before n line lines fault recur other (Some first) is h =
+    let same : ◌≡◌ {A = Option StanzaError} (Some first) (Some fault) = ap (λ f. or_then f (lines_fault form (before ++ line ∷ []) (n + 1) lines)) (sym is) ∙ (rw other at h) in
     record {
       front = [];
       line = line;
@@ -261,23 +262,23 @@ faulty-inside commented before n line lines fault recur other (Some first) is h 
       joined = refl;
       clean = refl;
       inside = other;
-      here = fault-at commented before n (n + 0) line fault (sym (add-zero n)) (is ∙ same);
+      here = fault-at form before n (n + 0) line fault (sym (add-zero n)) (is ∙ same);
     }
 
-faulty : (commented : Bool) (before : List (List ℕ)) (n : ℕ) (lines : List (List ℕ)) (fault : StanzaError) → lines_fault commented before n lines ≡ Some fault → Faulty commented before n lines fault
+faulty : (form : Form) (before : List (List ℕ)) (n : ℕ) (lines : List (List ℕ)) (fault : StanzaError) → lines_fault form before n lines ≡ Some fault → Faulty form before n lines fault
 unfolding lines_fault Later
-faulty commented before n [] fault h = absurd (different h)
-faulty commented before n (line ∷ lines) fault h =
-    let recur = λ (b : List (List ℕ)) (k : lines_fault commented b (n + 1) lines ≡ Some fault). faulty commented b (n + 1) lines fault k in
+faulty form before n [] fault h = absurd (different h)
+faulty form before n (line ∷ lines) fault h =
+    let recur = λ (b : List (List ℕ)) (k : lines_fault form b (n + 1) lines ≡ Some fault). faulty form b (n + 1) lines fault k in
     elim (cases_Bool (is_separator line)) [
-      | inl separator ↦ faulty-behind commented before n line lines fault recur separator h
-      | inr other ↦ faulty-inside commented before n line lines fault recur other (fault_of commented before n line) refl h
+      | inl separator ↦ faulty-behind form before n line lines fault recur separator h
+      | inr other ↦ faulty-inside form before n line lines fault recur other (fault_of form before n line) refl h
     ]
 
 -- a line's fault is the first test that it fails
-fault-reason : (commented : Bool) (before : List (List ℕ)) (n : ℕ) (line : List ℕ) (fault : StanzaError) → fault_of commented before n line ≡ Some fault → fault ≡ reason_of n line
-fault-reason commented before n line fault is =
-    go (is_comment commented line) (is_continuation line) (is_open commented before) (list_any is_colon line) (is_name (name_of line)) (is_repeated commented before (name_of line)) is where
+fault-reason : (form : Form) (before : List (List ℕ)) (n : ℕ) (line : List ℕ) (fault : StanzaError) → fault_of form before n line ≡ Some fault → fault ≡ reason_of n line
+fault-reason form before n line fault is =
+    go (is_comment form line) (is_continuation line) (is_open form before) (list_any is_colon line) (is_name (name_of line)) (is_repeated form before (name_of line)) is where
       go : (comment continues opened colon name repeated : Bool) → cond comment None (cond continues (cond opened None (Some (BadLine n))) (cond (not colon) (Some (BadLine n)) (cond (not name) (Some (BadFieldName n)) (cond repeated (Some (DuplicateField n)) None)))) ≡ Some fault
           → fault ≡ cond (continues || not colon) (BadLine n) (cond (not name) (BadFieldName n) (DuplicateField n))
       go true a b d e f h = cc
@@ -290,52 +291,52 @@ fault-reason commented before n line fault is =
 
 -- ---- the statement
 
-grouped-clean : (commented : Bool) (lines : List (List ℕ)) (stanzas : List StanzaText) → AreGrouped commented lines stanzas → lines_fault commented [] 1 lines ≡ None
-grouped-clean commented lines stanzas are = lines_fault-parts commented 1 lines ∙ clean-from_stanzas commented 1 (slice_split is_separator lines) stanzas are
+grouped-clean : (form : Form) (lines : List (List ℕ)) (stanzas : List StanzaText) → AreGrouped form lines stanzas → lines_fault form [] 1 lines ≡ None
+grouped-clean form lines stanzas are = lines_fault-parts form 1 lines ∙ clean-from_stanzas form 1 (slice_split is_separator lines) stanzas are
 
-clean-grouped : (commented : Bool) (lines : List (List ℕ)) → lines_fault commented [] 1 lines ≡ None → (stanzas : List StanzaText) × AreGrouped commented lines stanzas
-clean-grouped commented lines clean = stanzas-from_clean commented 1 (slice_split is_separator lines) (sym (lines_fault-parts commented 1 lines) ∙ clean)
+clean-grouped : (form : Form) (lines : List (List ℕ)) → lines_fault form [] 1 lines ≡ None → (stanzas : List StanzaText) × AreGrouped form lines stanzas
+clean-grouped form lines clean = stanzas-from_clean form 1 (slice_split is_separator lines) (sym (lines_fault-parts form 1 lines) ∙ clean)
 
 -- lines with one more have its fault, where they have none
-one_more : (commented : Bool) (front : List (List ℕ)) (line : List ℕ) → lines_fault commented [] 1 front ≡ None → lines_fault commented [] 1 (front ++ line ∷ []) ≡ cond (is_separator line) None (or_then (fault_of commented (last_part [] front) (1 + length front) line) None)
+one_more : (form : Form) (front : List (List ℕ)) (line : List ℕ) → lines_fault form [] 1 front ≡ None → lines_fault form [] 1 (front ++ line ∷ []) ≡ cond (is_separator line) None (or_then (fault_of form (last_part [] front) (1 + length front) line) None)
 unfolding lines_fault
-one_more commented front line clean =
-    lines_fault-append commented [] 1 front (line ∷ []) ∙ ap (λ f. or_then f (lines_fault commented (last_part [] front) (1 + length front) (line ∷ []))) clean
+one_more form front line clean =
+    lines_fault-append form [] 1 front (line ∷ []) ∙ ap (λ f. or_then f (lines_fault form (last_part [] front) (1 + length front) (line ∷ []))) clean
 
-bad-from_fault : (commented : Bool) (text : List ℕ) (fault : StanzaError) → lines_fault commented [] 1 (lines_of text) ≡ Some fault → IsBad commented text fault
-bad-from_fault commented text fault h =
-    let found = faulty commented [] 1 (lines_of text) fault h in
+bad-from_fault : (form : Form) (text : List ℕ) (fault : StanzaError) → lines_fault form [] 1 (lines_of text) ≡ Some fault → IsBad form text fault
+bad-from_fault form text fault h =
+    let found = faulty form [] 1 (lines_of text) fault h in
     let count : 1 + length found.front ≡ length found.front + 1 = omega arith in
-    let more : lines_fault commented [] 1 (found.front ++ found.line ∷ []) ≡ Some fault =
-    one_more commented found.front found.line found.clean
-    ∙ ap (λ s. cond s None (or_then (fault_of commented (last_part [] found.front) (1 + length found.front) found.line) None)) found.inside
+    let more : lines_fault form [] 1 (found.front ++ found.line ∷ []) ≡ Some fault =
+    one_more form found.front found.line found.clean
+    ∙ ap (λ s. cond s None (or_then (fault_of form (last_part [] found.front) (1 + length found.front) found.line) None)) found.inside
     ∙ ap (λ f. or_then f None) found.here in
     record {
       before = found.front;
       line = found.line;
       after = found.after;
       lines = found.joined;
-      allowed = clean-grouped commented found.front found.clean;
-      refused = λ stanzas are. different (sym (grouped-clean commented (found.front ++ found.line ∷ []) stanzas are) ∙ more);
-      reason = fault-reason commented (last_part [] found.front) (1 + length found.front) found.line fault found.here ∙ ap (λ k. reason_of k found.line) count;
+      allowed = clean-grouped form found.front found.clean;
+      refused = λ stanzas are. different (sym (grouped-clean form (found.front ++ found.line ∷ []) stanzas are) ∙ more);
+      reason = fault-reason form (last_part [] found.front) (1 + length found.front) found.line fault found.here ∙ ap (λ k. reason_of k found.line) count;
     }
 
-fault-from_bad : (commented : Bool) (text : List ℕ) (fault : StanzaError) → IsBad commented text fault → lines_fault commented [] 1 (lines_of text) ≡ Some fault
-fault-from_bad commented text fault bad =
-    let clean = grouped-clean commented bad.before bad.allowed.0 bad.allowed.1 in
+fault-from_bad : (form : Form) (text : List ℕ) (fault : StanzaError) → IsBad form text fault → lines_fault form [] 1 (lines_of text) ≡ Some fault
+fault-from_bad form text fault bad =
+    let clean = grouped-clean form bad.before bad.allowed.0 bad.allowed.1 in
     let n = 1 + length bad.before in
     let number : n ≡ length bad.before + 1 = omega arith in
-    let here = fault_of commented (last_part [] bad.before) n bad.line in
-    let more = one_more commented bad.before bad.line clean in
+    let here = fault_of form (last_part [] bad.before) n bad.line in
+    let more = one_more form bad.before bad.line clean in
     let joined : lines_of text ≡ (bad.before ++ bad.line ∷ []) ++ bad.after = bad.lines ∙ sym (append_assoc bad.before (bad.line ∷ []) bad.after) in
     let known : (x : StanzaError) → here ≡ Some x → x ≡ fault =
-    λ x is. fault-reason commented (last_part [] bad.before) n bad.line x is ∙ ap (λ k. reason_of k bad.line) number ∙ sym bad.reason in
-    let first : lines_fault commented [] 1 (bad.before ++ bad.line ∷ []) ≡ Some fault =
-    go (lines_fault commented [] 1 (bad.before ++ bad.line ∷ [])) (is_separator bad.line) here refl more known
-    (λ none. let found = clean-grouped commented (bad.before ++ bad.line ∷ []) none in bad.refused found.0 found.1) in
-    ap (lines_fault commented [] 1) joined
-    ∙ lines_fault-append commented [] 1 (bad.before ++ bad.line ∷ []) bad.after
-    ∙ ap (λ f. or_then f (lines_fault commented (last_part [] (bad.before ++ bad.line ∷ [])) (1 + length (bad.before ++ bad.line ∷ [])) bad.after)) first where
+    λ x is. fault-reason form (last_part [] bad.before) n bad.line x is ∙ ap (λ k. reason_of k bad.line) number ∙ sym bad.reason in
+    let first : lines_fault form [] 1 (bad.before ++ bad.line ∷ []) ≡ Some fault =
+    go (lines_fault form [] 1 (bad.before ++ bad.line ∷ [])) (is_separator bad.line) here refl more known
+    (λ none. let found = clean-grouped form (bad.before ++ bad.line ∷ []) none in bad.refused found.0 found.1) in
+    ap (lines_fault form [] 1) joined
+    ∙ lines_fault-append form [] 1 (bad.before ++ bad.line ∷ []) bad.after
+    ∙ ap (λ f. or_then f (lines_fault form (last_part [] (bad.before ++ bad.line ∷ [])) (1 + length (bad.before ++ bad.line ∷ [])) bad.after)) first where
       go : (all : Option StanzaError) (separator : Bool) (here : Option StanzaError) → here ≡ here → all ≡ cond separator None (or_then here None) → ((x : StanzaError) → here ≡ Some x → x ≡ fault) → (all ≡ None → ⊥) → all ≡ Some fault
       go all true here _ is known some = absurd (some is)
       go all false None _ is known some = absurd (some is)
@@ -365,12 +366,12 @@ length-before None None later = omega arith
 length-before None (Some stanza) later = omega arith
 length-before (Some fault) stanza later = omega arith
 
-length-items : (commented : Bool) (n : ℕ) (parts : List (List (List ℕ))) → length (items_of_parts commented n parts) ≤ total parts
+length-items : (form : Form) (n : ℕ) (parts : List (List (List ℕ))) → length (items_of_parts form n parts) ≤ total parts
 unfolding total
-length-items commented n [] = omega arith
-length-items commented n ([] ∷ parts) = omega (arith, length-items commented (n + 0 + 1) parts)
-length-items commented n ((line ∷ part) ∷ parts) =
-    omega (arith, length-items commented (n + suc (length part) + 1) parts, length-before (first_fault commented [] n (line ∷ part)) (stanza_in commented n (line ∷ part)) (items_of_parts commented (n + suc (length part) + 1) parts))
+length-items form n [] = omega arith
+length-items form n ([] ∷ parts) = omega (arith, length-items form (n + 0 + 1) parts)
+length-items form n ((line ∷ part) ∷ parts) =
+    omega (arith, length-items form (n + suc (length part) + 1) parts, length-before (first_fault form [] n (line ∷ part)) (stanza_in form n (line ∷ part)) (items_of_parts form (n + suc (length part) + 1) parts))
 
 length-onto : (b : ℕ) (lines : List (List ℕ)) → length (onto_first b lines) ≤ suc (length lines)
 length-onto b [] = omega arith
@@ -385,16 +386,16 @@ length-lines_of (b ∷ bs) = elim (cases_Bool (eqb b 10)) [
 
 -- ---- all together
 
-pub items_of-IsReading : (commented : Bool) (text : List ℕ) → IsReading commented text (items_of commented text)
+pub items_of-IsReading : (form : Form) (text : List ℕ) → IsReading form text (items_of form text)
 unfolding EndsWith items_of
-items_of-IsReading commented text =
+items_of-IsReading form text =
     let lines = lines_of text in
     let parts = slice_split is_separator lines in
     record {
-      file = λ stanzas. (stanzas-from_items commented 1 parts stanzas, items-from_stanzas commented 1 parts stanzas);
+      file = λ stanzas. (stanzas-from_items form 1 parts stanzas, items-from_stanzas form 1 parts stanzas);
       fault = λ fault. (
-        λ ends. bad-from_fault commented text fault (lines_fault-parts commented 1 lines ∙ fault-from_ends commented 1 parts fault ends),
-        λ bad. ends-from_fault commented 1 parts fault (sym (lines_fault-parts commented 1 lines) ∙ fault-from_bad commented text fault bad),
+        λ ends. bad-from_fault form text fault (lines_fault-parts form 1 lines ∙ fault-from_ends form 1 parts fault ends),
+        λ bad. ends-from_fault form 1 parts fault (sym (lines_fault-parts form 1 lines) ∙ fault-from_bad form text fault bad),
       );
-      count = omega (arith, length-items commented 1 parts, total-split lines, length-lines_of text);
+      count = omega (arith, length-items form 1 parts, total-split lines, length-lines_of text);
     }

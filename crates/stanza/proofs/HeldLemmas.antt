@@ -1,8 +1,9 @@
 -- Bytes that are held while a text is read: more of them, and stanzas cut out of them.
-use Rattle.std.proofs.Common.{◌≡◌, ℕ, ◌+◌, ◌-◌, ◌<◌, ◌≤◌, Bool, true, false, List, [], ◌∷◌, ◌++◌, length, take, drop, refl, sym, ap, subst, ◌∙◌, arith, append_assoc, Option, None, Some, Ok, Err}
-use Rattle.std.proofs.lemmas.List.{append-nil, drop-append-le, drop-drop, length-append, length-drop, length-take}
+use Rattle.std.proofs.Common.{◌≡◌, ℕ, ◌+◌, ◌-◌, ◌<◌, ◌≤◌, Bool, List, [], ◌∷◌, ◌++◌, length, take, drop, refl, sym, ap, subst, ◌∙◌, arith, append_assoc, Option, None, Some, Ok, Err}
+use Rattle.std.proofs.lemmas.List.{drop-append-le, drop-drop, length-append, length-drop, length-take}
 use Rattle.std.proofs.lemmas.Bool.{lt-ltb}
 use Rattle.std.specs.Io.KnownBytes.{Consumes}
+use Rattle.stanza.specs.declared.form.Form.{Form}
 use Rattle.stanza.specs.declared.error.ReadError.TheVariants.{TooLarge}
 use Rattle.stanza.specs.declared.ahead.Ahead.{Ahead}
 use Rattle.stanza.specs.declared.held.Held.{Held}
@@ -55,9 +56,9 @@ total-more held new block is bytes begin room =
 -- ---- bytes that are answered
 
 -- what is still to be answered, by the bytes that are pending and how many may be read in all
-pub read-moved : (commented : Bool) (n len lines room : ℕ) (text left : List ℕ) → len ≤ length text → read_within commented (n + lines) (length text + room - len) (drop len text ++ left) ≡ read_within commented (n + lines) (length (drop len text) + room) (drop len text ++ left)
-read-moved commented n len lines room text left within =
-    ap (λ k. read_within commented (n + lines) k (drop len text ++ left)) (let e : length text + room - len ≡ length (drop len text) + room = omega (arith, within, length-drop len text) in e)
+pub read-moved : (form : Form) (n len lines room : ℕ) (text left : List ℕ) → len ≤ length text → read_within form (n + lines) (length text + room - len) (drop len text ++ left) ≡ read_within form (n + lines) (length (drop len text) + room) (drop len text ++ left)
+read-moved form n len lines room text left within =
+    ap (λ k. read_within form (n + lines) k (drop len text ++ left)) (let e : length text + room - len ≡ length (drop len text) + room = omega (arith, within, length-drop len text) in e)
 
 -- what is held once so many bytes, of so many lines, are answered
 pub record Moves (old new : Held) (len lines : ℕ) : Type 0 where
@@ -84,62 +85,62 @@ module _ (old new : Held) (len lines : ℕ) where
   total-moved moves = omega (arith, moves.room, ap length (pending-moved moves), length-drop len (pending_of old))
 
   -- what is still to be answered
-  pub read-of-moved : (commented : Bool) (left : List ℕ) → Moves old new len lines → len ≤ length (pending_of old)
-      → read_within commented (old.before + 1 + lines) (length (pending_of old) + old.room - len) (drop len (pending_of old) ++ left) ≡ read_of commented new left
-  read-of-moved commented left moves within =
+  pub read-of-moved : (form : Form) (left : List ℕ) → Moves old new len lines → len ≤ length (pending_of old)
+      → read_within form (old.before + 1 + lines) (length (pending_of old) + old.room - len) (drop len (pending_of old) ++ left) ≡ read_of form new left
+  read-of-moved form left moves within =
       let number : old.before + 1 + lines ≡ new.before + 1 = omega (arith, moves.before) in
-      read-moved commented (old.before + 1) len lines old.room (pending_of old) left within
-      ∙ ap (λ k. read_within commented k (length (drop len (pending_of old)) + old.room) (drop len (pending_of old) ++ left)) number
-      ∙ ap (λ x. read_within commented (new.before + 1) (length x + old.room) (x ++ left)) (sym (pending-moved moves))
-      ∙ ap (λ k. read_within commented (new.before + 1) (length (pending_of new) + k) (pending_of new ++ left)) (sym moves.room)
+      read-moved form (old.before + 1) len lines old.room (pending_of old) left within
+      ∙ ap (λ k. read_within form k (length (drop len (pending_of old)) + old.room) (drop len (pending_of old) ++ left)) number
+      ∙ ap (λ x. read_within form (new.before + 1) (length x + old.room) (x ++ left)) (sym (pending-moved moves))
+      ∙ ap (λ k. read_within form (new.before + 1) (length (pending_of new) + k) (pending_of new ++ left)) (sym moves.room)
 
   -- past a gap
-  pub gap-moved : (is_over commented : Bool) (left : List ℕ) → Moves old new len lines → SkipsAhead is_over commented (old.before + 1) (pending_of old) len lines → MayFollow is_over left → read_of commented old left ≡ read_of commented new left
-  gap-moved is_over commented left moves skips may =
-      skips.items left (length (pending_of old) + old.room) may (omega arith) ∙ read-of-moved commented left moves skips.within
+  pub gap-moved : (is_over : Bool) (form : Form) (left : List ℕ) → Moves old new len lines → SkipsAhead is_over form (old.before + 1) (pending_of old) len lines → MayFollow is_over left → read_of form old left ≡ read_of form new left
+  gap-moved is_over form left moves skips may =
+      skips.items left (length (pending_of old) + old.room) may (omega arith) ∙ read-of-moved form left moves skips.within
 
   -- past a stanza
-  pub stanza-moved : (is_over commented : Bool) (end : ℕ) (left : List ℕ) → Moves old new len lines → IsAhead is_over commented (old.before + 1) (pending_of old) end len lines → MayFollow is_over left
-      → read_of commented old left ≡ Ok (stanza_of commented (old.before + 1) (lines_of (take end (pending_of old)))) ∷ read_of commented new left
-  stanza-moved is_over commented end left moves ahead may =
+  pub stanza-moved : (is_over : Bool) (form : Form) (end : ℕ) (left : List ℕ) → Moves old new len lines → IsAhead is_over form (old.before + 1) (pending_of old) end len lines → MayFollow is_over left
+      → read_of form old left ≡ Ok (stanza_of form (old.before + 1) (lines_of (take end (pending_of old)))) ∷ read_of form new left
+  stanza-moved is_over form end left moves ahead may =
       ahead.items left (length (pending_of old) + old.room) may (omega arith)
-      ∙ ap (λ x. Ok (stanza_of commented (old.before + 1) (lines_of (take end (pending_of old)))) ∷ x) (read-of-moved commented left moves ahead.within)
+      ∙ ap (λ x. Ok (stanza_of form (old.before + 1) (lines_of (take end (pending_of old)))) ∷ x) (read-of-moved form left moves ahead.within)
 
 -- where no more may be read
-pub large-held : (commented : Bool) (held : Held) (left : List ℕ) → IsOpen commented (held.before + 1) (pending_of held) → 0 < length left → held.room ≡ 0 → read_of commented held left ≡ Err TooLarge ∷ []
-large-held commented held left opens follows none =
-    ap (λ k. read_within commented (held.before + 1) k (pending_of held ++ left)) (let e : length (pending_of held) + held.room ≡ length (pending_of held) = omega (arith, none) in e) ∙ opens left follows
+pub large-held : (form : Form) (held : Held) (left : List ℕ) → IsOpen form (held.before + 1) (pending_of held) → 0 < length left → held.room ≡ 0 → read_of form held left ≡ Err TooLarge ∷ []
+large-held form held left opens follows none =
+    ap (λ k. read_within form (held.before + 1) k (pending_of held ++ left)) (let e : length (pending_of held) + held.room ≡ length (pending_of held) = omega (arith, none) in e) ∙ opens left follows
 
-pub IsOpen-none : (commented : Bool) (n : ℕ) → IsOpen commented n []
-IsOpen-none commented n later follows =
+pub IsOpen-none : (form : Form) (n : ℕ) → IsOpen form n []
+IsOpen-none form n later follows =
     rw (lt-ltb 0 (length later) follows) refl
 
 -- a stanza that is found behind a gap
-pub stanza-gives : (old held new : Held) (ahead : Ahead) (found : Option Ahead) (starts : List Start) (is_over commented : Bool) → found ≡ Some ahead
-    → FindsAhead is_over commented (held.before + 1) (pending_of held) starts found
-    → ((left : List ℕ) → MayFollow is_over left → read_of commented old left ≡ read_of commented held left) → total_of held ≤ total_of old → Moves held new ahead.len ahead.lines
-    → GivesStanza is_over commented old new starts (record { from = held.begin; len = ahead.end; line = held.before + 1 })
-stanza-gives old held new ahead found starts is_over commented is finds gap total moves =
-    let f = subst (FindsAhead is_over commented (held.before + 1) (pending_of held) starts) is finds in
+pub stanza-gives : (old held new : Held) (ahead : Ahead) (found : Option Ahead) (starts : List Start) (is_over : Bool) (form : Form) → found ≡ Some ahead
+    → FindsAhead is_over form (held.before + 1) (pending_of held) starts found
+    → ((left : List ℕ) → MayFollow is_over left → read_of form old left ≡ read_of form held left) → total_of held ≤ total_of old → Moves held new ahead.len ahead.lines
+    → GivesStanza is_over form old new starts (record { from = held.begin; len = ahead.end; line = held.before + 1 })
+stanza-gives old held new ahead found starts is_over form is finds gap total moves =
+    let f = subst (FindsAhead is_over form (held.before + 1) (pending_of held) starts) is finds in
     let raw : take ahead.end (pending_of held) ≡ take ahead.end (drop held.begin new.bytes.items) = ap (λ b. take ahead.end (drop held.begin b)) (sym moves.bytes) in
     record {
       placed = record {
         some = omega (arith, f.0.some, f.0.order, f.0.within, ap length raw, length-take ahead.end (pending_of held));
-        starts_are = f.1 ∙ ap (λ x. starts_of commented 0 (held.before + 1) (lines_of x)) raw;
+        starts_are = f.1 ∙ ap (λ x. starts_of form 0 (held.before + 1) (lines_of x)) raw;
       };
       less = omega (arith, total, moves.room, ap length (pending-moved held new ahead.len ahead.lines moves), length-drop ahead.len (pending_of held), f.0.some, f.0.order, f.0.within);
-      read = λ left may. gap left may ∙ stanza-moved held new ahead.len ahead.lines is_over commented ahead.end left moves f.0 may
-          ∙ ap (λ x. Ok (stanza_of commented (held.before + 1) (lines_of x)) ∷ read_of commented new left) raw;
+      read = λ left may. gap left may ∙ stanza-moved held new ahead.len ahead.lines is_over form ahead.end left moves f.0 may
+          ∙ ap (λ x. Ok (stanza_of form (held.before + 1) (lines_of x)) ∷ read_of form new left) raw;
     }
 
 -- ---- reading on
 
 -- the same is still to be answered once more is held
-pub filled-read : (commented : Bool) (old new : Held) (left more : List ℕ) → FillsWith old new left more → read_of commented old left ≡ read_of commented new more
-filled-read commented old new left more fills =
-    ap (λ k. read_within commented (k + 1) (length (pending_of old) + old.room) (pending_of old ++ left)) fills.before
-    ∙ ap (λ k. read_within commented (new.before + 1) k (pending_of old ++ left)) fills.most
-    ∙ ap (λ x. read_within commented (new.before + 1) (length (pending_of new) + new.room) x) fills.text
+pub filled-read : (form : Form) (old new : Held) (left more : List ℕ) → FillsWith old new left more → read_of form old left ≡ read_of form new more
+filled-read form old new left more fills =
+    ap (λ k. read_within form (k + 1) (length (pending_of old) + old.room) (pending_of old ++ left)) fills.before
+    ∙ ap (λ k. read_within form (new.before + 1) k (pending_of old ++ left)) fills.most
+    ∙ ap (λ x. read_within form (new.before + 1) (length (pending_of new) + new.room) x) fills.text
 
-pub needs-more : (is_over commented : Bool) (old new : Held) (starts : List Start) (found : Cut) → found ≡ cut.More → IsCut is_over commented old new starts found → NeedsMore is_over commented old new
-needs-more is_over commented old new starts found is finds = subst (IsCut is_over commented old new starts) is finds
+pub needs-more : (is_over : Bool) (form : Form) (old new : Held) (starts : List Start) (found : Cut) → found ≡ cut.More → IsCut is_over form old new starts found → NeedsMore is_over form old new
+needs-more is_over form old new starts found is finds = subst (IsCut is_over form old new starts) is finds

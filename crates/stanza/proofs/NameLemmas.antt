@@ -6,6 +6,7 @@ use Rattle.std.proofs.lemmas.List.Elements.{filter-append}
 use Rattle.std.proofs.lemmas.Slice.Eq.{bytes_eq-Decides}
 use Rattle.std.specs.Char.{to_ascii_lowercase}
 use Rattle.std.specs.List.{list_any, position, position_or_len}
+use Rattle.stanza.specs.declared.form.Form.{Form}
 use Rattle.stanza.specs.Line.{begins_field}
 use Rattle.stanza.specs.Field.{FieldText, is_colon, name_of, same_name, names_of, fields_of}
 use Rattle.stanza.specs.Seen.{slot_of, is_seen, AreSeen}
@@ -74,24 +75,24 @@ AreSeen-push slots [] name seen taken = (taken, tt)
 AreSeen-push slots (first ∷ names) name seen taken = (seen.0, AreSeen-push slots names name seen.1 taken)
 
 -- a line that begins a field adds its name, and another adds none
-pub names_of-push : (commented : Bool) (before : List (List ℕ)) (line : List ℕ) → begins_field commented line ≡ true → names_of commented (before ++ line ∷ []) ≡ names_of commented before ++ name_of line ∷ []
-names_of-push commented before line begins =
-    ap (map name_of) (filter-append (begins_field commented) before (line ∷ []))
-    ∙ map-append name_of (filter (begins_field commented) before) (filter (begins_field commented) (line ∷ []))
+pub names_of-push : (form : Form) (before : List (List ℕ)) (line : List ℕ) → begins_field form line ≡ true → names_of form (before ++ line ∷ []) ≡ names_of form before ++ name_of line ∷ []
+names_of-push form before line begins =
+    ap (map name_of) (filter-append (begins_field form) before (line ∷ []))
+    ∙ map-append name_of (filter (begins_field form) before) (filter (begins_field form) (line ∷ []))
     ∙ rw begins refl
 
-pub names_of-push_other : (commented : Bool) (before : List (List ℕ)) (line : List ℕ) → begins_field commented line ≡ false → names_of commented (before ++ line ∷ []) ≡ names_of commented before
-names_of-push_other commented before line other =
-    ap (map name_of) (filter-append (begins_field commented) before (line ∷ []))
-    ∙ map-append name_of (filter (begins_field commented) before) (filter (begins_field commented) (line ∷ []))
+pub names_of-push_other : (form : Form) (before : List (List ℕ)) (line : List ℕ) → begins_field form line ≡ false → names_of form (before ++ line ∷ []) ≡ names_of form before
+names_of-push_other form before line other =
+    ap (map name_of) (filter-append (begins_field form) before (line ∷ []))
+    ∙ map-append name_of (filter (begins_field form) before) (filter (begins_field form) (line ∷ []))
     ∙ rw (other, append-nil) refl
 
 -- a test of the fields' names is one of the names of the lines
-pub list_any-fields : (commented : Bool) (n : ℕ) (lines : List (List ℕ)) (test : List ℕ → Bool) → list_any (λ (field : FieldText). test field.name) (fields_of commented n lines) ≡ list_any test (names_of commented lines)
-list_any-fields commented n [] test = refl
-list_any-fields commented n (line ∷ lines) test = elim (cases_Bool (begins_field commented line)) [
-  | inl h ↦ rw h (ap (λ b. test (name_of line) || b) (list_any-fields commented (n + 1) lines test))
-  | inr h ↦ rw h (list_any-fields commented (n + 1) lines test)
+pub list_any-fields : (form : Form) (n : ℕ) (lines : List (List ℕ)) (test : List ℕ → Bool) → list_any (λ (field : FieldText). test field.name) (fields_of form n lines) ≡ list_any test (names_of form lines)
+list_any-fields form n [] test = refl
+list_any-fields form n (line ∷ lines) test = elim (cases_Bool (begins_field form line)) [
+  | inl h ↦ rw h (ap (λ b. test (name_of line) || b) (list_any-fields form (n + 1) lines test))
+  | inr h ↦ rw h (list_any-fields form (n + 1) lines test)
 ]
 
 -- the name stands before the colon that was found
@@ -102,8 +103,8 @@ name_of-found line at found = ap (λ k. take k line) (sym (go (ltb (position_or_
   go false k h = cc
 
 -- the table still knows all names where a line begins a field
-pub AreSeen-field : (commented : Bool) (before : List (List ℕ)) (line name : List ℕ) (slots later : List Bool) → begins_field commented line ≡ true → name ≡ name_of line → AreSeen slots (names_of commented before) → later ≡ set slots (slot_of name) true → is_seen later name ≡ true → AreSeen later (names_of commented (before ++ line ∷ []))
-AreSeen-field commented before line name slots later begins is_name seen is_later taken =
-    let still : AreSeen later (names_of commented before) = rw is_later (AreSeen-set slots (names_of commented before) (slot_of name) seen) in
+pub AreSeen-field : (form : Form) (before : List (List ℕ)) (line name : List ℕ) (slots later : List Bool) → begins_field form line ≡ true → name ≡ name_of line → AreSeen slots (names_of form before) → later ≡ set slots (slot_of name) true → is_seen later name ≡ true → AreSeen later (names_of form (before ++ line ∷ []))
+AreSeen-field form before line name slots later begins is_name seen is_later taken =
+    let still : AreSeen later (names_of form before) = rw is_later (AreSeen-set slots (names_of form before) (slot_of name) seen) in
     let taken' : is_seen later (name_of line) ≡ true = ap (is_seen later) (sym is_name) ∙ taken in
-    rw names_of-push (AreSeen-push later (names_of commented before) (name_of line) still taken')
+    rw names_of-push (AreSeen-push later (names_of form before) (name_of line) still taken')

@@ -5,6 +5,7 @@ use Rattle.stanza.specs.Fault.{FindsName, IsNameOn}
 use Rattle.std.proofs.lemmas.Bool.{cases_Bool}
 use Rattle.std.proofs.lemmas.List.{append-nil, length-append, drop_at}
 use Rattle.std.specs.List.{concat, onto_first}
+use Rattle.stanza.specs.declared.form.Form.{Form}
 use Rattle.stanza.specs.declared.starts.Start.{Start}
 use Rattle.stanza.specs.Line.{lines_of, begins_field}
 use Rattle.stanza.specs.Field.{FieldText, name_of, names_of, field_of, fields_of, continued}
@@ -25,30 +26,30 @@ at-behind front line lines n =
     ap (take (length (name_of line))) (drop_at front (line ++ concat lines) (length front) refl) ∙ take-again _ line (concat lines)
 
 -- the names that begin there are those of the lines
-names-from : (commented : Bool) (n : ℕ) (front : List ℕ) (lines : List (List ℕ)) → map (name_at (front ++ concat lines)) (starts_of commented (length front) n lines) ≡ names_of commented lines
-names-from commented n front [] = refl
-names-from commented n front (line ∷ lines) =
+names-from : (form : Form) (n : ℕ) (front : List ℕ) (lines : List (List ℕ)) → map (name_at (front ++ concat lines)) (starts_of form (length front) n lines) ≡ names_of form lines
+names-from form n front [] = refl
+names-from form n front (line ∷ lines) =
     let same : (front ++ line) ++ concat lines ≡ front ++ (line ++ concat lines) = append_assoc front line (concat lines) in
-    let later : map (name_at (front ++ (line ++ concat lines))) (starts_of commented (length front + length line) (n + 1) lines) ≡ names_of commented lines =
-    subst (λ raw. map (name_at raw) (starts_of commented (length front + length line) (n + 1) lines) ≡ names_of commented lines) same
-    (subst (λ k. map (name_at ((front ++ line) ++ concat lines)) (starts_of commented k (n + 1) lines) ≡ names_of commented lines) (length-append front line) (names-from commented (n + 1) (front ++ line) lines)) in
-    elim (cases_Bool (begins_field commented line)) [
-      | inl h ↦ rw h (ap (λ x. x ∷ map (name_at (front ++ (line ++ concat lines))) (starts_of commented (length front + length line) (n + 1) lines)) (at-behind front line lines n) ∙ ap (λ x. name_of line ∷ x) later)
+    let later : map (name_at (front ++ (line ++ concat lines))) (starts_of form (length front + length line) (n + 1) lines) ≡ names_of form lines =
+    subst (λ raw. map (name_at raw) (starts_of form (length front + length line) (n + 1) lines) ≡ names_of form lines) same
+    (subst (λ k. map (name_at ((front ++ line) ++ concat lines)) (starts_of form k (n + 1) lines) ≡ names_of form lines) (length-append front line) (names-from form (n + 1) (front ++ line) lines)) in
+    elim (cases_Bool (begins_field form line)) [
+      | inl h ↦ rw h (ap (λ x. x ∷ map (name_at (front ++ (line ++ concat lines))) (starts_of form (length front + length line) (n + 1) lines)) (at-behind front line lines n) ∙ ap (λ x. name_of line ∷ x) later)
       | inr h ↦ rw h later
     ]
 
-pub names-at : (commented : Bool) (n : ℕ) (raw : List ℕ) → map (name_at raw) (starts_of commented 0 n (lines_of raw)) ≡ names_of commented (lines_of raw)
-names-at commented n raw = subst (λ (text : List ℕ). map (name_at text) (starts_of commented 0 n (lines_of raw)) ≡ names_of commented (lines_of raw)) (concat-lines_of raw) (names-from commented n [] (lines_of raw))
+pub names-at : (form : Form) (n : ℕ) (raw : List ℕ) → map (name_at raw) (starts_of form 0 n (lines_of raw)) ≡ names_of form (lines_of raw)
+names-at form n raw = subst (λ (text : List ℕ). map (name_at text) (starts_of form 0 n (lines_of raw)) ≡ names_of form (lines_of raw)) (concat-lines_of raw) (names-from form n [] (lines_of raw))
 
 -- one more line
-pub starts-push : (commented : Bool) (at n : ℕ) (lines : List (List ℕ)) (line : List ℕ) → starts_of commented at n (lines ++ line ∷ []) ≡ starts_of commented at n lines ++ starts_of commented (at + length (concat lines)) (n + length lines) (line ∷ [])
-starts-push commented at n [] line = rw (add-zero at, add-zero n) refl
-starts-push commented at n (first ∷ lines) line =
+pub starts-push : (form : Form) (at n : ℕ) (lines : List (List ℕ)) (line : List ℕ) → starts_of form at n (lines ++ line ∷ []) ≡ starts_of form at n lines ++ starts_of form (at + length (concat lines)) (n + length lines) (line ∷ [])
+starts-push form at n [] line = rw (add-zero at, add-zero n) refl
+starts-push form at n (first ∷ lines) line =
     let bytes : at + length first + length (concat lines) ≡ at + length (first ++ concat lines) = omega (arith, length-append first (concat lines)) in
     let count : n + 1 + length lines ≡ n + suc (length lines) = omega arith in
-    let later : starts_of commented (at + length first) (n + 1) (lines ++ line ∷ []) ≡ starts_of commented (at + length first) (n + 1) lines ++ starts_of commented (at + length (first ++ concat lines)) (n + suc (length lines)) (line ∷ []) =
-    starts-push commented (at + length first) (n + 1) lines line ∙ ap (λ k. starts_of commented (at + length first) (n + 1) lines ++ starts_of commented k (n + 1 + length lines) (line ∷ [])) bytes ∙ ap (λ k. starts_of commented (at + length first) (n + 1) lines ++ starts_of commented (at + length (first ++ concat lines)) k (line ∷ [])) count in
-    elim (cases_Bool (begins_field commented first)) [
+    let later : starts_of form (at + length first) (n + 1) (lines ++ line ∷ []) ≡ starts_of form (at + length first) (n + 1) lines ++ starts_of form (at + length (first ++ concat lines)) (n + suc (length lines)) (line ∷ []) =
+    starts-push form (at + length first) (n + 1) lines line ∙ ap (λ k. starts_of form (at + length first) (n + 1) lines ++ starts_of form k (n + 1 + length lines) (line ∷ [])) bytes ∙ ap (λ k. starts_of form (at + length first) (n + 1) lines ++ starts_of form (at + length (first ++ concat lines)) k (line ∷ [])) count in
+    elim (cases_Bool (begins_field form first)) [
       | inl h ↦ rw h (ap (λ x. record { at = at; name_len = length (name_of first); line = n } ∷ x) later)
       | inr h ↦ rw h later
     ]
@@ -84,49 +85,49 @@ lines-left (b ∷ bs) rest e = elim (cases_Bool (eqb b 10)) [
   | inr h ↦ line-goes b bs rest (lines-left bs rest) (lines_of (bs ++ concat rest)) refl (sym (rw h refl) ∙ e)
 ]
 
-fields-from : (commented : Bool) (n : ℕ) (front : List ℕ) (lines : List (List ℕ)) → lines_of (concat lines) ≡ lines → map (field_at (front ++ concat lines)) (starts_of commented (length front) n lines) ≡ fields_of commented n lines
-fields-from commented n front [] are = refl
-fields-from commented n front (line ∷ lines) are =
+fields-from : (form : Form) (n : ℕ) (front : List ℕ) (lines : List (List ℕ)) → lines_of (concat lines) ≡ lines → map (field_at (front ++ concat lines)) (starts_of form (length front) n lines) ≡ fields_of form n lines
+fields-from form n front [] are = refl
+fields-from form n front (line ∷ lines) are =
     let same : (front ++ line) ++ concat lines ≡ front ++ (line ++ concat lines) = append_assoc front line (concat lines) in
     let left = lines-left line lines are in
-    let later : map (field_at (front ++ (line ++ concat lines))) (starts_of commented (length front + length line) (n + 1) lines) ≡ fields_of commented (n + 1) lines =
-    subst (λ raw. map (field_at raw) (starts_of commented (length front + length line) (n + 1) lines) ≡ fields_of commented (n + 1) lines) same
-    (subst (λ k. map (field_at ((front ++ line) ++ concat lines)) (starts_of commented k (n + 1) lines) ≡ fields_of commented (n + 1) lines) (length-append front line) (fields-from commented (n + 1) (front ++ line) lines left)) in
+    let later : map (field_at (front ++ (line ++ concat lines))) (starts_of form (length front + length line) (n + 1) lines) ≡ fields_of form (n + 1) lines =
+    subst (λ raw. map (field_at raw) (starts_of form (length front + length line) (n + 1) lines) ≡ fields_of form (n + 1) lines) same
+    (subst (λ k. map (field_at ((front ++ line) ++ concat lines)) (starts_of form k (n + 1) lines) ≡ fields_of form (n + 1) lines) (length-append front line) (fields-from form (n + 1) (front ++ line) lines left)) in
     let here : field_at (front ++ (line ++ concat lines)) (start_behind front n line) ≡ field_of n line (continued lines) =
     ap (λ x. first_field n (lines_of x)) (drop_at front (line ++ concat lines) (length front) refl) ∙ ap (first_field n) are in
-    elim (cases_Bool (begins_field commented line)) [
-      | inl h ↦ rw h (ap (λ x. x ∷ map (field_at (front ++ (line ++ concat lines))) (starts_of commented (length front + length line) (n + 1) lines)) here ∙ ap (λ x. field_of n line (continued lines) ∷ x) later)
+    elim (cases_Bool (begins_field form line)) [
+      | inl h ↦ rw h (ap (λ x. x ∷ map (field_at (front ++ (line ++ concat lines))) (starts_of form (length front + length line) (n + 1) lines)) here ∙ ap (λ x. field_of n line (continued lines) ∷ x) later)
       | inr h ↦ rw h later
     ]
 
-pub fields-at : (commented : Bool) (n : ℕ) (raw : List ℕ) → map (field_at raw) (starts_of commented 0 n (lines_of raw)) ≡ fields_of commented n (lines_of raw)
-fields-at commented n raw = subst (λ (text : List ℕ). map (field_at text) (starts_of commented 0 n (lines_of raw)) ≡ fields_of commented n (lines_of raw)) (concat-lines_of raw)
-    (fields-from commented n [] (lines_of raw) (ap lines_of (concat-lines_of raw)))
+pub fields-at : (form : Form) (n : ℕ) (raw : List ℕ) → map (field_at raw) (starts_of form 0 n (lines_of raw)) ≡ fields_of form n (lines_of raw)
+fields-at form n raw = subst (λ (text : List ℕ). map (field_at text) (starts_of form 0 n (lines_of raw)) ≡ fields_of form n (lines_of raw)) (concat-lines_of raw)
+    (fields-from form n [] (lines_of raw) (ap lines_of (concat-lines_of raw)))
 
 -- ---- what a reader notes
 
 -- the names that begin where a reader has noted are those of the lines
-pub names-noted : (commented : Bool) (n : ℕ) (raw : List ℕ) (starts : List Start) → starts ≡ starts_of commented 0 n (lines_of raw) → map (name_at raw) starts ≡ names_of commented (lines_of raw)
-names-noted commented n raw starts are = ap (map (name_at raw)) are ∙ names-at commented n raw
+pub names-noted : (form : Form) (n : ℕ) (raw : List ℕ) (starts : List Start) → starts ≡ starts_of form 0 n (lines_of raw) → map (name_at raw) starts ≡ names_of form (lines_of raw)
+names-noted form n raw starts are = ap (map (name_at raw)) are ∙ names-at form n raw
 
 -- a line that begins no field adds none
-pub starts-other : (commented : Bool) (n : ℕ) (raw line : List ℕ) → begins_field commented line ≡ false → starts_of commented 0 n (lines_of raw ++ line ∷ []) ≡ starts_of commented 0 n (lines_of raw)
-starts-other commented n raw line other = starts-push commented 0 n (lines_of raw) line ∙ rw other (append-nil (starts_of commented 0 n (lines_of raw)))
+pub starts-other : (form : Form) (n : ℕ) (raw line : List ℕ) → begins_field form line ≡ false → starts_of form 0 n (lines_of raw ++ line ∷ []) ≡ starts_of form 0 n (lines_of raw)
+starts-other form n raw line other = starts-push form 0 n (lines_of raw) line ∙ rw other (append-nil (starts_of form 0 n (lines_of raw)))
 
 -- a line that begins one adds it
-pub starts-field : (commented : Bool) (n number : ℕ) (raw line name : List ℕ) → begins_field commented line ≡ true → name ≡ name_of line → number ≡ n + length (lines_of raw) → starts_of commented 0 n (lines_of raw ++ line ∷ []) ≡ starts_of commented 0 n (lines_of raw) ++ record { at = length raw; name_len = length name; line = number } ∷ []
-starts-field commented n number raw line name begins is count =
-    starts-push commented 0 n (lines_of raw) line
-    ∙ ap (λ k. starts_of commented 0 n (lines_of raw) ++ starts_of commented k (n + length (lines_of raw)) (line ∷ [])) (let e : 0 + length (concat (lines_of raw)) ≡ length raw = omega (arith, ap length (concat-lines_of raw)) in e)
+pub starts-field : (form : Form) (n number : ℕ) (raw line name : List ℕ) → begins_field form line ≡ true → name ≡ name_of line → number ≡ n + length (lines_of raw) → starts_of form 0 n (lines_of raw ++ line ∷ []) ≡ starts_of form 0 n (lines_of raw) ++ record { at = length raw; name_len = length name; line = number } ∷ []
+starts-field form n number raw line name begins is count =
+    starts-push form 0 n (lines_of raw) line
+    ∙ ap (λ k. starts_of form 0 n (lines_of raw) ++ starts_of form k (n + length (lines_of raw)) (line ∷ [])) (let e : 0 + length (concat (lines_of raw)) ≡ length raw = omega (arith, ap length (concat-lines_of raw)) in e)
     ∙ rw (begins, is, count) refl
 
 -- ---- what is found on a line
 
-pub none-found : (commented opened : Bool) (number : ℕ) (line : List ℕ) (found : Option (Bor (List ℕ))) → found ≡ None → FindsName commented opened number line found → begins_field commented line ≡ false
-none-found commented opened number line found is finds = (subst (FindsName commented opened number line) is finds).0
+pub none-found : (form : Form) (opened : Bool) (number : ℕ) (line : List ℕ) (found : Option (Bor (List ℕ))) → found ≡ None → FindsName form opened number line found → begins_field form line ≡ false
+none-found form opened number line found is finds = (subst (FindsName form opened number line) is finds).0
 
-pub name-found : (commented opened : Bool) (number : ℕ) (line : List ℕ) (name : Bor (List ℕ)) (found : Option (Bor (List ℕ))) → found ≡ Some name → FindsName commented opened number line found → IsNameOn commented line name.now
-name-found commented opened number line name found is finds = subst (FindsName commented opened number line) is finds
+pub name-found : (form : Form) (opened : Bool) (number : ℕ) (line : List ℕ) (name : Bor (List ℕ)) (found : Option (Bor (List ℕ))) → found ≡ Some name → FindsName form opened number line found → IsNameOn form line name.now
+name-found form opened number line name found is finds = subst (FindsName form opened number line) is finds
 
 -- ---- where fields begin there are some
 
@@ -139,25 +140,25 @@ line-some [] rest e = absurd (go (concat rest) e) where
     filled b line lines e = cc
 line-some (b ∷ bs) rest e = omega arith
 
-within-from : (commented : Bool) (n : ℕ) (front : List ℕ) (lines : List (List ℕ)) → lines_of (concat lines) ≡ lines → AreWithin (front ++ concat lines) (starts_of commented (length front) n lines)
-within-from commented n front [] are = tt
-within-from commented n front (line ∷ lines) are =
+within-from : (form : Form) (n : ℕ) (front : List ℕ) (lines : List (List ℕ)) → lines_of (concat lines) ≡ lines → AreWithin (front ++ concat lines) (starts_of form (length front) n lines)
+within-from form n front [] are = tt
+within-from form n front (line ∷ lines) are =
     let same : (front ++ line) ++ concat lines ≡ front ++ (line ++ concat lines) = append_assoc front line (concat lines) in
     let left = lines-left line lines are in
-    let later : AreWithin (front ++ (line ++ concat lines)) (starts_of commented (length front + length line) (n + 1) lines) =
-    subst (λ raw. AreWithin raw (starts_of commented (length front + length line) (n + 1) lines)) same
-    (subst (λ k. AreWithin ((front ++ line) ++ concat lines) (starts_of commented k (n + 1) lines)) (length-append front line) (within-from commented (n + 1) (front ++ line) lines left)) in
+    let later : AreWithin (front ++ (line ++ concat lines)) (starts_of form (length front + length line) (n + 1) lines) =
+    subst (λ raw. AreWithin raw (starts_of form (length front + length line) (n + 1) lines)) same
+    (subst (λ k. AreWithin ((front ++ line) ++ concat lines) (starts_of form k (n + 1) lines)) (length-append front line) (within-from form (n + 1) (front ++ line) lines left)) in
     let here : field_at (front ++ (line ++ concat lines)) (start_behind front n line) ≡ field_of n line (continued lines) =
     ap (λ x. first_field n (lines_of x)) (drop_at front (line ++ concat lines) (length front) refl) ∙ ap (first_field n) are in
     let is : IsWithin (front ++ (line ++ concat lines)) (start_behind front n line) = record {
       some = omega (arith, line-some line lines are, length-append front (line ++ concat lines), length-append line (concat lines));
       name = at-behind front line lines n ∙ sym (ap (λ (f : FieldText). f.name) here);
     } in
-    elim (cases_Bool (begins_field commented line)) [
+    elim (cases_Bool (begins_field form line)) [
       | inl h ↦ rw h (is, later)
       | inr h ↦ rw h later
     ]
 
-pub within-at : (commented : Bool) (n : ℕ) (raw : List ℕ) → AreWithin raw (starts_of commented 0 n (lines_of raw))
-within-at commented n raw = subst (λ (text : List ℕ). AreWithin text (starts_of commented 0 n (lines_of raw))) (concat-lines_of raw)
-    (within-from commented n [] (lines_of raw) (ap lines_of (concat-lines_of raw)))
+pub within-at : (form : Form) (n : ℕ) (raw : List ℕ) → AreWithin raw (starts_of form 0 n (lines_of raw))
+within-at form n raw = subst (λ (text : List ℕ). AreWithin text (starts_of form 0 n (lines_of raw))) (concat-lines_of raw)
+    (within-from form n [] (lines_of raw) (ap lines_of (concat-lines_of raw)))

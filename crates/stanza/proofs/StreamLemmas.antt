@@ -1,9 +1,10 @@
 -- A text that comes piece by piece: its lines one by one, and what is read of them.
-use Rattle.std.proofs.Common.{◌≡◌, ℕ, suc, zero, ◌+◌, ◌-◌, ◌<◌, ◌≤◌, Bool, true, false, cond, ◌||◌, List, [], ◌∷◌, ◌++◌, length, get_or, take, drop, map, filter, refl, sym, ap, subst, ◌∙◌, arith, append_assoc, add_assoc, add-zero, ltb, eqb, Option, Result, None, Some, Ok, Err, inl, inr}
+use Rattle.std.proofs.Common.{◌≡◌, ℕ, suc, zero, ◌+◌, ◌-◌, ◌<◌, ◌≤◌, Bool, true, false, List, [], ◌∷◌, ◌++◌, length, get_or, take, drop, map, filter, refl, sym, ap, subst, ◌∙◌, arith, append_assoc, add-zero, ltb, eqb, Option, Result, None, Some, Ok, Err, inl, inr}
 use Rattle.std.proofs.lemmas.Bool.{false≢true, cases_Bool, cases_lt, lt-ltb, le-ltb, eq-eqb, ne_eqb, eqb-true}
-use Rattle.std.proofs.lemmas.List.{append-nil, take-append-drop, drop-append-le, length-append, length-take-le, length-drop, take_all, drop_all, take_at}
+use Rattle.std.proofs.lemmas.List.{append-nil, take-append-drop, length-append, length-drop, take_all, drop_all, take_at}
 use Rattle.std.proofs.Math.Seq.{take-append-add}
-use Rattle.std.specs.List.{list_any, slice_split}
+use Rattle.std.specs.List.{slice_split}
+use Rattle.stanza.specs.declared.form.Form.{Form}
 use Rattle.memchr.specs.Find.{IsFirstByte, is_byte}
 use Rattle.stanza.specs.declared.error.StanzaError.{StanzaError}
 use Rattle.stanza.specs.declared.error.ReadError.{ReadError}
@@ -67,54 +68,54 @@ EndsLine-last text some none =
 -- ---- what is read of lines
 
 -- a separator adds no item
-pub read-separator : (longer commented : Bool) (n : ℕ) (line : List ℕ) (lines : List (List ℕ)) → is_separator line ≡ true → read_lines longer commented n (line ∷ lines) ≡ read_lines longer commented (n + 1) lines
-read-separator longer commented n line lines separator =
+pub read-separator : (longer : Bool) (form : Form) (n : ℕ) (line : List ℕ) (lines : List (List ℕ)) → is_separator line ≡ true → read_lines longer form n (line ∷ lines) ≡ read_lines longer form (n + 1) lines
+read-separator longer form n line lines separator =
     let later = split-some lines in
     let split : slice_split is_separator (line ∷ lines) ≡ [] ∷ later.0 ∷ later.1 = rw (separator, later.2) refl in
-    ap (read_parts longer commented n) split ∙ rw add-zero refl ∙ sym (ap (read_parts longer commented (n + 1)) later.2)
+    ap (read_parts longer form n) split ∙ rw add-zero refl ∙ sym (ap (read_parts longer form (n + 1)) later.2)
 
 -- a comment at the front adds no item
-pub read-comment : (longer commented : Bool) (n : ℕ) (line : List ℕ) (lines : List (List ℕ)) → is_separator line ≡ false → is_comment commented line ≡ true → read_lines longer commented n (line ∷ lines) ≡ read_lines longer commented (n + 1) lines
-read-comment longer commented n line lines other comment =
+pub read-comment : (longer : Bool) (form : Form) (n : ℕ) (line : List ℕ) (lines : List (List ℕ)) → is_separator line ≡ false → is_comment form line ≡ true → read_lines longer form n (line ∷ lines) ≡ read_lines longer form (n + 1) lines
+read-comment longer form n line lines other comment =
     let later = split-some lines in
     let split : slice_split is_separator (line ∷ lines) ≡ (line ∷ later.0) ∷ later.1 = rw (other, later.2) refl in
-    ap (read_parts longer commented n) split ∙ go later.0 later.1 ∙ sym (ap (read_parts longer commented (n + 1)) later.2) where
-      go : (part : List (List ℕ)) (parts : List (List (List ℕ))) → read_parts longer commented n ((line ∷ part) ∷ parts) ≡ read_parts longer commented (n + 1) (part ∷ parts)
-      go part [] = rw (comment, first_fault-comment commented line comment [] (n + 1) part) refl
+    ap (read_parts longer form n) split ∙ go later.0 later.1 ∙ sym (ap (read_parts longer form (n + 1)) later.2) where
+      go : (part : List (List ℕ)) (parts : List (List (List ℕ))) → read_parts longer form n ((line ∷ part) ∷ parts) ≡ read_parts longer form (n + 1) (part ∷ parts)
+      go part [] = rw (comment, first_fault-comment form line comment [] (n + 1) part) refl
       go part (next ∷ parts) =
           let count : n + suc (length part) + 1 ≡ n + 1 + length part + 1 = omega arith in
-          rw (comment, first_fault-comment commented line comment [] (n + 1) part, count) refl
+          rw (comment, first_fault-comment form line comment [] (n + 1) part, count) refl
 
 -- the stanza of the lines before a separator is the first item
-pub read-front : (longer commented : Bool) (n : ℕ) (a b : List (List ℕ)) (line : List ℕ) (stanza : StanzaText) → NoSeparators a → is_separator line ≡ true → first_fault commented [] n a ≡ None → stanza_in commented n a ≡ Some stanza → read_lines longer commented n (a ++ line ∷ b) ≡ Ok stanza ∷ read_lines longer commented (n + length a) (line ∷ b)
-read-front longer commented n a b line stanza none ends clean is =
+pub read-front : (longer : Bool) (form : Form) (n : ℕ) (a b : List (List ℕ)) (line : List ℕ) (stanza : StanzaText) → NoSeparators a → is_separator line ≡ true → first_fault form [] n a ≡ None → stanza_in form n a ≡ Some stanza → read_lines longer form n (a ++ line ∷ b) ≡ Ok stanza ∷ read_lines longer form (n + length a) (line ∷ b)
+read-front longer form n a b line stanza none ends clean is =
     let later = split-some b in
     let behind : slice_split is_separator (line ∷ b) ≡ [] ∷ later.0 ∷ later.1 = rw (ends, later.2) refl in
     let split : slice_split is_separator (a ++ line ∷ b) ≡ a ∷ later.0 ∷ later.1 = split-front a (line ∷ b) [] (later.0 ∷ later.1) none behind ∙ ap (λ x. x ∷ later.0 ∷ later.1) (append-nil a) in
-    let next : read_lines longer commented (n + length a) (line ∷ b) ≡ read_parts longer commented (n + length a + 1) (later.0 ∷ later.1) =
-    ap (read_parts longer commented (n + length a)) behind ∙ ap (λ k. read_parts longer commented (k + 1) (later.0 ∷ later.1)) (add-zero (n + length a)) in
-    ap (read_parts longer commented n) split ∙ rw (clean, is) refl ∙ ap (λ x. Ok stanza ∷ x) (sym next)
+    let next : read_lines longer form (n + length a) (line ∷ b) ≡ read_parts longer form (n + length a + 1) (later.0 ∷ later.1) =
+    ap (read_parts longer form (n + length a)) behind ∙ ap (λ k. read_parts longer form (k + 1) (later.0 ∷ later.1)) (add-zero (n + length a)) in
+    ap (read_parts longer form n) split ∙ rw (clean, is) refl ∙ ap (λ x. Ok stanza ∷ x) (sym next)
 
 -- the stanza of the last lines is the last item
-pub read-last : (commented : Bool) (n : ℕ) (a : List (List ℕ)) (stanza : StanzaText) → NoSeparators a → first_fault commented [] n a ≡ None → stanza_in commented n a ≡ Some stanza → read_lines false commented n a ≡ Ok stanza ∷ []
-read-last commented n a stanza none clean is =
-    ap (read_parts false commented n) (ap (slice_split is_separator) (sym (append-nil a)) ∙ split-front a [] [] [] none refl ∙ ap (λ x. x ∷ []) (append-nil a)) ∙ rw (clean, is) refl
+pub read-last : (form : Form) (n : ℕ) (a : List (List ℕ)) (stanza : StanzaText) → NoSeparators a → first_fault form [] n a ≡ None → stanza_in form n a ≡ Some stanza → read_lines false form n a ≡ Ok stanza ∷ []
+read-last form n a stanza none clean is =
+    ap (read_parts false form n) (ap (slice_split is_separator) (sym (append-nil a)) ∙ split-front a [] [] [] none refl ∙ ap (λ x. x ∷ []) (append-nil a)) ∙ rw (clean, is) refl
 
 -- lines that have no end yet, and no fault
-pub read-open : (commented : Bool) (n : ℕ) (a : List (List ℕ)) → NoSeparators a → first_fault commented [] n a ≡ None → read_lines true commented n a ≡ Err TooLarge ∷ []
-read-open commented n a none clean =
-    ap (read_parts true commented n) (ap (slice_split is_separator) (sym (append-nil a)) ∙ split-front a [] [] [] none refl ∙ ap (λ x. x ∷ []) (append-nil a)) ∙ rw clean refl
+pub read-open : (form : Form) (n : ℕ) (a : List (List ℕ)) → NoSeparators a → first_fault form [] n a ≡ None → read_lines true form n a ≡ Err TooLarge ∷ []
+read-open form n a none clean =
+    ap (read_parts true form n) (ap (slice_split is_separator) (sym (append-nil a)) ∙ split-front a [] [] [] none refl ∙ ap (λ x. x ∷ []) (append-nil a)) ∙ rw clean refl
 
 -- a fault behind lines without one is the only item
-pub read-fault : (longer commented : Bool) (n : ℕ) (a b : List (List ℕ)) (line : List ℕ) (fault : StanzaError) → NoSeparators a → is_separator line ≡ false → first_fault commented [] n a ≡ None → fault_of commented a (n + length a) line ≡ Some fault → read_lines longer commented n (a ++ line ∷ b) ≡ Err (Refused fault) ∷ []
-read-fault longer commented n a b line fault none other clean is =
+pub read-fault : (longer : Bool) (form : Form) (n : ℕ) (a b : List (List ℕ)) (line : List ℕ) (fault : StanzaError) → NoSeparators a → is_separator line ≡ false → first_fault form [] n a ≡ None → fault_of form a (n + length a) line ≡ Some fault → read_lines longer form n (a ++ line ∷ b) ≡ Err (Refused fault) ∷ []
+read-fault longer form n a b line fault none other clean is =
     let later = split-some b in
     let split : slice_split is_separator (a ++ line ∷ b) ≡ (a ++ line ∷ later.0) ∷ later.1 =
     split-front a (line ∷ b) (line ∷ later.0) later.1 none (rw (other, later.2) refl) in
-    let first : first_fault commented [] n (a ++ line ∷ later.0) ≡ Some fault =
-    first_fault-append commented [] n a (line ∷ later.0) ∙ rw (clean, is) refl in
-    ap (read_parts longer commented n) split ∙ go (a ++ line ∷ later.0) later.1 first where
-      go : (part : List (List ℕ)) (parts : List (List (List ℕ))) → first_fault commented [] n part ≡ Some fault → read_parts longer commented n (part ∷ parts) ≡ Err (Refused fault) ∷ []
+    let first : first_fault form [] n (a ++ line ∷ later.0) ≡ Some fault =
+    first_fault-append form [] n a (line ∷ later.0) ∙ rw (clean, is) refl in
+    ap (read_parts longer form n) split ∙ go (a ++ line ∷ later.0) later.1 first where
+      go : (part : List (List ℕ)) (parts : List (List (List ℕ))) → first_fault form [] n part ≡ Some fault → read_parts longer form n (part ∷ parts) ≡ Err (Refused fault) ∷ []
       go part [] first = rw first refl
       go part (next ∷ parts) first = rw first refl
 
@@ -174,8 +175,8 @@ no-line-within rest later none more =
       go (b ∷ bs) none = rw (no-newline-line b bs none, none) refl
 
 -- nothing is read of nothing
-pub read-none : (commented : Bool) (n most : ℕ) → read_within commented n most [] ≡ []
-read-none commented n most = rw (le-ltb most 0 (omega arith)) refl
+pub read-none : (form : Form) (n most : ℕ) → read_within form n most [] ≡ []
+read-none form n most = rw (le-ltb most 0 (omega arith)) refl
 
 -- ---- the whole text
 
@@ -184,30 +185,30 @@ before-items-read (Some fault) stanza later = refl
 before-items-read None None later = refl
 before-items-read None (Some stanza) later = refl
 
-parts-read : (commented : Bool) (n : ℕ) (parts : List (List (List ℕ))) → read_parts false commented n parts ≡ map as_read (items_of_parts commented n parts)
-parts-read commented n [] = refl
-parts-read commented n (part ∷ []) = before-items-read (first_fault commented [] n part) (stanza_in commented n part) []
-parts-read commented n (part ∷ next ∷ parts) =
-    ap (before_read (first_fault commented [] n part) (stanza_in commented n part)) (parts-read commented (n + length part + 1) (next ∷ parts))
-    ∙ before-items-read (first_fault commented [] n part) (stanza_in commented n part) (items_of_parts commented (n + length part + 1) (next ∷ parts))
+parts-read : (form : Form) (n : ℕ) (parts : List (List (List ℕ))) → read_parts false form n parts ≡ map as_read (items_of_parts form n parts)
+parts-read form n [] = refl
+parts-read form n (part ∷ []) = before-items-read (first_fault form [] n part) (stanza_in form n part) []
+parts-read form n (part ∷ next ∷ parts) =
+    ap (before_read (first_fault form [] n part) (stanza_in form n part)) (parts-read form (n + length part + 1) (next ∷ parts))
+    ∙ before-items-read (first_fault form [] n part) (stanza_in form n part) (items_of_parts form (n + length part + 1) (next ∷ parts))
 
-pub text-read : (commented : Bool) (text : List ℕ) (most : ℕ) → length text ≤ most → read_within commented 1 most text ≡ map as_read (items_of commented text)
+pub text-read : (form : Form) (text : List ℕ) (most : ℕ) → length text ≤ most → read_within form 1 most text ≡ map as_read (items_of form text)
 unfolding items_of
-text-read commented text most fits = rw (le-ltb most (length text) fits) (parts-read commented 1 (slice_split is_separator (lines_of text)))
+text-read form text most fits = rw (le-ltb most (length text) fits) (parts-read form 1 (slice_split is_separator (lines_of text)))
 
 before-refused : (fault : Option StanzaError) (stanza : Option StanzaText) (later : List (Result StanzaText ReadError)) → EndsRefused later → EndsRefused (before_read fault stanza later)
 before-refused (Some fault) stanza later ends = ([], Refused fault, refl)
 before-refused None None later ends = ends
 before-refused None (Some stanza) later ends = (stanza ∷ ends.0, ends.1, ap (λ x. Ok stanza ∷ x) ends.2)
 
-parts-refused : (commented : Bool) (n : ℕ) (part : List (List ℕ)) (parts : List (List (List ℕ))) → EndsRefused (read_parts true commented n (part ∷ parts))
-parts-refused commented n part [] = before-refused (first_fault commented [] n part) None (Err TooLarge ∷ []) ([], TooLarge, refl)
-parts-refused commented n part (next ∷ parts) =
-    before-refused (first_fault commented [] n part) (stanza_in commented n part) (read_parts true commented (n + length part + 1) (next ∷ parts)) (parts-refused commented (n + length part + 1) next parts)
+parts-refused : (form : Form) (n : ℕ) (part : List (List ℕ)) (parts : List (List (List ℕ))) → EndsRefused (read_parts true form n (part ∷ parts))
+parts-refused form n part [] = before-refused (first_fault form [] n part) None (Err TooLarge ∷ []) ([], TooLarge, refl)
+parts-refused form n part (next ∷ parts) =
+    before-refused (first_fault form [] n part) (stanza_in form n part) (read_parts true form (n + length part + 1) (next ∷ parts)) (parts-refused form (n + length part + 1) next parts)
 
-pub text-refused : (commented : Bool) (text : List ℕ) (most : ℕ) → most < length text → EndsRefused (read_within commented 1 most text)
-text-refused commented text most long =
+pub text-refused : (form : Form) (text : List ℕ) (most : ℕ) → most < length text → EndsRefused (read_within form 1 most text)
+text-refused form text most long =
     let lines = filter has_newline (lines_of (take most text)) in
     let some = split-some lines in
-    let first : read_within commented 1 most text ≡ read_parts true commented 1 (some.0 ∷ some.1) = rw (lt-ltb most (length text) long) (ap (read_parts true commented 1) some.2) in
-    subst EndsRefused (sym first) (parts-refused commented 1 some.0 some.1)
+    let first : read_within form 1 most text ≡ read_parts true form 1 (some.0 ∷ some.1) = rw (lt-ltb most (length text) long) (ap (read_parts true form 1) some.2) in
+    subst EndsRefused (sym first) (parts-refused form 1 some.0 some.1)

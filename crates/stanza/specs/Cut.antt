@@ -1,5 +1,6 @@
 -- How a text is cut into its first line, or some lines, and the rest.
-use Rattle.std.specs.Prelude.{◌≡◌, ℕ, ◌<◌, ◌+◌, ◌≤◌, Bool, List, [], ◌∷◌, ◌++◌, length, take, drop}
+use Rattle.std.specs.Prelude.{◌≡◌, ℕ, ◌<◌, ◌+◌, ◌≤◌, List, [], ◌∷◌, ◌++◌, length, take, drop}
+use Rattle.stanza.specs.declared.form.Form.{Form}
 use Rattle.stanza.specs.Line.{lines_of, IsWhole}
 use Rattle.stanza.specs.Field.{continued, fields_of}
 
@@ -12,13 +13,13 @@ pub record CutsLine (text line rest : List ℕ) : Type 0 where
   pub some : 0 < length line
 
 -- the rest follows so many lines that begin no field
-pub record SkipsLines (commented : Bool) (text rest : List ℕ) (lines : ℕ) : Type 0 where
-  pub fields : (n : ℕ) → fields_of commented n (lines_of text) ≡ fields_of commented (n + lines) (lines_of rest)
+pub record SkipsLines (form : Form) (text rest : List ℕ) (lines : ℕ) : Type 0 where
+  pub fields : (n : ℕ) → fields_of form n (lines_of text) ≡ fields_of form (n + lines) (lines_of rest)
   pub within : lines + length rest ≤ length text
 
 -- so many bytes at the front, of so many lines, go on with the field before them
 pub record CutsContinuations (text : List ℕ) (len lines : ℕ) : Type 0 where
   pub more : continued (lines_of text) ≡ take len text
-  pub fields : (commented : Bool) (n : ℕ) → fields_of commented n (lines_of text) ≡ fields_of commented (n + lines) (lines_of (drop len text))
+  pub fields : (form : Form) (n : ℕ) → fields_of form n (lines_of text) ≡ fields_of form (n + lines) (lines_of (drop len text))
   pub within : len ≤ length text
   pub each : lines ≤ len

@@ -4,6 +4,7 @@ use Rattle.std.specs.List.{list_all, before_first, after_first, prefix_len, suff
 use Rattle.std.specs.Char.{to_ascii_lowercase}
 use Rattle.std.specs.Int.{is_in_range}
 use Rattle.std.specs.Str.{bytes_eq}
+use Rattle.stanza.specs.declared.form.Form.{Form}
 use Rattle.stanza.specs.declared.lines.TheConstants.{NEWLINE, HASH}
 use Rattle.stanza.specs.declared.names.TheConstants.{COLON, HYPHEN}
 use Rattle.stanza.specs.Line.{is_white, is_continuation, begins_field}
@@ -63,15 +64,15 @@ abbrev pub field_of : ℕ → List ℕ → List ℕ → FieldText
 field_of n line more = record { name = name_of line; value = value_of line more; line = n }
 
 -- the fields of the lines from number n on: each goes on over the continuations after its line
-abbrev pub fields_of : Bool → ℕ → List (List ℕ) → List FieldText
-fields_of commented n [] = []
-fields_of commented n (line ∷ lines) =
-    if begins_field commented line then field_of n line (continued lines) ∷ fields_of commented (n + 1) lines
-    else fields_of commented (n + 1) lines
+abbrev pub fields_of : Form → ℕ → List (List ℕ) → List FieldText
+fields_of form n [] = []
+fields_of form n (line ∷ lines) =
+    if begins_field form line then field_of n line (continued lines) ∷ fields_of form (n + 1) lines
+    else fields_of form (n + 1) lines
 
 -- the names of the fields that the lines begin
-abbrev pub names_of : Bool → List (List ℕ) → List (List ℕ)
-names_of commented lines = map name_of (filter (begins_field commented) lines)
+abbrev pub names_of : Form → List (List ℕ) → List (List ℕ)
+names_of form lines = map name_of (filter (begins_field form) lines)
 
 -- the value of the first of these fields that has the name
 abbrev pub value_named : List ℕ → List FieldText → Option (List ℕ)

@@ -1,6 +1,7 @@
 -- What a control file is (Debian Policy 5.1), apart from how it is read: the lines between separators can be grouped into fields.
-use Rattle.std.specs.Prelude.{◌≡◌, ◌≤◌, ◌↔◌, ℕ, ◌+◌, Bool, ◌||◌, not, List, [], ◌∷◌, ◌++◌, length, map, Result, Ok, Err, if◌then◌else◌, IsTrue}
+use Rattle.std.specs.Prelude.{◌≡◌, ◌≤◌, ◌↔◌, ℕ, ◌+◌, ◌||◌, not, List, [], ◌∷◌, ◌++◌, length, map, Result, Ok, Err, if◌then◌else◌, IsTrue}
 use Rattle.std.specs.List.{list_any, concat, slice_split, flat_map, AllByRecursion}
+use Rattle.stanza.specs.declared.form.Form.{Form}
 use Rattle.stanza.specs.declared.error.StanzaError.{StanzaError}
 use Rattle.stanza.specs.declared.error.StanzaError.TheVariants.{BadLine, BadFieldName, DuplicateField}
 use Rattle.stanza.specs.Line.{lines_of, is_separator, is_comment, is_continuation, begins_field}
@@ -19,15 +20,15 @@ lines_of_piece (Comment line) = line ∷ []
 lines_of_piece (Group line more) = line ∷ more
 
 -- the line is `name:value`
-pub record IsFieldLine (commented : Bool) (line : List ℕ) : Type 0 where
-  pub begins : IsTrue (begins_field commented line)
+pub record IsFieldLine (form : Form) (line : List ℕ) : Type 0 where
+  pub begins : IsTrue (begins_field form line)
   pub colon : IsTrue (list_any is_colon line)
   pub name : IsTrue (is_name (name_of line))
 
 -- a comment is one, and a group is a `name:value` line and continuations
-abbrev pub IsPiece : Bool → Piece → Type 0
-IsPiece commented (Comment line) = IsTrue (is_comment commented line)
-IsPiece commented (Group line more) = IsFieldLine commented line × AllByRecursion (λ next. IsTrue (is_continuation next)) more
+abbrev pub IsPiece : Form → Piece → Type 0
+IsPiece form (Comment line) = IsTrue (is_comment form line)
+IsPiece form (Group line more) = IsFieldLine form line × AllByRecursion (λ next. IsTrue (is_continuation next)) more
 
 -- the names of the groups
 abbrev pub names_in : List Piece → List (List ℕ)
@@ -36,16 +37,16 @@ names_in (Comment line ∷ pieces) = names_in pieces
 names_in (Group line more ∷ pieces) = name_of line ∷ names_in pieces
 
 -- no name is that of an earlier one, but where it may repeat
-abbrev pub AreDistinct : Bool → List (List ℕ) → Type 0
-AreDistinct commented [] = Unit {0}
-AreDistinct commented (name ∷ names) =
-    AllByRecursion (λ later. IsTrue (may_repeat commented later || not (same_name name later))) names × AreDistinct commented names
+abbrev pub AreDistinct : Form → List (List ℕ) → Type 0
+AreDistinct form [] = Unit {0}
+AreDistinct form (name ∷ names) =
+    AllByRecursion (λ later. IsTrue (may_repeat form later || not (same_name name later))) names × AreDistinct form names
 
 -- the lines of a part between separators are these pieces
-pub record Groups (commented : Bool) (part : List (List ℕ)) (pieces : List Piece) : Type 0 where
+pub record Groups (form : Form) (part : List (List ℕ)) (pieces : List Piece) : Type 0 where
   pub lines : part ≡ flat_map lines_of_piece pieces
-  pub each : AllByRecursion (IsPiece commented) pieces
-  pub names : AreDistinct commented (names_in pieces)
+  pub each : AllByRecursion (IsPiece form) pieces
+  pub names : AreDistinct form (names_in pieces)
 
 -- the fields of the pieces from line n on
 abbrev pub fields_in : ℕ → List Piece → List FieldText
@@ -54,29 +55,29 @@ fields_in n (Comment line ∷ pieces) = fields_in (n + 1) pieces
 fields_in n (Group line more ∷ pieces) = field_of n line (concat more) ∷ fields_in (n + 1 + length more) pieces
 
 -- the stanza of the pieces from line n on, from the first group to the end of the last, if there is one
-abbrev pub stanza_with : Bool → ℕ → List Piece → List StanzaText
-stanza_with commented n [] = []
-stanza_with commented n (Comment line ∷ pieces) = stanza_with commented (n + 1) pieces
-stanza_with commented n (Group line more ∷ pieces) = record {
+abbrev pub stanza_with : Form → ℕ → List Piece → List StanzaText
+stanza_with form n [] = []
+stanza_with form n (Comment line ∷ pieces) = stanza_with form (n + 1) pieces
+stanza_with form n (Group line more ∷ pieces) = record {
   line = n;
-  raw = concat (without_last_comments commented (flat_map lines_of_piece (Group line more ∷ pieces)));
+  raw = concat (without_last_comments form (flat_map lines_of_piece (Group line more ∷ pieces)));
   fields = fields_in n (Group line more ∷ pieces);
 } ∷ []
 
 -- these are the stanzas of the parts between separators, of which the first begins at line n
-abbrev pub AreStanzas : Bool → ℕ → List (List (List ℕ)) → List StanzaText → Type 0
-AreStanzas commented n [] stanzas = stanzas ≡ []
-AreStanzas commented n (part ∷ parts) stanzas =
-    (pieces : List Piece) × Groups commented part pieces
-    × ((later : List StanzaText) × (stanzas ≡ stanza_with commented n pieces ++ later) × AreStanzas commented (n + length part + 1) parts later)
+abbrev pub AreStanzas : Form → ℕ → List (List (List ℕ)) → List StanzaText → Type 0
+AreStanzas form n [] stanzas = stanzas ≡ []
+AreStanzas form n (part ∷ parts) stanzas =
+    (pieces : List Piece) × Groups form part pieces
+    × ((later : List StanzaText) × (stanzas ≡ stanza_with form n pieces ++ later) × AreStanzas form (n + length part + 1) parts later)
 
 -- lines can be grouped into these stanzas
-abbrev pub AreGrouped : Bool → List (List ℕ) → List StanzaText → Type 0
-AreGrouped commented lines stanzas = AreStanzas commented 1 (slice_split is_separator lines) stanzas
+abbrev pub AreGrouped : Form → List (List ℕ) → List StanzaText → Type 0
+AreGrouped form lines stanzas = AreStanzas form 1 (slice_split is_separator lines) stanzas
 
 -- the text is a control file of these stanzas
-abbrev pub IsFile : Bool → List ℕ → List StanzaText → Type 0
-IsFile commented text stanzas = AreGrouped commented (lines_of text) stanzas
+abbrev pub IsFile : Form → List ℕ → List StanzaText → Type 0
+IsFile form text stanzas = AreGrouped form (lines_of text) stanzas
 
 -- the reason why line n fits no grouping, by the first test that it fails: no colon, or nothing to continue; then its name; else it is there already
 abbrev pub reason_of : ℕ → List ℕ → StanzaError
@@ -86,23 +87,23 @@ reason_of n line =
     else DuplicateField n
 
 -- the first line of the text that no grouping allows, and the reason
-pub record IsBad (commented : Bool) (text : List ℕ) (fault : StanzaError) : Type 0 where
+pub record IsBad (form : Form) (text : List ℕ) (fault : StanzaError) : Type 0 where
   pub before : List (List ℕ)
   pub line : List ℕ
   pub after : List (List ℕ)
   pub lines : lines_of text ≡ before ++ line ∷ after
-  pub allowed : (stanzas : List StanzaText) × AreGrouped commented before stanzas
-  pub refused : (stanzas : List StanzaText) → ¬ AreGrouped commented (before ++ line ∷ []) stanzas
+  pub allowed : (stanzas : List StanzaText) × AreGrouped form before stanzas
+  pub refused : (stanzas : List StanzaText) → ¬ AreGrouped form (before ++ line ∷ []) stanzas
   pub reason : fault ≡ reason_of (length before + 1) line
 
 -- the items tell what the text is: stanzas alone exactly where it is a file of these, a fault at the end exactly where it is the first
-pub record IsReading (commented : Bool) (text : List ℕ) (items : List (Result StanzaText StanzaError)) : Type 0 where
-  pub file : (stanzas : List StanzaText) → (items ≡ map Ok stanzas) ↔ IsFile commented text stanzas
-  pub fault : (fault : StanzaError) → ((stanzas : List StanzaText) × (items ≡ map Ok stanzas ++ Err fault ∷ [])) ↔ IsBad commented text fault
+pub record IsReading (form : Form) (text : List ℕ) (items : List (Result StanzaText StanzaError)) : Type 0 where
+  pub file : (stanzas : List StanzaText) → (items ≡ map Ok stanzas) ↔ IsFile form text stanzas
+  pub fault : (fault : StanzaError) → ((stanzas : List StanzaText) × (items ≡ map Ok stanzas ++ Err fault ∷ [])) ↔ IsBad form text fault
   pub count : length items ≤ length text
 
 -- the bytes of the stanza, read by themselves, are that stanza with its lines counted from 1
-pub record IsAlone (commented : Bool) (stanza : StanzaText) : Type 0 where
-  pub itself : stanza ≡ stanza_of commented stanza.line (lines_of stanza.raw)
-  pub alone : items_of commented stanza.raw ≡ Ok (stanza_of commented 1 (lines_of stanza.raw)) ∷ []
-  pub values : (name : List ℕ) → value_named name (fields_of commented 1 (lines_of stanza.raw)) ≡ value_named name stanza.fields
+pub record IsAlone (form : Form) (stanza : StanzaText) : Type 0 where
+  pub itself : stanza ≡ stanza_of form stanza.line (lines_of stanza.raw)
+  pub alone : items_of form stanza.raw ≡ Ok (stanza_of form 1 (lines_of stanza.raw)) ∷ []
+  pub values : (name : List ℕ) → value_named name (fields_of form 1 (lines_of stanza.raw)) ≡ value_named name stanza.fields

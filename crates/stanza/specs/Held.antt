@@ -1,5 +1,6 @@
 -- Bytes that were read and wait to be cut into stanzas.
-use Rattle.std.specs.Prelude.{◌≡◌, ℕ, ◌+◌, ◌-◌, ◌<◌, ◌≤◌, ◌^◌, ◌⊎◌, Bool, true, false, List, [], ◌∷◌, ◌++◌, length, take, drop, Option, None, Some, Result, Ok, Err}
+use Rattle.std.specs.Prelude.{◌≡◌, ℕ, ◌+◌, ◌-◌, ◌<◌, ◌≤◌, ◌^◌, Bool, true, false, List, [], ◌∷◌, ◌++◌, length, take, drop, Option, None, Some, Result, Ok, Err}
+use Rattle.stanza.specs.declared.form.Form.{Form}
 use Rattle.stanza.specs.declared.error.ReadError.{ReadError}
 use Rattle.stanza.specs.declared.error.ReadError.TheVariants.{Refused, TooLarge}
 use Rattle.stanza.specs.declared.error.StanzaError.{StanzaError}
@@ -27,21 +28,21 @@ abbrev pub total_of : Held → ℕ
 total_of held = length (pending_of held) + held.room
 
 -- what is still to be answered, where these bytes are left in the source
-abbrev pub read_of : Bool → Held → List ℕ → List (Result StanzaText ReadError)
-read_of commented held left = read_within commented (held.before + 1) (length (pending_of held) + held.room) (pending_of held ++ left)
+abbrev pub read_of : Form → Held → List ℕ → List (Result StanzaText ReadError)
+read_of form held left = read_within form (held.before + 1) (length (pending_of held) + held.room) (pending_of held ++ left)
 
 -- the bytes of a stanza
 abbrev pub raw_at : List ℕ → Place → List ℕ
 raw_at bytes place = take place.len (drop place.from bytes)
 
 -- the stanza that stands there
-abbrev pub stanza_at : Bool → List ℕ → Place → StanzaText
-stanza_at commented bytes place = stanza_of commented place.line (lines_of (raw_at bytes place))
+abbrev pub stanza_at : Form → List ℕ → Place → StanzaText
+stanza_at form bytes place = stanza_of form place.line (lines_of (raw_at bytes place))
 
 -- a stanza stands there, whose fields begin so
-pub record IsPlaced (commented : Bool) (bytes : List ℕ) (place : Place) (starts : List Start) : Type 0 where
+pub record IsPlaced (form : Form) (bytes : List ℕ) (place : Place) (starts : List Start) : Type 0 where
   pub some : 0 < length (raw_at bytes place)
-  pub starts_are : starts ≡ starts_of commented 0 place.line (lines_of (raw_at bytes place))
+  pub starts_are : starts ≡ starts_of form 0 place.line (lines_of (raw_at bytes place))
 
 -- of the text that is held and left in a source some more is held, and nothing is lost
 pub record FillsWith (old new : Held) (left more : List ℕ) : Type 0 where
@@ -50,34 +51,34 @@ pub record FillsWith (old new : Held) (left more : List ℕ) : Type 0 where
   pub before : old.before ≡ new.before
 
 -- what is still to be answered begins with a stanza that stands there, and goes on with what the new ones have
-pub record GivesStanza (is_over commented : Bool) (old new : Held) (starts : List Start) (place : Place) : Type 0 where
-  pub placed : IsPlaced commented new.bytes.items place starts
+pub record GivesStanza (is_over : Bool) (form : Form) (old new : Held) (starts : List Start) (place : Place) : Type 0 where
+  pub placed : IsPlaced form new.bytes.items place starts
   pub less : total_of new < total_of old
-  pub read : (left : List ℕ) → MayFollow is_over left → read_of commented old left ≡ Ok (stanza_at commented new.bytes.items place) ∷ read_of commented new left
+  pub read : (left : List ℕ) → MayFollow is_over left → read_of form old left ≡ Ok (stanza_at form new.bytes.items place) ∷ read_of form new left
 
 -- nothing is still to be answered
-pub record GivesNothing (is_over commented : Bool) (old new : Held) : Type 0 where
+pub record GivesNothing (is_over : Bool) (form : Form) (old new : Held) : Type 0 where
   pub over : is_over ≡ true
-  pub read : (left : List ℕ) → MayFollow is_over left → read_of commented old left ≡ []
-  pub none : (left : List ℕ) → MayFollow is_over left → read_of commented new left ≡ []
+  pub read : (left : List ℕ) → MayFollow is_over left → read_of form old left ≡ []
+  pub none : (left : List ℕ) → MayFollow is_over left → read_of form new left ≡ []
 
 -- more is needed: where no more may be read, the text is too large
-pub record NeedsMore (is_over commented : Bool) (old new : Held) : Type 0 where
+pub record NeedsMore (is_over : Bool) (form : Form) (old new : Held) : Type 0 where
   pub more : is_over ≡ false
-  pub read : (left : List ℕ) → read_of commented old left ≡ read_of commented new left
-  pub large : (left : List ℕ) → 0 < length left → new.room ≡ 0 → read_of commented new left ≡ Err TooLarge ∷ []
+  pub read : (left : List ℕ) → read_of form old left ≡ read_of form new left
+  pub large : (left : List ℕ) → 0 < length left → new.room ≡ 0 → read_of form new left ≡ Err TooLarge ∷ []
 
 -- what was found in the bytes that are held
-abbrev pub IsCut : Bool → Bool → Held → Held → List Start → Cut → Type 0
-IsCut is_over commented old new starts (cut.Stanza place) = GivesStanza is_over commented old new starts place
-IsCut is_over commented old new starts cut.Nothing = GivesNothing is_over commented old new
-IsCut is_over commented old new starts cut.More = NeedsMore is_over commented old new
+abbrev pub IsCut : Bool → Form → Held → Held → List Start → Cut → Type 0
+IsCut is_over form old new starts (cut.Stanza place) = GivesStanza is_over form old new starts place
+IsCut is_over form old new starts cut.Nothing = GivesNothing is_over form old new
+IsCut is_over form old new starts cut.More = NeedsMore is_over form old new
 
 -- what is still to be answered is this fault
-abbrev pub IsRefused : Bool → Bool → Held → StanzaError → Type 0
-IsRefused is_over commented held fault = (left : List ℕ) → MayFollow is_over left → read_of commented held left ≡ Err (Refused fault) ∷ []
+abbrev pub IsRefused : Bool → Form → Held → StanzaError → Type 0
+IsRefused is_over form held fault = (left : List ℕ) → MayFollow is_over left → read_of form held left ≡ Err (Refused fault) ∷ []
 
 -- what was found of the text that is held and left: a stanza, or that nothing comes
-abbrev pub Finds : Bool → Held → Held → List ℕ → List ℕ → Option Place → Type 0
-Finds commented old new left more None = (read_of commented old left ≡ []) × (read_of commented new more ≡ [])
-Finds commented old new left more (Some place) = read_of commented old left ≡ Ok (stanza_at commented new.bytes.items place) ∷ read_of commented new more
+abbrev pub Finds : Form → Held → Held → List ℕ → List ℕ → Option Place → Type 0
+Finds form old new left more None = (read_of form old left ≡ []) × (read_of form new more ≡ [])
+Finds form old new left more (Some place) = read_of form old left ≡ Ok (stanza_at form new.bytes.items place) ∷ read_of form new more

@@ -1,5 +1,6 @@
 -- What a reader of a text that comes piece by piece shows.
-use Rattle.std.specs.Prelude.{◌≡◌, ℕ, ◌+◌, Bool, true, false, List, [], ◌∷◌, ◌++◌, length, Option, None, Some, Result, Ok, Err}
+use Rattle.std.specs.Prelude.{◌≡◌, ℕ, ◌+◌, List, [], ◌∷◌, ◌++◌, length, Option, None, Some, Result, Ok}
+use Rattle.stanza.specs.declared.form.Form.{Form}
 use Rattle.stanza.specs.declared.error.ReadError.{ReadError}
 use Rattle.stanza.specs.Stanza.{StanzaText}
 use Rattle.stanza.specs.Streamed.{read_within}
@@ -7,7 +8,7 @@ use Rattle.stanza.specs.Streamed.{read_within}
 -- the form that is read, the number of the line that comes next, the bytes that were read and wait, how many more may be
 -- read, the stanza that was reached, and the error that was answered
 pub record Reading : Type 0 where
-  pub commented : Bool
+  pub form : Form
   pub number : ℕ
   pub pending : List ℕ
   pub room : ℕ
@@ -15,12 +16,12 @@ pub record Reading : Type 0 where
   pub failed : Option ReadError
 
 -- nothing was read yet
-abbrev pub begins : Bool → ℕ → Reading
-begins commented most = record { commented = commented; number = 1; pending = []; room = most; stanza = None; failed = None }
+abbrev pub begins : Form → ℕ → Reading
+begins form most = record { form = form; number = 1; pending = []; room = most; stanza = None; failed = None }
 
 -- what is still to be answered, where these bytes are left
 abbrev pub to_read : Reading → List ℕ → List (Result StanzaText ReadError)
-to_read reading left = read_within reading.commented reading.number (length reading.pending + reading.room) (reading.pending ++ left)
+to_read reading left = read_within reading.form reading.number (length reading.pending + reading.room) (reading.pending ++ left)
 
 -- what was answered: the stanza that was reached, or that nothing comes
 abbrev pub Reaches : Option StanzaText → List (Result StanzaText ReadError) → List (Result StanzaText ReadError) → Type 0

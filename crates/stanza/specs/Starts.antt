@@ -1,16 +1,17 @@
 -- Where the fields of a stanza begin in its bytes: what a reader notes of each, so that its lines are cut once.
-use Rattle.std.specs.Prelude.{◌≡◌, ℕ, ◌+◌, ◌<◌, Bool, List, [], ◌∷◌, length, take, drop, if◌then◌else◌}
+use Rattle.std.specs.Prelude.{◌≡◌, ℕ, ◌+◌, ◌<◌, List, [], ◌∷◌, length, take, drop, if◌then◌else◌}
 use Rattle.std.specs.List.{AllByRecursion}
+use Rattle.stanza.specs.declared.form.Form.{Form}
 use Rattle.stanza.specs.declared.starts.Start.{Start}
 use Rattle.stanza.specs.Line.{lines_of, begins_field}
 use Rattle.stanza.specs.Field.{FieldText, name_of, field_of, continued}
 
 -- where those of the lines stand that begin a field: the first line begins at this offset, and is line n
-abbrev pub starts_of : Bool → ℕ → ℕ → List (List ℕ) → List Start
-starts_of commented at n [] = []
-starts_of commented at n (line ∷ lines) =
-    if begins_field commented line then record { at = at; name_len = length (name_of line); line = n } ∷ starts_of commented (at + length line) (n + 1) lines
-    else starts_of commented (at + length line) (n + 1) lines
+abbrev pub starts_of : Form → ℕ → ℕ → List (List ℕ) → List Start
+starts_of form at n [] = []
+starts_of form at n (line ∷ lines) =
+    if begins_field form line then record { at = at; name_len = length (name_of line); line = n } ∷ starts_of form (at + length line) (n + 1) lines
+    else starts_of form (at + length line) (n + 1) lines
 
 -- the field whose line is the first of these, which is line n
 abbrev pub first_field : ℕ → List (List ℕ) → FieldText

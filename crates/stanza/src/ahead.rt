@@ -9,6 +9,7 @@ ghost use Rattle.stanza.specs.Streamed.{BeginsAhead, EndsLine, FindsAhead, IsFau
 ghost use Rattle.stanza.specs.declared.error.ReadError.TheVariants as read_error;
 
 use crate::error::{ReadError, StanzaError};
+use crate::form::Form;
 use crate::front::{end_after, may_repeat, name_on};
 use crate::known::Known;
 use crate::lines::{NEWLINE, is_comment, is_separator};
@@ -39,16 +40,16 @@ pub fn whole_line(text: &[u8], is_over: bool) -> Option<usize>
 }
 
 // Whether the line stands between stanzas.
-fn is_gap(commented: bool, line: &[u8]) -> bool
-    ensures { result ≡ (is_comment commented line.now || is_separator line.now) }
+fn is_gap(form: Form, line: &[u8]) -> bool
+    ensures { result ≡ (is_comment form line.now || is_separator line.now) }
 {
-    is_comment(commented, line) || is_separator(line)
+    is_comment(form, line) || is_separator(line)
 }
 
 /// How many bytes, of how many lines, stand before the first stanza.
-pub fn gap_ahead(commented: bool, text: &[u8], is_over: bool) -> (usize, usize)
-    ensures skipped { (n : ℕ) → SkipsAhead is_over commented n text.now result.0 result.1 }
-    ensures begins { BeginsAhead is_over commented (drop result.0 text.now) }
+pub fn gap_ahead(form: Form, text: &[u8], is_over: bool) -> (usize, usize)
+    ensures skipped { (n : ℕ) → SkipsAhead is_over form n text.now result.0 result.1 }
+    ensures begins { BeginsAhead is_over form (drop result.0 text.now) }
 {
     let mut offset = 0;
     let mut lines = 0;
@@ -57,7 +58,7 @@ pub fn gap_ahead(commented: bool, text: &[u8], is_over: bool) -> (usize, usize)
         let Some(len) = whole_line(rest, is_over) else {
             return (offset, lines);
         };
-        if !is_gap(commented, rest.split_at(len).0) {
+        if !is_gap(form, rest.split_at(len).0) {
             return (offset, lines);
         }
         offset += len;
@@ -68,18 +69,18 @@ pub fn gap_ahead(commented: bool, text: &[u8], is_over: bool) -> (usize, usize)
 
 // Whether a field before has the name, which may stand but once.
 fn is_known(
-    commented: bool,
+    form: Form,
     done: &[u8],
     starts: &[Start],
     known: &mut Known,
     name: &[u8],
 ) -> Result<bool, AllocError>
-    requires known { AreKnown known.old (names_of commented (lines_of done.now)) }
-    requires starts { (n : ℕ) × (starts.now ≡ starts_of commented 0 n (lines_of done.now)) }
-    ensures repeated { IfOk result (λ is. is ≡ is_repeated commented (lines_of done.now) name.now) }
-    ensures known { OnOk result (AreKnown known.new (names_of commented (lines_of done.now))) }
+    requires known { AreKnown known.old (names_of form (lines_of done.now)) }
+    requires starts { (n : ℕ) × (starts.now ≡ starts_of form 0 n (lines_of done.now)) }
+    ensures repeated { IfOk result (λ is. is ≡ is_repeated form (lines_of done.now) name.now) }
+    ensures known { OnOk result (AreKnown known.new (names_of form (lines_of done.now))) }
 {
-    if may_repeat(commented, name) {
+    if may_repeat(form, name) {
         return Ok(false);
     }
     known.has(done, starts, name)
@@ -87,7 +88,7 @@ fn is_known(
 
 // Tests the line, which stands after `done` in its stanza, and notes the field that it begins.
 fn take_line(
-    commented: bool,
+    form: Form,
     done: &[u8],
     opened: bool,
     number: usize,
@@ -95,20 +96,20 @@ fn take_line(
     known: &mut Known,
     starts: &mut Vec<Start>,
 ) -> Result<(), ReadError>
-    requires follows { opened ≡ is_open commented (lines_of done.now) }
-    requires known { AreKnown known.old (names_of commented (lines_of done.now)) }
-    requires starts { (n : ℕ) × (starts.old.items ≡ starts_of commented 0 n (lines_of done.now)) × (number ≡ n + length (lines_of done.now)) }
-    ensures clean { IfOk result (λ _. fault_of commented (lines_of done.now) number line.now ≡ None) }
-    ensures known { IfOk result (λ _. AreKnown known.new (names_of commented (lines_of done.now ++ line.now ∷ []))) }
+    requires follows { opened ≡ is_open form (lines_of done.now) }
+    requires known { AreKnown known.old (names_of form (lines_of done.now)) }
+    requires starts { (n : ℕ) × (starts.old.items ≡ starts_of form 0 n (lines_of done.now)) × (number ≡ n + length (lines_of done.now)) }
+    ensures clean { IfOk result (λ _. fault_of form (lines_of done.now) number line.now ≡ None) }
+    ensures known { IfOk result (λ _. AreKnown known.new (names_of form (lines_of done.now ++ line.now ∷ []))) }
     ensures starts { IfOk result (λ _. (n : ℕ) → number ≡ n + length (lines_of done.now)
-        → starts.new.items ≡ starts_of commented 0 n (lines_of done.now ++ line.now ∷ [])) }
+        → starts.new.items ≡ starts_of form 0 n (lines_of done.now ++ line.now ∷ [])) }
     ensures fault { IfErr result (λ e. (e ≡ read_error.OutOfMemory)
-        ⊎ ((fault : _) × (e ≡ read_error.Refused fault) × (fault_of commented (lines_of done.now) number line.now ≡ Some fault))) }
+        ⊎ ((fault : _) × (e ≡ read_error.Refused fault) × (fault_of form (lines_of done.now) number line.now ≡ Some fault))) }
 {
-    let Some(name) = name_on(commented, opened, number, line)? else {
+    let Some(name) = name_on(form, opened, number, line)? else {
         return Ok(());
     };
-    if is_known(commented, done, starts.as_slice(), known, name)? {
+    if is_known(form, done, starts.as_slice(), known, name)? {
         return Err(ReadError::Refused(StanzaError::DuplicateField(number)));
     }
     known.add(name);
@@ -123,18 +124,18 @@ fn take_line(
 /// The stanza at the front of a text that isn't empty, whose first line stands after `before` others, and where its fields begin:
 /// nothing where more of the text has to be read. About linear in the stanza.
 pub fn stanza_ahead(
-    commented: bool,
+    form: Form,
     before: usize,
     text: &[u8],
     is_over: bool,
     starts: &mut Vec<Start>,
 ) -> Result<Option<Ahead>, ReadError>
     requires some { 0 < length text.now }
-    requires begins { BeginsAhead is_over commented text.now }
+    requires begins { BeginsAhead is_over form text.now }
     requires fits { before + length text.now < 2 ^ 64 }
-    ensures found { IfOk result (λ found. FindsAhead is_over commented (before + 1) text.now starts.new.items found) }
+    ensures found { IfOk result (λ found. FindsAhead is_over form (before + 1) text.now starts.new.items found) }
     ensures fault { IfErr result (λ e. (e ≡ read_error.OutOfMemory)
-        ⊎ ((fault : _) × (e ≡ read_error.Refused fault) × IsFaulty is_over commented (before + 1) text.now fault)) }
+        ⊎ ((fault : _) × (e ≡ read_error.Refused fault) × IsFaulty is_over form (before + 1) text.now fault)) }
 {
     starts.clear();
     let mut known = Known::new(*starts.allocator());
@@ -156,7 +157,7 @@ pub fn stanza_ahead(
             }));
         }
         take_line(
-            commented,
+            form,
             done,
             opened,
             before + lines + 1,
@@ -166,7 +167,7 @@ pub fn stanza_ahead(
         )?;
         offset += len;
         lines += 1;
-        opened = !is_comment(commented, line);
+        opened = !is_comment(form, line);
         end = end_after(opened, end, offset);
     }
     if is_over {

@@ -5,6 +5,7 @@ ghost use Rattle.stanza.specs.Line.{lines_of, begins_field};
 ghost use Rattle.stanza.specs.Field.{FieldText, fields_of, continued};
 ghost use Rattle.stanza.specs.Cut.{SkipsLines, CutsContinuations};
 
+use crate::form::Form;
 use crate::lines::{begins_field, cut_line, is_continuation};
 use crate::values::{name_of, value_of};
 use std::marker::Model;
@@ -73,13 +74,13 @@ impl<'a> Field<'a> {
 pub struct Fields<'a> {
     rest: &'a [u8],
     before: usize,
-    commented: bool,
+    form: Form,
 }
 
 impl<'a> Model for Fields<'a> {
     ghost Value = { List FieldText };
 
-    ghost view = { λ s. fields_of s.commented (s.before + 1) (lines_of s.rest.now) };
+    ghost view = { λ s. fields_of s.form (s.before + 1) (lines_of s.rest.now) };
 
     ghost invariant = { λ s. s.before + length s.rest.now < 2 ^ 64 };
 }
@@ -87,14 +88,14 @@ impl<'a> Model for Fields<'a> {
 impl<'a> Fields<'a> {
     /// The fields of these lines, which stand after `before` others.
     #[inline]
-    pub(crate) fn new(commented: bool, before: usize, lines: &'a [u8]) -> Fields<'a>
+    pub(crate) fn new(form: Form, before: usize, lines: &'a [u8]) -> Fields<'a>
         requires { before + length lines.now < 2 ^ 64 }
-        ensures { result ≡ fields_of commented (before + 1) (lines_of lines.now) }
+        ensures { result ≡ fields_of form (before + 1) (lines_of lines.now) }
     {
         Fields {
             rest: lines,
             before,
-            commented,
+            form,
         }
     }
 }
@@ -108,7 +109,7 @@ impl<'a> Iterator for Fields<'a> {
 
     #[inline]
     fn next(&mut self) -> Option<Field<'a>> {
-        let (field, rest, before) = take_field(self.commented, self.before, self.rest);
+        let (field, rest, before) = take_field(self.form, self.before, self.rest);
         self.rest = rest;
         self.before = before;
         field
@@ -117,19 +118,15 @@ impl<'a> Iterator for Fields<'a> {
 
 /// The first field of the lines, which stand after `before` others, and what follows it.
 #[inline]
-fn take_field<'a>(
-    commented: bool,
-    before: usize,
-    text: &'a [u8],
-) -> (Option<Field<'a>>, &'a [u8], usize)
+fn take_field<'a>(form: Form, before: usize, text: &'a [u8]) -> (Option<Field<'a>>, &'a [u8], usize)
     requires { before + length text.now < 2 ^ 64 }
     ensures taken { MatchOption result.0
-        ((fields_of commented (before + 1) (lines_of text.now) ≡ []) × (result.1.now ≡ []))
-        (λ field. fields_of commented (before + 1) (lines_of text.now)
-        ≡ field ∷ fields_of commented (result.2 + 1) (lines_of result.1.now)) }
+        ((fields_of form (before + 1) (lines_of text.now) ≡ []) × (result.1.now ≡ []))
+        (λ field. fields_of form (before + 1) (lines_of text.now)
+        ≡ field ∷ fields_of form (result.2 + 1) (lines_of result.1.now)) }
     ensures within { result.2 + length result.1.now < 2 ^ 64 }
 {
-    let (text, skipped) = skip_to_field(commented, text);
+    let (text, skipped) = skip_to_field(form, text);
     let before = before + skipped;
     if text.is_empty() {
         return (None, text, before);
@@ -146,13 +143,13 @@ fn take_field<'a>(
 }
 
 /// The text from the first line on that begins a field, and how many lines stand before it.
-fn skip_to_field(commented: bool, text: &[u8]) -> (&[u8], usize)
-    ensures skipped { SkipsLines commented text.now result.0.now result.1 }
-    ensures field { begins_field commented result.0.now ≡ true }
+fn skip_to_field(form: Form, text: &[u8]) -> (&[u8], usize)
+    ensures skipped { SkipsLines form text.now result.0.now result.1 }
+    ensures field { begins_field form result.0.now ≡ true }
 {
     let mut rest = text;
     let mut skipped = 0;
-    while !begins_field(commented, rest) {
+    while !begins_field(form, rest) {
         let (_, after) = cut_line(rest);
         rest = after;
         skipped += 1;

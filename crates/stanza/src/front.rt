@@ -9,6 +9,7 @@ ghost use Rattle.stanza.specs.Front.{BeginsStanza, IsFront, HasFault};
 
 use crate::entries::Fields;
 use crate::error::StanzaError;
+use crate::form::{Form, has_comments};
 use crate::lines::{cut_line, is_comment, is_continuation, is_separator};
 use crate::names::{is_name, same_name};
 use crate::seen::Seen;
@@ -24,16 +25,12 @@ pub struct Front<'a> {
 }
 
 /// The stanza at the front of a text, whose first line stands after `before` others and belongs to it.
-pub fn first_stanza<'a>(
-    commented: bool,
-    before: usize,
-    text: &'a [u8],
-) -> Result<Front<'a>, StanzaError>
-    requires begins { BeginsStanza commented text.now }
+pub fn first_stanza<'a>(form: Form, before: usize, text: &'a [u8]) -> Result<Front<'a>, StanzaError>
+    requires begins { BeginsStanza form text.now }
     requires fits { before + length text.now < 2 ^ 64 }
     ensures { MatchResult result
-        (λ front. IsFront commented (before + 1) text.now front.raw.now front.rest.now front.lines)
-        (λ fault. HasFault commented (before + 1) text.now fault) }
+        (λ front. IsFront form (before + 1) text.now front.raw.now front.rest.now front.lines)
+        (λ fault. HasFault form (before + 1) text.now fault) }
 {
     let mut seen = Seen::new();
     let mut offset = 0;
@@ -47,10 +44,10 @@ pub fn first_stanza<'a>(
             let (raw, _) = text.split_at(end);
             return Ok(Front { raw, rest, lines });
         }
-        test_line(commented, done, opened, before + lines + 1, line, &mut seen)?;
+        test_line(form, done, opened, before + lines + 1, line, &mut seen)?;
         offset += line.len();
         lines += 1;
-        opened = !is_comment(commented, line);
+        opened = !is_comment(form, line);
         end = end_after(opened, end, offset);
     }
     let (raw, _) = text.split_at(end);
@@ -67,16 +64,16 @@ pub(crate) fn end_after(opened: bool, end: usize, offset: usize) -> usize
 
 /// The name on the line, which stands behind an open field or not, where it begins a field.
 pub(crate) fn name_on<'a>(
-    commented: bool,
+    form: Form,
     opened: bool,
     number: usize,
     line: &'a [u8],
 ) -> Result<Option<&'a [u8]>, StanzaError>
     ensures { MatchResult result
-        (λ found. FindsName commented opened number line.now found)
-        (λ fault. (before : List (List ℕ)) → opened ≡ is_open commented before → fault_of commented before number line.now ≡ Some fault) }
+        (λ found. FindsName form opened number line.now found)
+        (λ fault. (before : List (List ℕ)) → opened ≡ is_open form before → fault_of form before number line.now ≡ Some fault) }
 {
-    if is_comment(commented, line) {
+    if is_comment(form, line) {
         return Ok(None);
     }
     if is_continuation(line) {
@@ -98,24 +95,24 @@ pub(crate) fn name_on<'a>(
 
 /// Tests the line, which stands after `done` in its stanza, and takes the slot of a new name.
 fn test_line(
-    commented: bool,
+    form: Form,
     done: &[u8],
     opened: bool,
     number: usize,
     line: &[u8],
     seen: &mut Seen,
 ) -> Result<(), StanzaError>
-    requires follows { opened ≡ is_open commented (lines_of done.now) }
-    requires seen { AreSeen seen.old.slots (names_of commented (lines_of done.now)) }
+    requires follows { opened ≡ is_open form (lines_of done.now) }
+    requires seen { AreSeen seen.old.slots (names_of form (lines_of done.now)) }
     ensures { MatchResult result
-        (λ _. (fault_of commented (lines_of done.now) number line.now ≡ None)
-        × AreSeen seen.new.slots (names_of commented (lines_of done.now ++ line.now ∷ [])))
-        (λ fault. fault_of commented (lines_of done.now) number line.now ≡ Some fault) }
+        (λ _. (fault_of form (lines_of done.now) number line.now ≡ None)
+        × AreSeen seen.new.slots (names_of form (lines_of done.now ++ line.now ∷ [])))
+        (λ fault. fault_of form (lines_of done.now) number line.now ≡ Some fault) }
 {
-    let Some(name) = name_on(commented, opened, number, line)? else {
+    let Some(name) = name_on(form, opened, number, line)? else {
         return Ok(());
     };
-    if is_known(commented, done, seen, name) {
+    if is_known(form, done, seen, name) {
         return Err(StanzaError::DuplicateField(number));
     }
     seen.add(name);
@@ -123,28 +120,28 @@ fn test_line(
 }
 
 /// Whether a field before has the name, which may stand but once: where its slot is free, none has.
-fn is_known(commented: bool, done: &[u8], seen: &Seen, name: &[u8]) -> bool
-    requires { AreSeen seen.now.slots (names_of commented (lines_of done.now)) }
-    ensures { result ≡ is_repeated commented (lines_of done.now) name.now }
+fn is_known(form: Form, done: &[u8], seen: &Seen, name: &[u8]) -> bool
+    requires { AreSeen seen.now.slots (names_of form (lines_of done.now)) }
+    ensures { result ≡ is_repeated form (lines_of done.now) name.now }
 {
     if seen.has_slot_of(name) {
-        is_repeated(commented, done, name)
+        is_repeated(form, done, name)
     } else {
         false
     }
 }
 
 /// Whether a field before has the name, which may stand but once. It walks over the stanza so far.
-fn is_repeated(commented: bool, done: &[u8], name: &[u8]) -> bool
-    ensures { result ≡ is_repeated commented (lines_of done.now) name.now }
+fn is_repeated(form: Form, done: &[u8], name: &[u8]) -> bool
+    ensures { result ≡ is_repeated form (lines_of done.now) name.now }
 {
-    !may_repeat(commented, name) && has_field(commented, done, name)
+    !may_repeat(form, name) && has_field(form, done, name)
 }
 
-fn has_field(commented: bool, done: &[u8], name: &[u8]) -> bool
-    ensures { result ≡ list_any (λ field. same_name field.name name.now) (fields_of commented 1 (lines_of done.now)) }
+fn has_field(form: Form, done: &[u8], name: &[u8]) -> bool
+    ensures { result ≡ list_any (λ field. same_name field.name name.now) (fields_of form 1 (lines_of done.now)) }
 {
-    for field in Fields::new(commented, 0, done) {
+    for field in Fields::new(form, 0, done) {
         if same_name(field.name(), name) {
             return true;
         }
@@ -153,8 +150,8 @@ fn has_field(commented: bool, done: &[u8], name: &[u8]) -> bool
 }
 
 /// Whether a stanza may have several fields of the name.
-pub(crate) fn may_repeat(commented: bool, name: &[u8]) -> bool
-    ensures { result ≡ may_repeat commented name.now }
+pub(crate) fn may_repeat(form: Form, name: &[u8]) -> bool
+    ensures { result ≡ may_repeat form name.now }
 {
-    commented && same_name(name, b"Explanation")
+    has_comments(form) && same_name(name, b"Explanation")
 }

@@ -7,6 +7,7 @@ ghost use Rattle.stanza.specs.declared.error.ReadError.TheVariants as read_error
 
 use crate::ahead::{gap_ahead, stanza_ahead};
 use crate::error::ReadError;
+use crate::form::Form;
 use crate::source::Source;
 use crate::starts::Start;
 use std::alloc::{AllocError, Global};
@@ -130,15 +131,15 @@ impl Held {
     }
 
     // Goes past what stands before the next stanza.
-    fn skip_gap(&mut self, commented: bool, is_over: bool)
+    fn skip_gap(&mut self, form: Form, is_over: bool)
         requires { IsHeld self.old }
         ensures held { IsHeld self.new }
         ensures bytes { (self.new.bytes.items ≡ self.old.bytes.items) × (self.new.room ≡ self.old.room) }
         ensures total { total_of self.new ≤ total_of self.old }
-        ensures read { (left : List ℕ) → MayFollow is_over left → read_of commented self.old left ≡ read_of commented self.new left }
-        ensures begins { BeginsAhead is_over commented (pending_of self.new) }
+        ensures read { (left : List ℕ) → MayFollow is_over left → read_of form self.old left ≡ read_of form self.new left }
+        ensures begins { BeginsAhead is_over form (pending_of self.new) }
     {
-        let (len, lines) = gap_ahead(commented, self.bytes.split_at(self.begin).1, is_over);
+        let (len, lines) = gap_ahead(form, self.bytes.split_at(self.begin).1, is_over);
         self.begin += len;
         self.before += lines;
     }
@@ -146,7 +147,7 @@ impl Held {
     /// Cuts the next stanza out of what is held, and notes where its fields begin.
     pub fn cut(
         &mut self,
-        commented: bool,
+        form: Form,
         is_over: bool,
         starts: &mut Vec<Start>,
     ) -> Result<Cut, ReadError>
@@ -154,16 +155,16 @@ impl Held {
         ensures held { IsHeld self.new }
         ensures room { self.new.room ≡ self.old.room }
         ensures total { total_of self.new ≤ total_of self.old }
-        ensures found { IfOk result (λ cut. IsCut is_over commented self.old self.new starts.new.items cut) }
+        ensures found { IfOk result (λ cut. IsCut is_over form self.old self.new starts.new.items cut) }
         ensures fault { IfErr result (λ e. (e ≡ read_error.OutOfMemory)
-            ⊎ ((fault : _) × (e ≡ read_error.Refused fault) × IsRefused is_over commented self.old fault)) }
+            ⊎ ((fault : _) × (e ≡ read_error.Refused fault) × IsRefused is_over form self.old fault)) }
     {
-        self.skip_gap(commented, is_over);
+        self.skip_gap(form, is_over);
         let text = self.bytes.split_at(self.begin).1;
         if text.is_empty() {
             return Ok(if is_over { Cut::Nothing } else { Cut::More });
         }
-        let Some(ahead) = stanza_ahead(commented, self.before, text, is_over, starts)? else {
+        let Some(ahead) = stanza_ahead(form, self.before, text, is_over, starts)? else {
             return Ok(Cut::More);
         };
         let place = Place {

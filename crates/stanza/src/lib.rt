@@ -7,6 +7,7 @@
 mod ahead;
 mod entries;
 mod error;
+mod form;
 mod front;
 mod held;
 mod known;
@@ -23,6 +24,7 @@ mod walk;
 
 pub use entries::{Field, Fields};
 pub use error::{ReadError, StanzaError};
+pub use form::Form;
 pub use reader::Reader;
 pub use source::{ReadFailed, Source};
 pub use starts::{FieldAt, ReadFields, ReadStanza};

@@ -3,6 +3,7 @@ ghost use Rattle.std.specs.Prelude.{◌≡◌, ◌<◌, ◌≤◌, ◌+◌, ◌^
 ghost use Rattle.stanza.specs.Line.{is_white, is_separator, is_comment, is_continuation, begins_field};
 ghost use Rattle.stanza.specs.Cut.{CutsLine};
 
+use crate::form::{Form, has_comments};
 use memchr::memchr;
 
 pub const NEWLINE: u8 = b'\n';
@@ -40,11 +41,11 @@ pub fn is_separator(line: &[u8]) -> bool
 }
 
 /// Whether the line is a comment.
-pub fn is_comment(commented: bool, line: &[u8]) -> bool
-    ensures { result ≡ is_comment commented line.now }
+pub fn is_comment(form: Form, line: &[u8]) -> bool
+    ensures { result ≡ is_comment form line.now }
 {
     match line {
-        [b, ..] => commented && *b == HASH,
+        [b, ..] => has_comments(form) && *b == HASH,
         [] => false,
     }
 }
@@ -60,8 +61,8 @@ pub fn is_continuation(line: &[u8]) -> bool
 }
 
 /// Whether the line begins a field.
-pub fn begins_field(commented: bool, line: &[u8]) -> bool
-    ensures { result ≡ begins_field commented line.now }
+pub fn begins_field(form: Form, line: &[u8]) -> bool
+    ensures { result ≡ begins_field form line.now }
 {
-    !is_comment(commented, line) && !is_continuation(line)
+    !is_comment(form, line) && !is_continuation(line)
 }

@@ -4,8 +4,10 @@ ghost use Rattle.std.specs.Option.{is_some};
 ghost use Rattle.stanza.specs.Held.{Finds, IsHeld, IsPlaced, read_of, total_of};
 ghost use Rattle.stanza.specs.Reading.{GoesOn, Reading, begins, to_read};
 ghost use Rattle.stanza.specs.declared.error.ReadError.TheVariants as read_error;
+ghost use Rattle.stanza.specs.declared.form.Form.TheVariants.{Commented, Plain};
 
 use crate::error::ReadError;
+use crate::form::Form;
 use crate::held::{Cut, Held, Place};
 use crate::source::Source;
 use crate::starts::{ReadStanza, Start, part};
@@ -18,7 +20,7 @@ const BLOCK: usize = 131_072;
 /// Reads the stanzas of a text one after another from a source, and holds one at a time, with a block of what comes after it.
 #[derive(Drop)]
 pub struct Reader {
-    commented: bool,
+    form: Form,
     block: Vec<u8>,
     held: Held,
     starts: Vec<Start>,
@@ -35,21 +37,21 @@ impl Model for Reader {
     ghost Value = { Reading };
 
     ghost view = { λ r. record {
-      commented = r.commented;
+      form = r.form;
       number = r.held.before + 1;
       pending = pending_of r.held;
       room = r.held.room;
-      stanza = option_map (stanza_at r.commented r.held.bytes.items) r.at;
+      stanza = option_map (stanza_at r.form r.held.bytes.items) r.at;
       failed = r.failed;
     } };
 
     ghost invariant = { λ r. (0 < length r.block.items) × (r.failed ≡ None → IsHeld r.held)
-        × IfSome r.at (λ place. IsPlaced r.commented r.held.bytes.items place r.starts.items) };
+        × IfSome r.at (λ place. IsPlaced r.form r.held.bytes.items place r.starts.items) };
 }
 
 // Cuts the next stanza out of what is held, and reads more until it is whole.
 fn read_on<S: Source>(
-    commented: bool,
+    form: Form,
     held: &mut Held,
     source: &mut S,
     block: &mut [u8],
@@ -59,12 +61,12 @@ fn read_on<S: Source>(
     requires some { 0 < length block.old }
     ensures held { OnOk result (IsHeld held.new) }
     ensures size { length block.new ≡ length block.old }
-    ensures placed { IfOk result (λ found. IfSome found (λ place. IsPlaced commented held.new.bytes.items place starts.new.items)) }
+    ensures placed { IfOk result (λ found. IfSome found (λ place. IsPlaced form held.new.bytes.items place starts.new.items)) }
     ensures less { IfOk result (λ found. IfSome found (λ _. total_of held.new < total_of held.old)) }
     ensures known { (left : List ℕ) → S.left source.old ≡ Some left → IfOk result (λ found.
-        (more : List ℕ) × (S.left source.new ≡ Some more) × Finds commented held.old held.new left more found) }
+        (more : List ℕ) × (S.left source.new ≡ Some more) × Finds form held.old held.new left more found) }
     ensures refused { (left : List ℕ) → S.left source.old ≡ Some left → IfErr result (λ e. (e ≡ read_error.OutOfMemory)
-        ⊎ (read_of commented held.old left ≡ Err e ∷ [])) }
+        ⊎ (read_of form held.old left ≡ Err e ∷ [])) }
     ensures gives { (left : List ℕ) → S.left source.old ≡ Some left → IfErr result (λ e. e ≢ read_error.Read) }
     ensures sure { S.is_sure source.old ≡ true → (S.is_sure source.new ≡ true) × IfErr result (λ e. e ≢ read_error.Read) }
     ensures count { OnOk result (S.faults source.new ≡ S.faults source.old) }
@@ -72,7 +74,7 @@ fn read_on<S: Source>(
 {
     let mut is_over = false;
     loop {
-        match held.cut(commented, is_over, starts)? {
+        match held.cut(form, is_over, starts)? {
             Cut::Stanza(place) => return Ok(Some(place)),
             Cut::Nothing => return Ok(None),
             Cut::More => is_over = held.fill(source, block)?,
@@ -83,25 +85,25 @@ fn read_on<S: Source>(
 impl Reader {
     /// A reader of the plain form: packages, status and their like. It reads no more than so many bytes.
     pub fn new(alloc: Global, most: usize) -> Result<Reader, AllocError>
-        ensures { IfOk result (λ reader. reader ≡ begins false most) }
+        ensures { IfOk result (λ reader. reader ≡ begins Plain most) }
     {
-        Reader::of_form(alloc, false, most)
+        Reader::of_form(alloc, Form::Plain, most)
     }
 
     /// A reader of the form in which a line that begins with `#` is a comment and `Explanation` may be repeated.
     pub fn with_comments(alloc: Global, most: usize) -> Result<Reader, AllocError>
-        ensures { IfOk result (λ reader. reader ≡ begins true most) }
+        ensures { IfOk result (λ reader. reader ≡ begins Commented most) }
     {
-        Reader::of_form(alloc, true, most)
+        Reader::of_form(alloc, Form::Commented, most)
     }
 
-    fn of_form(alloc: Global, commented: bool, most: usize) -> Result<Reader, AllocError>
-        ensures { IfOk result (λ reader. reader ≡ begins commented most) }
+    fn of_form(alloc: Global, form: Form, most: usize) -> Result<Reader, AllocError>
+        ensures { IfOk result (λ reader. reader ≡ begins form most) }
     {
         let mut block = Vec::new(alloc);
         block.resize(BLOCK, 0u8)?;
         Ok(Reader {
-            commented,
+            form,
             block,
             held: Held::new(alloc, most),
             starts: Vec::new(alloc),
@@ -113,7 +115,7 @@ impl Reader {
     /// Goes on to the next stanza, and answers whether there is one. After an error it answers that error from then on, and
     /// reads no more. About linear in the text, however many fields a stanza has.
     pub fn advance<S: Source>(&mut self, source: &mut S) -> Result<bool, ReadError>
-        ensures commented { self.new.commented ≡ self.old.commented }
+        ensures form { self.new.form ≡ self.old.form }
         ensures some { IfOk result (λ found. found ≡ is_some self.new.stanza) }
         ensures less { IfOk result (λ found. found ≡ true → length self.new.pending + self.new.room < length self.old.pending + self.old.room) }
         ensures known { (left : List ℕ) → S.left source.old ≡ Some left → IfOk result (λ _.
@@ -134,7 +136,7 @@ impl Reader {
         }
         self.at = None;
         match read_on(
-            self.commented,
+            self.form,
             &mut self.held,
             source,
             &mut self.block,
@@ -157,6 +159,6 @@ impl Reader {
     {
         let place = self.at?;
         let raw = part(&self.held.bytes, place.from, place.len);
-        Some(ReadStanza::new(self.commented, place.line, raw, &self.starts))
+        Some(ReadStanza::new(self.form, place.line, raw, &self.starts))
     }
 }

@@ -8,6 +8,7 @@ ghost use Rattle.stanza.specs.Stanza.{StanzaText, stanza_of};
 ghost use Rattle.stanza.specs.Starts.{AreWithin, IsWithin, field_at, first_field, starts_of};
 
 use crate::entries::{Field, continuations};
+use crate::form::Form;
 use crate::lines::cut_line;
 use crate::names::same_name;
 use crate::values::value_of;
@@ -133,7 +134,7 @@ fn field_of<'a>(raw: &'a [u8], start: &Start) -> FieldAt<'a>
 /// A stanza that was read, whose fields are known. It borrows what has read it.
 #[derive(Drop)]
 pub struct ReadStanza<'a> {
-    commented: bool,
+    form: Form,
     line: usize,
     raw: &'a [u8],
     starts: &'a [Start],
@@ -142,26 +143,21 @@ pub struct ReadStanza<'a> {
 impl<'a> Model for ReadStanza<'a> {
     ghost Value = { StanzaText };
 
-    ghost view = { λ s. stanza_of s.commented s.line (lines_of s.raw.now) };
+    ghost view = { λ s. stanza_of s.form s.line (lines_of s.raw.now) };
 
-    ghost invariant = { λ s. (0 < length s.raw.now) × (s.starts.now ≡ starts_of s.commented 0 s.line (lines_of s.raw.now)) };
+    ghost invariant = { λ s. (0 < length s.raw.now) × (s.starts.now ≡ starts_of s.form 0 s.line (lines_of s.raw.now)) };
 }
 
 impl<'a> ReadStanza<'a> {
     // The stanza of these bytes, whose first line has this number, with where its fields begin.
     #[inline]
-    pub(crate) fn new(
-        commented: bool,
-        line: usize,
-        raw: &'a [u8],
-        starts: &'a [Start],
-    ) -> ReadStanza<'a>
+    pub(crate) fn new(form: Form, line: usize, raw: &'a [u8], starts: &'a [Start]) -> ReadStanza<'a>
         requires some { 0 < length raw.now }
-        requires starts { starts.now ≡ starts_of commented 0 line (lines_of raw.now) }
-        ensures { result ≡ stanza_of commented line (lines_of raw.now) }
+        requires starts { starts.now ≡ starts_of form 0 line (lines_of raw.now) }
+        ensures { result ≡ stanza_of form line (lines_of raw.now) }
     {
         ReadStanza {
-            commented,
+            form,
             line,
             raw,
             starts,

@@ -6,6 +6,7 @@ ghost use Rattle.stanza.specs.Field.{fields_of, value_named};
 ghost use Rattle.stanza.specs.Stanza.{StanzaText, stanza_of};
 
 use crate::entries::Fields;
+use crate::form::Form;
 use crate::names::same_name;
 use std::marker::Model;
 
@@ -14,13 +15,13 @@ use std::marker::Model;
 pub struct Stanza<'a> {
     raw: &'a [u8],
     before: usize,
-    commented: bool,
+    form: Form,
 }
 
 impl<'a> Model for Stanza<'a> {
     ghost Value = { StanzaText };
 
-    ghost view = { λ s. stanza_of s.commented (s.before + 1) (lines_of s.raw.now) };
+    ghost view = { λ s. stanza_of s.form (s.before + 1) (lines_of s.raw.now) };
 
     ghost invariant = { λ s. (0 < length s.raw.now) × (s.before + length s.raw.now < 2 ^ 64) };
 }
@@ -28,16 +29,12 @@ impl<'a> Model for Stanza<'a> {
 impl<'a> Stanza<'a> {
     /// The stanza of these lines, which stand after `before` others.
     #[inline]
-    pub(crate) fn new(commented: bool, before: usize, raw: &'a [u8]) -> Stanza<'a>
+    pub(crate) fn new(form: Form, before: usize, raw: &'a [u8]) -> Stanza<'a>
         requires some { 0 < length raw.now }
         requires fits { before + length raw.now < 2 ^ 64 }
-        ensures { result ≡ stanza_of commented (before + 1) (lines_of raw.now) }
+        ensures { result ≡ stanza_of form (before + 1) (lines_of raw.now) }
     {
-        Stanza {
-            raw,
-            before,
-            commented,
-        }
+        Stanza { raw, before, form }
     }
 
     /// The same stanza once more.
@@ -45,7 +42,7 @@ impl<'a> Stanza<'a> {
     pub fn again(&self) -> Stanza<'a>
         ensures { result ≡ self.now }
     {
-        Stanza::new(self.commented, self.before, self.raw)
+        Stanza::new(self.form, self.before, self.raw)
     }
 
     /// The value of the first field of this name, whatever the case of its letters. It walks over the
@@ -66,7 +63,7 @@ impl<'a> Stanza<'a> {
     pub fn fields(&self) -> Fields<'a>
         ensures { result ≡ self.now.fields }
     {
-        Fields::new(self.commented, self.before, self.raw)
+        Fields::new(self.form, self.before, self.raw)
     }
 
     /// The number of the line of its first field.

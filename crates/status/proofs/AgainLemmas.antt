@@ -8,6 +8,7 @@ use Rattle.relation.specs.PackageStanza.{read_stanza}
 use Rattle.rules.specs.FileRecord.{FileRecord}
 use Rattle.rules.specs.Stanza.{Field, Stanza}
 use Rattle.rules.specs.declared.limits.TheConstants.{TEXT_BYTES}
+use Rattle.stanza.specs.declared.form.Form.TheVariants.{Plain}
 use Rattle.stanza.specs.Stanza.{StanzaText, items_of}
 use Rattle.stanza.specs.declared.lines.TheConstants.{NEWLINE}
 use Rattle.stanza.specs.declared.names.TheConstants.{COLON}
@@ -131,7 +132,7 @@ faithful_reads_back arch slots faithful short =
     let again = slots-again arch [] slots spelled.0 faithful.each (slots-distinct-from slots faithful.distinct) spelled.2 in
     record {
       read = again.read;
-      ok = within (slots_text slots) (slots_in arch (items_of false (slots_text slots)) []) short ∙ ap (λ items. slots_in arch items []) spelled.1 ∙ again.ok;
+      ok = within (slots_text slots) (slots_in arch (items_of Plain (slots_text slots)) []) short ∙ ap (λ items. slots_in arch items []) spelled.1 ∙ again.ok;
       same = again.same;
       records = again.records;
       again = ap file_text again.shown ∙ text-again (map stanza_of slots) writable;

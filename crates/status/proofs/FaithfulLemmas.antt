@@ -10,6 +10,7 @@ use Rattle.rules.specs.VersionFault.{first_fault}
 use Rattle.rules.specs.declared.limits.TheConstants.{TEXT_BYTES}
 use Rattle.rules.specs.declared.status.State.{State}
 use Rattle.rules.specs.declared.status.State.TheVariants.{NotInstalled, ConfigFiles, HalfInstalled, Unpacked, HalfConfigured, TriggersAwaited, TriggersPending, Installed}
+use Rattle.stanza.specs.declared.form.Form.TheVariants.{Plain}
 use Rattle.stanza.specs.Stanza.{StanzaText, items_of}
 use Rattle.stanza.specs.declared.error.StanzaError.{StanzaError}
 use Rattle.status.proofs.ReadLemmas.{read_says}
@@ -109,7 +110,7 @@ short false read slots h = h
 
 pub read_is_faithful : (arch text : List ℕ) (slots : List FileSlot) → read_status arch text ≡ Ok slots → IsFaithful arch slots
 read_is_faithful arch text slots e =
-    let items = items_of false text in
+    let items = items_of Plain text in
     let read = short (nat_lt TEXT_BYTES (length text)) (slots_in arch items []) slots e in record {
       each = slots-faithful arch items [] slots (λ stanza within. (text, stanza, within, refl)) read;
       distinct = distinct_names arch items slots read;

@@ -13,6 +13,7 @@ use Rattle.rules.specs.ElementLaws.{Contains-head}
 use Rattle.rules.specs.FileRecord.{FileRecord, IndexStanza, new_entry, unpacked_entry}
 use Rattle.rules.specs.Package.{Pkg}
 use Rattle.rules.specs.declared.index_place.IndexPlace.{IndexPlace}
+use Rattle.stanza.specs.declared.form.Form.TheVariants.{Plain}
 use Rattle.stanza.specs.Field.{value_named}
 use Rattle.stanza.specs.Stanza.{StanzaText, items_of}
 use Rattle.stanza.specs.declared.error.StanzaError.{StanzaError}
@@ -62,7 +63,7 @@ indexed-read : (place : IndexPlace) (stanza : StanzaText) (refused : Option PkgF
 indexed-read place stanza None pkg indexed h = (refl, let e : ◌≡◌ {A = Result (Option IndexStanza) IndexFault} (Ok (Some (indexed_at place stanza pkg))) (Ok (Some indexed)) = h in cc)
 indexed-read place stanza (Some refused) pkg indexed h = absurd (let e = h in cc)
 
-indexed-writable : (arch : List ℕ) (place : IndexPlace) (text : List ℕ) (stanza : StanzaText) (indexed : IndexStanza) → Contains (items_of false text) (Ok stanza)
+indexed-writable : (arch : List ℕ) (place : IndexPlace) (text : List ℕ) (stanza : StanzaText) (indexed : IndexStanza) → Contains (items_of Plain text) (Ok stanza)
     → read_entry arch place stanza ≡ Ok (Some indexed) → IsWritableIndexed indexed
 indexed-writable arch place text stanza indexed within read =
     let fields = fields_of stanza in
@@ -78,6 +79,6 @@ indexed-writable arch place text stanza indexed within read =
 pub can-unpack : (arch : List ℕ) (given : Option (List ℕ)) (indexed : IndexStanza) → handed_in arch given ≡ Some indexed → CanUnpack arch indexed
 can-unpack arch None indexed h = absurd (let e = h in cc)
 can-unpack arch (Some text) indexed h =
-    let found = entry-found arch (items_of false text) indexed h in
+    let found = entry-found arch (items_of Plain text) indexed h in
     let back = unpacked_reads_back arch (first_place 1) found.0 indexed found.2 in
     record { writable = indexed-writable arch (first_place 1) text found.0 indexed found.1 found.2; alone = back.0; over = back.1 }

@@ -3,6 +3,7 @@ use Rattle.std.proofs.Common.{◌≡◌, ℕ, ◌+◌, Bool, true, false, ◌&&�
 use Rattle.std.proofs.lemmas.Bool.{false≢true, cases_Bool}
 use Rattle.std.specs.List.{concat, flat_map, after_first, onto_first, AllByRecursion}
 use Rattle.rules.specs.Stanza.{Field}
+use Rattle.stanza.specs.declared.form.Form.TheVariants.{Plain}
 use Rattle.stanza.specs.declared.names.TheConstants.{COLON}
 use Rattle.stanza.specs.Line.{lines_of, is_white, is_separator, is_continuation}
 use Rattle.stanza.specs.Field.{is_colon, name_of, value_of, without_newline, trim_front, trim_end}
@@ -103,16 +104,16 @@ without_newline-more front line lines continue =
           ap without_newline (sym (closed-append front b (bs ++ concat lines))) ∙ without_newline-closed (front ++ b ∷ (bs ++ concat lines))
 
 -- the line of a field is closed behind its colon
-closed-line : (line : List ℕ) → IsFieldLine false line → closed line ≡ name_of line ++ COLON ∷ closed (after_first is_colon line)
+closed-line : (line : List ℕ) → IsFieldLine Plain line → closed line ≡ name_of line ++ COLON ∷ closed (after_first is_colon line)
 closed-line line is = ap closed (line-joined line is.colon) ∙ closed-append (name_of line) COLON (after_first is_colon line) ∙ ap (λ x. name_of line ++ x) (go (after_first is_colon line)) where
   go : (rest : List ℕ) → closed (COLON ∷ rest) ≡ COLON ∷ closed rest
   go [] = refl
   go (b ∷ bs) = refl
 
-name_of-closed : (line : List ℕ) → IsFieldLine false line → name_of (closed line) ≡ name_of line
+name_of-closed : (line : List ℕ) → IsFieldLine Plain line → name_of (closed line) ≡ name_of line
 name_of-closed line is = ap name_of (closed-line line is) ∙ name_of-line (name_of line) (closed (after_first is_colon line)) is.name
 
-value_of-closed : (line : List ℕ) → IsFieldLine false line → value_of (closed line) [] ≡ value_of line []
+value_of-closed : (line : List ℕ) → IsFieldLine Plain line → value_of (closed line) [] ≡ value_of line []
 value_of-closed line is =
     let rest = after_first is_colon line in
     let bytes : without_newline (after_first is_colon (closed line) ++ []) ≡ without_newline (rest ++ []) =
@@ -154,17 +155,17 @@ lines-closed (piece ∷ next ∷ pieces) =
     ∙ ap (λ ls. lines_of_piece piece ++ close_last ls) (sym some.2)
     ∙ ap (λ ls. lines_of_piece piece ++ ls) (lines-closed (next ∷ pieces))
 
-pub each-closed : (pieces : List Piece) → AllByRecursion (IsPiece false) pieces → AllByRecursion (IsPiece false) (close_pieces pieces)
+pub each-closed : (pieces : List Piece) → AllByRecursion (IsPiece Plain) pieces → AllByRecursion (IsPiece Plain) (close_pieces pieces)
 unfolding close_piece close_pieces
 each-closed [] each = tt
 each-closed (Comment line ∷ []) each = absurd (false≢true (sym (is_comment-plain line) ∙ each.0))
 each-closed (Group line [] ∷ []) each =
-    ((subst (IsFieldLine false) (sym (closed-line line each.0.0)) (field_line (name_of line) (closed (after_first is_colon line)) each.0.0.name), tt), tt)
+    ((subst (IsFieldLine Plain) (sym (closed-line line each.0.0)) (field_line (name_of line) (closed (after_first is_colon line)) each.0.0.name), tt), tt)
 each-closed (Group line (next ∷ more) ∷ []) each = ((each.0.0, Continue-closed (next ∷ more) each.0.1), tt)
 each-closed (piece ∷ next ∷ pieces) each = (each.0, each-closed (next ∷ pieces) each.1)
 
 -- the fields are what they were
-pub fields-closed : (n : ℕ) (pieces : List Piece) → AllByRecursion (IsPiece false) pieces → map field_of (fields_in n (close_pieces pieces)) ≡ map field_of (fields_in n pieces)
+pub fields-closed : (n : ℕ) (pieces : List Piece) → AllByRecursion (IsPiece Plain) pieces → map field_of (fields_in n (close_pieces pieces)) ≡ map field_of (fields_in n pieces)
 unfolding close_piece close_pieces
 fields-closed n [] each = refl
 fields-closed n (Comment line ∷ []) each = refl

@@ -5,6 +5,7 @@ use Rattle.std.proofs.lemmas.Slice.Eq.{bytes_eq-Decides}
 use Rattle.std.specs.Char.{to_ascii_lowercase}
 use Rattle.std.specs.List.{filter, AllByRecursion}
 use Rattle.rules.specs.Stanza.{Field, is_called, is_called_one_of}
+use Rattle.stanza.specs.declared.form.Form.TheVariants.{Plain}
 use Rattle.stanza.specs.Field.{same_name}
 use Rattle.stanza.specs.File.{AreDistinct}
 use Rattle.status_text.proofs.StanzaLemmas.{name_in}
@@ -75,7 +76,7 @@ apart-names : (field : Field) (fields : List Field) → IsApart field fields →
 apart-names field [] apart = tt
 apart-names field (other ∷ fields) apart = (not_from_false (same_name field.name other.name) apart.0, apart-names field fields apart.1)
 
-pub distinct-names : (fields : List Field) → HaveDistinctNames fields → AreDistinct false (map name_in fields)
+pub distinct-names : (fields : List Field) → HaveDistinctNames fields → AreDistinct Plain (map name_in fields)
 distinct-names [] distinct = tt
 distinct-names (field ∷ fields) distinct = (apart-names field fields distinct.0, distinct-names fields distinct.1)
 
@@ -83,7 +84,7 @@ names-apart : (field : Field) (fields : List Field) → AllByRecursion (λ later
 names-apart field [] all = tt
 names-apart field (other ∷ fields) all = (not-true (same_name field.name other.name) all.0, names-apart field fields all.1)
 
-pub names-distinct : (fields : List Field) → AreDistinct false (map name_in fields) → HaveDistinctNames fields
+pub names-distinct : (fields : List Field) → AreDistinct Plain (map name_in fields) → HaveDistinctNames fields
 names-distinct [] distinct = tt
 names-distinct (field ∷ fields) distinct = (names-apart field fields distinct.0, names-distinct fields distinct.1)
 

@@ -1,8 +1,9 @@
 -- The text of a field that can be written: the line of the field and continuations, from which its name and value are read.
-use Rattle.std.proofs.Common.{◌≡◌, ℕ, true, false, not, List, [], ◌∷◌, ◌++◌, sym, ap, ◌∙◌, append_assoc}
+use Rattle.std.proofs.Common.{◌≡◌, ℕ, true, not, List, [], ◌∷◌, ◌++◌, sym, ap, ◌∙◌, append_assoc}
 use Rattle.std.proofs.lemmas.Bool.{and_parts, not-true}
 use Rattle.std.specs.List.{list_all, concat, onto_first, AllByRecursion}
 use Rattle.rules.specs.Stanza.{Field}
+use Rattle.stanza.specs.declared.form.Form.TheVariants.{Plain}
 use Rattle.stanza.specs.declared.lines.TheConstants.{NEWLINE}
 use Rattle.stanza.specs.declared.names.TheConstants.{COLON}
 use Rattle.stanza.specs.Line.{lines_of, IsWhole, is_separator, is_continuation}
@@ -31,7 +32,7 @@ Continue-from_more (line ∷ lines) all =
 -- the text of the field is a line of its name and value, and these continuations
 pub record IsWrittenAs (field : Field) (line : List ℕ) (more : List (List ℕ)) : Type 0 where
   pub lines : lines_of (field_text field) ≡ line ∷ more
-  pub begins : IsFieldLine false line
+  pub begins : IsFieldLine Plain line
   pub named : name_of line ≡ field.name
   pub valued : value_of line (concat more) ≡ field.value
   pub continue : Continue more

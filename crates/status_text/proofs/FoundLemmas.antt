@@ -4,6 +4,8 @@ use Rattle.std.specs.Prelude.{Contains}
 use Rattle.std.proofs.lemmas.Bool.{false≢true, and_from, not_from_false}
 use Rattle.std.specs.List.{list_all, concat, flat_map, after_first, AllByRecursion}
 use Rattle.rules.specs.Stanza.{Field}
+use Rattle.stanza.specs.declared.form.Form.{Form}
+use Rattle.stanza.specs.declared.form.Form.TheVariants.{Plain}
 use Rattle.stanza.specs.declared.names.TheConstants.{COLON}
 use Rattle.stanza.specs.Line.{lines_of, is_separator, is_continuation}
 use Rattle.stanza.specs.Field.{is_colon, name_of, value_of, without_newline, fields_of}
@@ -39,7 +41,7 @@ NoSeparators-parts [] b inside = (tt, inside)
 NoSeparators-parts (line ∷ a) b inside = let both = NoSeparators-parts a b inside.1 in ((inside.0, both.0), both.1)
 
 -- the field of a line and its continuations
-field-found : (line : List ℕ) (more : List (List ℕ)) → IsFieldLine false line → Continue more → NoSeparators more → AreLines (line ∷ more) → IsWritable (record { name = name_of line; value = value_of line (concat more) })
+field-found : (line : List ℕ) (more : List (List ℕ)) → IsFieldLine Plain line → Continue more → NoSeparators more → AreLines (line ∷ more) → IsWritable (record { name = name_of line; value = value_of line (concat more) })
 field-found line more is continue inside are =
     let rest = after_first is_colon line in
     let name = name_of line in
@@ -56,7 +58,7 @@ field-found line more is continue inside are =
       lines = more_lines-trimmed (rest ++ concat more) ∙ ap (list_all is_more) behind ∙ more-from_Continue more continue inside;
     }
 
-fields-found : (n : ℕ) (pieces : List Piece) → AllByRecursion (IsPiece false) pieces → AreLines (flat_map lines_of_piece pieces) → NoSeparators (flat_map lines_of_piece pieces) → AllByRecursion IsWritable (map field_of (fields_in n pieces))
+fields-found : (n : ℕ) (pieces : List Piece) → AllByRecursion (IsPiece Plain) pieces → AreLines (flat_map lines_of_piece pieces) → NoSeparators (flat_map lines_of_piece pieces) → AllByRecursion IsWritable (map field_of (fields_in n pieces))
 fields-found n [] each are inside = tt
 fields-found n (Comment line ∷ pieces) each are inside = fields-found (n + 1) pieces each.1 (AreLines-back (line ∷ []) (flat_map lines_of_piece pieces) are) inside.1
 fields-found n (Group line more ∷ pieces) each are inside =
@@ -70,11 +72,11 @@ fields-found n (Group line more ∷ pieces) each are inside =
 
 -- its lines in pieces
 pub record IsFound (stanza : StanzaText) : Type 0 where
-  pub alone : Alone false stanza
+  pub alone : Alone Plain stanza
   pub some : 0 < length alone.lines
   pub pieces : List Piece
-  pub groups : Groups false alone.lines pieces
-  pub shown : (n : ℕ) → fields_of false n alone.lines ≡ fields_in n pieces
+  pub groups : Groups Plain alone.lines pieces
+  pub shown : (n : ℕ) → fields_of Plain n alone.lines ≡ fields_in n pieces
   pub fields : (n : ℕ) → map field_of (fields_in n pieces) ≡ map field_of stanza.fields
   pub writable : AreWritable (map field_of stanza.fields)
 
@@ -86,26 +88,26 @@ fields_in-number n m (Group line more ∷ pieces) =
     ap (λ (fs : List Field). record { name = name_of line; value = value_of line (concat more) } ∷ fs) (fields_in-number (n + 1 + length more) (m + 1 + length more) pieces)
 
 -- there is a first field, since the first line is no comment
-some-fields : (n : ℕ) (pieces : List Piece) → AllByRecursion (IsPiece false) pieces → 0 < length (flat_map lines_of_piece pieces) → 0 < length (map field_of (fields_in n pieces))
+some-fields : (n : ℕ) (pieces : List Piece) → AllByRecursion (IsPiece Plain) pieces → 0 < length (flat_map lines_of_piece pieces) → 0 < length (map field_of (fields_in n pieces))
 some-fields n [] each some = some
 some-fields n (Comment line ∷ pieces) each some = absurd (false≢true (sym (is_comment-plain line) ∙ each.0))
 some-fields n (Group line more ∷ pieces) each some = omega arith
 
-some-lines : (commented : Bool) (m : ℕ) (lines : List (List ℕ)) (stanza : StanzaText) → stanza_in commented m lines ≡ Some stanza → 0 < length lines
-some-lines commented m [] stanza is = cc
-some-lines commented m (line ∷ lines) stanza is = omega arith
+some-lines : (form : Form) (m : ℕ) (lines : List (List ℕ)) (stanza : StanzaText) → stanza_in form m lines ≡ Some stanza → 0 < length lines
+some-lines form m [] stanza is = cc
+some-lines form m (line ∷ lines) stanza is = omega arith
 
-pub IsFound-in : (text : List ℕ) (stanza : StanzaText) → Contains (items_of false text) (Ok stanza) → IsFound stanza
+pub IsFound-in : (text : List ℕ) (stanza : StanzaText) → Contains (items_of Plain text) (Ok stanza) → IsFound stanza
 IsFound-in text stanza has =
-    let alone = alone-from_items false text stanza has in
-    let grouped = Groups-from_clean false 1 alone.lines (alone.clean 1) in
+    let alone = alone-from_items Plain text stanza has in
+    let grouped = Groups-from_clean Plain 1 alone.lines (alone.clean 1) in
     let pieces = grouped.0 in
     let groups = grouped.1 in
-    let shown : (n : ℕ) → fields_of false n alone.lines ≡ fields_in n pieces =
-    λ n. ap (fields_of false n) groups.lines ∙ fields_of-pieces false n pieces groups.each in
+    let shown : (n : ℕ) → fields_of Plain n alone.lines ≡ fields_in n pieces =
+    λ n. ap (fields_of Plain n) groups.lines ∙ fields_of-pieces Plain n pieces groups.each in
     let fields : (n : ℕ) → map field_of (fields_in n pieces) ≡ map field_of stanza.fields =
     λ n. fields_in-number n alone.n pieces ∙ sym (ap (map field_of) (shown alone.n)) ∙ sym (ap (λ (s : StanzaText). map field_of s.fields) alone.is) in
-    let some = some-lines false 1 alone.lines (stanza_of false 1 alone.lines) (alone.first 1) in
+    let some = some-lines Plain 1 alone.lines (stanza_of Plain 1 alone.lines) (alone.first 1) in
     record {
       alone = alone;
       some = some;
@@ -118,9 +120,9 @@ IsFound-in text stanza has =
             (some-fields 1 pieces groups.each (subst (λ ls. 0 < length ls) groups.lines some));
         each = subst (AllByRecursion IsWritable) (fields 1)
             (fields-found 1 pieces groups.each (subst AreLines groups.lines alone.are) (subst NoSeparators groups.lines alone.inside));
-        names = subst (AreDistinct false) (sym (names-shown 1 pieces) ∙ ap (map name_in) (fields 1)) groups.names;
+        names = subst (AreDistinct Plain) (sym (names-shown 1 pieces) ∙ ap (map name_in) (fields 1)) groups.names;
       };
     }
 
-pub AreWritable-found : (text : List ℕ) (stanza : StanzaText) → Contains (items_of false text) (Ok stanza) → AreWritable (map field_of stanza.fields)
+pub AreWritable-found : (text : List ℕ) (stanza : StanzaText) → Contains (items_of Plain text) (Ok stanza) → AreWritable (map field_of stanza.fields)
 AreWritable-found text stanza has = (IsFound-in text stanza has).writable

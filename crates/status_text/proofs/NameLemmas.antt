@@ -2,6 +2,7 @@
 use Rattle.std.proofs.Common.{◌≡◌, ℕ, suc, ◌+◌, Bool, true, false, not, ◌||◌, List, [], ◌∷◌, ◌++◌, refl, sym, ap, ◌∙◌, arith, eqb, one-add, inl, inr}
 use Rattle.std.proofs.lemmas.Bool.{false≢true, cases_Bool, eqb-true, and_parts, or_right}
 use Rattle.std.specs.List.{list_any, list_all, before_first, after_first, position_or_len}
+use Rattle.stanza.specs.declared.form.Form.TheVariants.{Plain}
 use Rattle.stanza.specs.declared.names.TheConstants.{COLON}
 use Rattle.stanza.specs.Line.{is_white, is_separator, is_comment}
 use Rattle.stanza.specs.Field.{is_colon, is_name_byte, is_name, name_of}
@@ -73,7 +74,7 @@ pub list_any-line : (name rest : List ℕ) → list_any is_colon (name ++ COLON 
 list_any-line [] rest = refl
 list_any-line (b ∷ bs) rest = rw (list_any-line bs rest) (or_right (eqb b 58) true refl)
 
-pub field_line : (name rest : List ℕ) → is_name name ≡ true → IsFieldLine false (name ++ COLON ∷ rest)
+pub field_line : (name rest : List ℕ) → is_name name ≡ true → IsFieldLine Plain (name ++ COLON ∷ rest)
 field_line [] rest named = absurd (false≢true named)
 field_line (b ∷ bs) rest named =
     let both = and_parts (is_name_byte b) (list_all is_name_byte bs) (name-bytes (b ∷ bs) named) in
@@ -90,6 +91,6 @@ field_line-inside (b ∷ bs) rest named =
     rw (name_byte-white b both.0, other_byte is_name_byte 10 b refl both.0) refl
 
 -- in the plain form no line is a comment
-pub is_comment-plain : (line : List ℕ) → is_comment false line ≡ false
+pub is_comment-plain : (line : List ℕ) → is_comment Plain line ≡ false
 is_comment-plain [] = refl
 is_comment-plain (b ∷ bs) = refl

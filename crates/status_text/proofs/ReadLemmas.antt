@@ -3,6 +3,7 @@ use Rattle.std.proofs.Common.{◌≡◌, ℕ, ◌+◌, ◌<◌, false, List, [],
 use Rattle.std.proofs.lemmas.Bool.{cond-false}
 use Rattle.std.specs.List.{flat_map, AllByRecursion}
 use Rattle.rules.specs.Stanza.{Field, Stanza}
+use Rattle.stanza.specs.declared.form.Form.TheVariants.{Plain}
 use Rattle.stanza.specs.declared.lines.TheConstants.{NEWLINE}
 use Rattle.stanza.specs.Line.{lines_of, is_comment}
 use Rattle.stanza.specs.Field.{name_of, fields_of}
@@ -21,7 +22,7 @@ use Rattle.status_text.proofs.StanzaLemmas.{name_in, HasFields}
 pub record IsOne (fields : List Field) (text : List ℕ) : Type 0 where
   pub has : HasFields fields text
   pub some : 0 < length fields
-  pub names : AreDistinct false (map name_in fields)
+  pub names : AreDistinct Plain (map name_in fields)
 
 -- ---- the stanza of the text
 
@@ -30,11 +31,11 @@ names-shown n [] = refl
 names-shown n (Comment line ∷ pieces) = names-shown (n + 1) pieces
 names-shown n (Group line more ∷ pieces) = ap (λ names. name_of line ∷ names) (names-shown (n + 1 + length more) pieces)
 
-pub IsOne-groups : (fields : List Field) (text : List ℕ) (one : IsOne fields text) → Groups false (lines_of text) one.has.pieces
+pub IsOne-groups : (fields : List Field) (text : List ℕ) (one : IsOne fields text) → Groups Plain (lines_of text) one.has.pieces
 IsOne-groups fields text one = record {
   lines = one.has.lines;
   each = one.has.each;
-  names = subst (AreDistinct false) (sym (ap (map name_in) (one.has.shown 1)) ∙ names-shown 1 one.has.pieces) one.names;
+  names = subst (AreDistinct Plain) (sym (ap (map name_in) (one.has.shown 1)) ∙ names-shown 1 one.has.pieces) one.names;
 }
 
 some-lines : (n : ℕ) (pieces : List Piece) → 0 < length (map field_of (fields_in n pieces)) → (line : List ℕ) × (lines : List (List ℕ)) × (flat_map lines_of_piece pieces ≡ line ∷ lines)
@@ -42,47 +43,47 @@ some-lines n [] some = absurd (omega arith)
 some-lines n (Comment line ∷ pieces) some = (line, flat_map lines_of_piece pieces, refl)
 some-lines n (Group line more ∷ pieces) some = (line, more ++ flat_map lines_of_piece pieces, refl)
 
-all_kept : (lines : List (List ℕ)) → without_last_comments false lines ≡ lines
+all_kept : (lines : List (List ℕ)) → without_last_comments Plain lines ≡ lines
 all_kept [] = refl
-all_kept (line ∷ lines) = ap (before_kept false line) (all_kept lines) ∙ go lines where
-  go : (lines : List (List ℕ)) → before_kept false line lines ≡ line ∷ lines
+all_kept (line ∷ lines) = ap (before_kept Plain line) (all_kept lines) ∙ go lines where
+  go : (lines : List (List ℕ)) → before_kept Plain line lines ≡ line ∷ lines
   go [] = rw (is_comment-plain line) refl
   go (next ∷ lines) = refl
 
-stanza_in-plain : (n : ℕ) (line : List ℕ) (lines : List (List ℕ)) → stanza_in false n (line ∷ lines) ≡ Some (stanza_of false n (line ∷ lines))
+stanza_in-plain : (n : ℕ) (line : List ℕ) (lines : List (List ℕ)) → stanza_in Plain n (line ∷ lines) ≡ Some (stanza_of Plain n (line ∷ lines))
 stanza_in-plain n line lines =
-    cond-false (is_comment false line) (stanza_in false (n + 1) lines) (Some (stanza_of false n (without_last_comments false (line ∷ lines)))) (is_comment-plain line)
-    ∙ ap (λ ls. Some (stanza_of false n ls)) (all_kept (line ∷ lines))
+    cond-false (is_comment Plain line) (stanza_in Plain (n + 1) lines) (Some (stanza_of Plain n (without_last_comments Plain (line ∷ lines)))) (is_comment-plain line)
+    ∙ ap (λ ls. Some (stanza_of Plain n ls)) (all_kept (line ∷ lines))
 
-stanza_in-one : (fields : List Field) (text : List ℕ) (n : ℕ) → IsOne fields text → stanza_in false n (lines_of text) ≡ Some (stanza_of false n (lines_of text))
+stanza_in-one : (fields : List Field) (text : List ℕ) (n : ℕ) → IsOne fields text → stanza_in Plain n (lines_of text) ≡ Some (stanza_of Plain n (lines_of text))
 stanza_in-one fields text n one =
     let found = some-lines 1 one.has.pieces (subst (λ (fs : List Field). 0 < length fs) (sym (one.has.shown 1)) one.some) in
     let lines = one.has.lines ∙ found.2 in
-    ap (stanza_in false n) lines ∙ stanza_in-plain n found.0 found.1 ∙ ap (λ ls. Some (stanza_of false n ls)) (sym lines)
+    ap (stanza_in Plain n) lines ∙ stanza_in-plain n found.0 found.1 ∙ ap (λ ls. Some (stanza_of Plain n ls)) (sym lines)
 
 -- it has the fields and the bytes
-read-one : (fields : List Field) (text : List ℕ) (n : ℕ) → IsOne fields text → read_stanza (stanza_of false n (lines_of text)) ≡ record { fields = fields; bytes = Some text }
+read-one : (fields : List Field) (text : List ℕ) (n : ℕ) → IsOne fields text → read_stanza (stanza_of Plain n (lines_of text)) ≡ record { fields = fields; bytes = Some text }
 read-one fields text n one =
-    let shown : map field_of (fields_of false n (lines_of text)) ≡ fields =
-    ap (λ ls. map field_of (fields_of false n ls)) one.has.lines
-    ∙ ap (map field_of) (fields_of-pieces false n one.has.pieces one.has.each)
+    let shown : map field_of (fields_of Plain n (lines_of text)) ≡ fields =
+    ap (λ ls. map field_of (fields_of Plain n ls)) one.has.lines
+    ∙ ap (map field_of) (fields_of-pieces Plain n one.has.pieces one.has.each)
     ∙ one.has.shown n in
     let bytes = concat-lines_of text in
     cc
 
 -- ---- the items of the text
 
-items-one : (fields : List Field) (text : List ℕ) (n : ℕ) (rest : List (List ℕ)) → IsOne fields text → EndsStanza rest → items_of_lines false n (lines_of text ++ rest) ≡ Ok (stanza_of false n (lines_of text)) ∷ items_of_lines false (n + length (lines_of text)) rest
+items-one : (fields : List Field) (text : List ℕ) (n : ℕ) (rest : List (List ℕ)) → IsOne fields text → EndsStanza rest → items_of_lines Plain n (lines_of text ++ rest) ≡ Ok (stanza_of Plain n (lines_of text)) ∷ items_of_lines Plain (n + length (lines_of text)) rest
 items-one fields text n rest one ends =
-    items-front false n (lines_of text) rest (stanza_of false n (lines_of text)) one.has.inside ends
-    (clean-from_Groups false n (lines_of text) one.has.pieces (IsOne-groups fields text one))
+    items-front Plain n (lines_of text) rest (stanza_of Plain n (lines_of text)) one.has.inside ends
+    (clean-from_Groups Plain n (lines_of text) one.has.pieces (IsOne-groups fields text one))
     (stanza_in-one fields text n one)
 
 pub ReadsAs-one : (fields : List Field) (text : List ℕ) → IsOne fields text → ReadsAs text (record { fields = fields; bytes = Some text } ∷ [])
 unfolding items_of
 ReadsAs-one fields text one = (
-  stanza_of false 1 (lines_of text) ∷ [],
-  ap (items_of_lines false 1) (sym (append-nil (lines_of text))) ∙ items-one fields text 1 [] one tt,
+  stanza_of Plain 1 (lines_of text) ∷ [],
+  ap (items_of_lines Plain 1) (sym (append-nil (lines_of text))) ∙ items-one fields text 1 [] one tt,
   ap (λ s. s ∷ []) (read-one fields text 1 one),
 )
 
@@ -90,7 +91,7 @@ ReadsAs-one fields text one = (
 
 -- the items of the lines from number n on are these stanzas
 ReadsFrom : ℕ → List (List ℕ) → List Stanza → Type 0
-ReadsFrom n lines stanzas = (read : List StanzaText) × (items_of_lines false n lines ≡ map Ok read) × (map read_stanza read ≡ stanzas)
+ReadsFrom n lines stanzas = (read : List StanzaText) × (items_of_lines Plain n lines ≡ map Ok read) × (map read_stanza read ≡ stanzas)
 
 reads_from : (n : ℕ) (stanzas : List Stanza) → AllByRecursion (λ (s : Stanza). IsOne s.fields (stanza_text s)) stanzas → ReadsFrom n (lines_of (file_text stanzas)) (map as_written stanzas)
 unfolding ReadsFrom
@@ -103,10 +104,10 @@ reads_from n (stanza ∷ stanzas) are =
     let later = reads_from (next + 1) stanzas are.1 in
     let lines : lines_of (file_text (stanza ∷ stanzas)) ≡ lines_of text ++ empty ∷ rest =
     ap lines_of (append_assoc text empty (file_text stanzas)) ∙ are.0.has.whole (empty ++ file_text stanzas) in (
-      stanza_of false n (lines_of text) ∷ later.0,
-      ap (items_of_lines false n) lines
+      stanza_of Plain n (lines_of text) ∷ later.0,
+      ap (items_of_lines Plain n) lines
           ∙ items-one stanza.fields text n (empty ∷ rest) are.0 refl
-          ∙ ap (λ items. Ok (stanza_of false n (lines_of text)) ∷ items) (items-separator false next empty rest refl ∙ later.1),
+          ∙ ap (λ items. Ok (stanza_of Plain n (lines_of text)) ∷ items) (items-separator Plain next empty rest refl ∙ later.1),
       ap (λ s. s ∷ map read_stanza later.0) (read-one stanza.fields text n are.0) ∙ ap (λ ss. as_written stanza ∷ ss) later.2,
     )
 

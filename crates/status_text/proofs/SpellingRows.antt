@@ -6,6 +6,7 @@ use Rattle.rules.specs.Stanza.{Field, Stanza, status_field, touched_fields, unpa
 use Rattle.rules.specs.declared.status.Flag.TheVariants as flags
 use Rattle.rules.specs.declared.status.State.TheVariants.{ConfigFiles, Unpacked, HalfConfigured, Installed}
 use Rattle.rules.specs.declared.status.Want.TheVariants.{Install, Deinstall}
+use Rattle.stanza.specs.declared.form.Form.TheVariants.{Plain}
 use Rattle.stanza.specs.Line.{lines_of}
 use Rattle.stanza.specs.Stanza.{stanza_of, items_of}
 use Rattle.status_text.specs.Spelling.{field_text, fields_text, closed, file_text}
@@ -135,4 +136,4 @@ newline_at_the_end = refl
 -- the text of foo reads as one stanza, of its fields, whose bytes are that text but for the empty line
 foo_read : ReadsAs (foo_text (codes "Status: install ok unpacked")) (as_written (touched (foo_fields (status_field Install flags.Ok Unpacked))) ∷ [])
 unfolding foo_in_index foo_fields foo_text items_of
-foo_read = (stanza_of false 1 (lines_of (fields_text (foo_fields (status_field Install flags.Ok Unpacked)))) ∷ [], refl, refl)
+foo_read = (stanza_of Plain 1 (lines_of (fields_text (foo_fields (status_field Install flags.Ok Unpacked)))) ∷ [], refl, refl)

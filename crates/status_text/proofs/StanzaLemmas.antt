@@ -1,7 +1,8 @@
 -- A text that is one stanza: its lines are pieces whose fields are known. Fields that can be written are such a text.
-use Rattle.std.proofs.Common.{◌≡◌, ℕ, ◌+◌, false, List, [], ◌∷◌, ◌++◌, length, map, refl, sym, ap, subst, ◌∙◌}
+use Rattle.std.proofs.Common.{◌≡◌, ℕ, ◌+◌, List, [], ◌∷◌, ◌++◌, length, map, refl, sym, ap, subst, ◌∙◌}
 use Rattle.std.specs.List.{concat, flat_map, AllByRecursion}
 use Rattle.rules.specs.Stanza.{Field}
+use Rattle.stanza.specs.declared.form.Form.TheVariants.{Plain}
 use Rattle.stanza.specs.Line.{lines_of, IsWhole}
 use Rattle.stanza.specs.Field.{value_of}
 use Rattle.stanza.specs.File.{Piece, Group, lines_of_piece, IsPiece, fields_in}
@@ -20,7 +21,7 @@ name_in field = field.name
 pub record HasFields (fields : List Field) (text : List ℕ) : Type 0 where
   pub pieces : List Piece
   pub lines : lines_of text ≡ flat_map lines_of_piece pieces
-  pub each : AllByRecursion (IsPiece false) pieces
+  pub each : AllByRecursion (IsPiece Plain) pieces
   pub shown : (n : ℕ) → map field_of (fields_in n pieces) ≡ fields
   pub inside : NoSeparators (lines_of text)
   pub whole : IsWhole text

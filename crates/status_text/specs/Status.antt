@@ -1,7 +1,8 @@
 -- The status file (dpkg(1); Policy 5.1): its slots in the order of the text. What is refused, and in what order, is this
 -- project's own.
-use Rattle.std.specs.Prelude.{◌≡◌, ℕ, false, List, [], ◌∷◌, ◌++◌, length, nat_lt, Result, Ok, Err, if◌then◌else◌}
+use Rattle.std.specs.Prelude.{◌≡◌, ℕ, List, [], ◌∷◌, ◌++◌, length, nat_lt, Result, Ok, Err, if◌then◌else◌}
 use Rattle.rules.specs.declared.limits.TheConstants.{TEXT_BYTES}
+use Rattle.stanza.specs.declared.form.Form.TheVariants.{Plain}
 use Rattle.stanza.specs.Stanza.{StanzaText, items_of}
 use Rattle.stanza.specs.declared.error.StanzaError.{StanzaError}
 use Rattle.status_text.specs.Record.{read_slot}
@@ -31,7 +32,7 @@ slots_in arch (item ∷ items) seen = slot_then seen (read_item arch seen item) 
 
 -- the slots of a status file for an architecture, or its first refusal
 abbrev pub read_status : List ℕ → List ℕ → Result (List FileSlot) StatusFault
-read_status arch text = if nat_lt TEXT_BYTES (length text) then Err fault.TooLarge else slots_in arch (items_of false text) []
+read_status arch text = if nat_lt TEXT_BYTES (length text) then Err fault.TooLarge else slots_in arch (items_of Plain text) []
 
 -- the slots are what some text is read as for an architecture
 pub record WereRead (arch : List ℕ) (slots : List FileSlot) : Type 0 where

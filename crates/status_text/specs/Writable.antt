@@ -1,7 +1,8 @@
 -- What fields must be so that what is written of them reads back as themselves (Policy 5.1, "Syntax of control files").
-use Rattle.std.specs.Prelude.{◌≡◌, ℕ, ◌<◌, Bool, false, ◌&&◌, not, List, [], ◌∷◌, ◌++◌, length, map, IsTrue}
+use Rattle.std.specs.Prelude.{◌≡◌, ℕ, ◌<◌, Bool, ◌&&◌, not, List, [], ◌∷◌, ◌++◌, length, map, IsTrue}
 use Rattle.std.specs.List.{list_all, AllByRecursion}
 use Rattle.rules.specs.Stanza.{Field}
+use Rattle.stanza.specs.declared.form.Form.TheVariants.{Plain}
 use Rattle.stanza.specs.declared.lines.TheConstants.{NEWLINE}
 use Rattle.stanza.specs.Line.{lines_of, is_separator, is_continuation}
 use Rattle.stanza.specs.Field.{is_name, trim_front, trim_end}
@@ -30,4 +31,4 @@ pub record IsWritable (field : Field) : Type 0 where
 pub record AreWritable (fields : List Field) : Type 0 where
   pub some : 0 < length fields
   pub each : AllByRecursion IsWritable fields
-  pub names : AreDistinct false (map (λ (field : Field). field.name) fields)
+  pub names : AreDistinct Plain (map (λ (field : Field). field.name) fields)

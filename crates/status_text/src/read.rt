@@ -1,8 +1,9 @@
 //! The slots of a status file.
-ghost use Rattle.std.specs.Prelude.{◌≡◌, ◌<◌, [], Err, IfErr, IfOk, Ok, false, length};
+ghost use Rattle.std.specs.Prelude.{◌≡◌, ◌<◌, [], Err, IfErr, IfOk, Ok, length};
 ghost use Rattle.rules.specs.Database.{HasDistinctNames};
 ghost use Rattle.rules.specs.FileRecord.{records_of};
 ghost use Rattle.rules.specs.declared.limits.TheConstants.{TEXT_BYTES};
+ghost use Rattle.stanza.specs.declared.form.Form.TheVariants.{Plain};
 ghost use Rattle.stanza.specs.Stanza.{items_of};
 ghost use Rattle.status_text.specs.Error.{IsStatusFault};
 ghost use Rattle.status_text.specs.Slot.{entries_of, names_with};
@@ -39,9 +40,9 @@ fn slots_in<'a>(
     text: &'a [u8],
     arch: &'a [u8],
 ) -> Result<Vec<Slot<'a, StatusRecord<'a>>>, StatusError<'a>>
-    ensures ok { IfOk result (λ slots. Spec.slots_in arch.now (items_of false text.now) [] ≡ Ok slots.items) }
+    ensures ok { IfOk result (λ slots. Spec.slots_in arch.now (items_of Plain text.now) [] ≡ Ok slots.items) }
     ensures distinct { IfOk result (λ slots. HasDistinctNames (records_of (entries_of slots.items))) }
-    ensures err { IfErr result (λ e. IsStatusFault e (Spec.slots_in arch.now (items_of false text.now) [])) }
+    ensures err { IfErr result (λ e. IsStatusFault e (Spec.slots_in arch.now (items_of Plain text.now) [])) }
 {
     let mut slots = Vec::new(alloc);
     let mut seen = Seen::new(alloc);

@@ -1,5 +1,6 @@
 //! A caller that stands on the public contracts alone, as the crates above do.
 ghost use Rattle.std.specs.Prelude.{◌≡◌, map, IfOk, Ok, Err, false};
+ghost use Rattle.stanza.specs.declared.form.Form.TheVariants.{Plain};
 ghost use Rattle.stanza.specs.Stanza.{items_of};
 ghost use Rattle.stanza.specs.Collect.{values_in};
 
@@ -14,8 +15,8 @@ enum CollectError {
 
 // The values of the field of this name in all stanzas of a text.
 fn values_of<'a>(alloc: Global, text: &'a [u8], name: &[u8]) -> Result<Vec<&'a [u8]>, CollectError>
-    ensures ok { IfOk result (λ values. values_in name.now (items_of false text.now) ≡ Ok (map (λ value. value.now) values.items)) }
-    ensures fault { (fault : StanzaError) → result ≡ Err (CollectError.Fault fault) → values_in name.now (items_of false text.now) ≡ Err fault }
+    ensures ok { IfOk result (λ values. values_in name.now (items_of Plain text.now) ≡ Ok (map (λ value. value.now) values.items)) }
+    ensures fault { (fault : StanzaError) → result ≡ Err (CollectError.Fault fault) → values_in name.now (items_of Plain text.now) ≡ Err fault }
 {
     let mut values = Vec::new(alloc);
     for item in Stanzas::new(text) {

@@ -1,7 +1,7 @@
 //! Control texts that come piece by piece: each cutting of a text gives what the whole text gives.
 use crate::texts::{write_part, write_printed};
 use rows::unescaped;
-use stanza::{ReadFailed, ReadStanza, Reader, Source};
+use stanza::{Form, ReadFailed, ReadStanza, Reader, Source};
 use std::alloc::{AllocError, Global};
 use std::process::Abort;
 
@@ -65,16 +65,15 @@ fn write_stanza(
 fn read_in_pieces(
     alloc: Global,
     text: &[u8],
-    commented: bool,
+    form: Form,
     most: usize,
     second: usize,
     third: usize,
 ) -> Result<Vec<u8>, AllocError> {
     let mut source = Pieces::new(text, second, third);
-    let mut reader = if commented {
-        Reader::with_comments(alloc, most)?
-    } else {
-        Reader::new(alloc, most)?
+    let mut reader = match form {
+        Form::Plain => Reader::new(alloc, most)?,
+        Form::Commented => Reader::with_comments(alloc, most)?,
     };
     let mut shown = Vec::new(alloc);
     // No text has more stanzas than bytes.
@@ -98,13 +97,13 @@ fn read_in_pieces(
 fn is_shown_in_pieces(
     alloc: Global,
     text: &[u8],
-    commented: bool,
+    form: Form,
     most: usize,
     wanted: &[u8],
 ) -> Result<bool, AllocError> {
     for third in 0..text.len() + 1 {
         for second in 0..third + 1 {
-            let shown = read_in_pieces(alloc, text, commented, most, second, third)?;
+            let shown = read_in_pieces(alloc, text, form, most, second, third)?;
             if shown.as_slice() != wanted {
                 return Ok(false);
             }
@@ -113,14 +112,14 @@ fn is_shown_in_pieces(
     Ok(true)
 }
 
-fn is_shown(alloc: Global, commented: bool, most: usize, row: &str) -> Result<bool, AllocError> {
+fn is_shown(alloc: Global, form: Form, most: usize, row: &str) -> Result<bool, AllocError> {
     let Some((text, wanted)) = row.split_once('→') else {
         return Ok(false);
     };
     is_shown_in_pieces(
         alloc,
         unescaped(alloc, text)?.as_slice(),
-        commented,
+        form,
         most,
         unescaped(alloc, wanted)?.as_slice(),
     )
@@ -128,12 +127,12 @@ fn is_shown(alloc: Global, commented: bool, most: usize, row: &str) -> Result<bo
 
 pub(crate) fn assert_rows<R: Abort + AllocGlobal>(
     rt: &R,
-    commented: bool,
+    form: Form,
     most: usize,
     rows: &str,
 ) -> Result<(), AllocError> {
     for row in rows.lines() {
-        assert!(rt; is_shown(rt.alloc(), commented, most, row)?, "{row}");
+        assert!(rt; is_shown(rt.alloc(), form, most, row)?, "{row}");
     }
     Ok(())
 }
@@ -150,7 +149,7 @@ $$$$$$$$→E10 TooLarge
 
 #[test]
 fn no_more_is_read_than_may_be(rt: HostRuntime) -> Result<(), AllocError> {
-    assert_rows(&rt, false, 7, LIMITED)
+    assert_rows(&rt, Form::Plain, 7, LIMITED)
 }
 
 // A stanza of the fields `n0` to `n99`, and behind them these lines.
@@ -165,16 +164,15 @@ fn with_many_fields(alloc: Global, lines: &[u8]) -> Result<Vec<u8>, AllocError> 
     Ok(text)
 }
 
-fn are_refused_among_many(alloc: Global, commented: bool, row: &str) -> Result<bool, AllocError> {
+fn are_refused_among_many(alloc: Global, form: Form, row: &str) -> Result<bool, AllocError> {
     let Some((lines, wanted)) = row.split_once('→') else {
         return Ok(false);
     };
     let text = with_many_fields(alloc, unescaped(alloc, lines)?.as_slice())?;
     let mut source = text.as_slice();
-    let mut reader = if commented {
-        Reader::with_comments(alloc, 10_000)?
-    } else {
-        Reader::new(alloc, 10_000)?
+    let mut reader = match form {
+        Form::Plain => Reader::new(alloc, 10_000)?,
+        Form::Commented => Reader::with_comments(alloc, 10_000)?,
     };
     let mut shown = Vec::new(alloc);
     if let Err(fault) = reader.advance(&mut source) {
@@ -201,10 +199,16 @@ Explanation: y$explanation: y$#x$N64: y→E4 DuplicateField 104
 #[test]
 fn a_field_is_repeated_among_many(rt: HostRuntime) -> Result<(), AllocError> {
     for row in AMONG_MANY.lines() {
-        assert!(rt; are_refused_among_many(rt.alloc(), false, row)?, "{row}");
+        assert!(rt;
+            are_refused_among_many(rt.alloc(), Form::Plain, row)?,
+            "{row}"
+        );
     }
     for row in AMONG_MANY_COMMENTED.lines() {
-        assert!(rt; are_refused_among_many(rt.alloc(), true, row)?, "{row}");
+        assert!(rt;
+            are_refused_among_many(rt.alloc(), Form::Commented, row)?,
+            "{row}"
+        );
     }
     Ok(())
 }

@@ -2,7 +2,7 @@
 use crate::reading;
 use crate::texts::{write_part, write_printed};
 use rows::unescaped;
-use stanza::{Field, Stanza, Stanzas};
+use stanza::{Field, Form, Stanza, Stanzas};
 use std::alloc::{AllocError, Global};
 use std::process::Abort;
 
@@ -44,48 +44,33 @@ fn write_stanzas(
     Ok(())
 }
 
-fn are_stanzas(
-    alloc: Global,
-    text: &[u8],
-    commented: bool,
-    wanted: &[u8],
-) -> Result<bool, AllocError> {
-    let stanzas = if commented {
-        Stanzas::with_comments(text)
-    } else {
-        Stanzas::new(text)
+fn are_stanzas(alloc: Global, text: &[u8], form: Form, wanted: &[u8]) -> Result<bool, AllocError> {
+    let stanzas = match form {
+        Form::Plain => Stanzas::new(text),
+        Form::Commented => Stanzas::with_comments(text),
     };
     let mut shown = Vec::new(alloc);
     write_stanzas(alloc, &mut shown, stanzas)?;
     Ok(shown.as_slice() == wanted)
 }
 
-fn is_shown_as(
-    alloc: Global,
-    text: &[u8],
-    commented: bool,
-    wanted: &str,
-) -> Result<bool, AllocError> {
-    are_stanzas(alloc, text, commented, unescaped(alloc, wanted)?.as_slice())
+fn is_shown_as(alloc: Global, text: &[u8], form: Form, wanted: &str) -> Result<bool, AllocError> {
+    are_stanzas(alloc, text, form, unescaped(alloc, wanted)?.as_slice())
 }
 
 // The text before the arrow is shown as is said behind it.
-fn is_shown(alloc: Global, commented: bool, row: &str) -> Result<bool, AllocError> {
+fn is_shown(alloc: Global, form: Form, row: &str) -> Result<bool, AllocError> {
     let Some((text, wanted)) = row.split_once('→') else {
         return Ok(false);
     };
-    is_shown_as(alloc, unescaped(alloc, text)?.as_slice(), commented, wanted)
+    is_shown_as(alloc, unescaped(alloc, text)?.as_slice(), form, wanted)
 }
 
-fn assert_rows<R: Abort + AllocGlobal>(
-    rt: &R,
-    commented: bool,
-    rows: &str,
-) -> Result<(), AllocError> {
+fn assert_rows<R: Abort + AllocGlobal>(rt: &R, form: Form, rows: &str) -> Result<(), AllocError> {
     for row in rows.lines() {
-        assert!(rt; is_shown(rt.alloc(), commented, row)?, "{row}");
+        assert!(rt; is_shown(rt.alloc(), form, row)?, "{row}");
     }
-    reading::assert_rows(rt, commented, 1000, rows)
+    reading::assert_rows(rt, form, 1000, rows)
 }
 
 fn have_packages(text: &str) -> bool {
@@ -117,7 +102,7 @@ $$A:1$$\t$B:2$$→3<A:1$>A=1@3;6<B:2$>B=2@6;
 
 #[test]
 fn stanzas_are_the_lines_between_separators(rt: HostRuntime) -> Result<(), AllocError> {
-    assert_rows(&rt, false, STANZAS)
+    assert_rows(&rt, Form::Plain, STANZAS)
 }
 
 const VALUES: &str = "\
@@ -135,8 +120,8 @@ A: 1$ # no comment$→1<A: 1$ # no comment$>A=1$ # no comment@1;
 
 #[test]
 fn a_value_is_trimmed_and_keeps_its_inner_newlines(rt: HostRuntime) -> Result<(), AllocError> {
-    assert_rows(&rt, false, VALUES)?;
-    assert_rows(&rt, true, VALUES_COMMENTED)
+    assert_rows(&rt, Form::Plain, VALUES)?;
+    assert_rows(&rt, Form::Commented, VALUES_COMMENTED)
 }
 
 const FAULTS: &str = "\
@@ -162,7 +147,7 @@ Conflicts: a$Conffiles: b$CONFLICTS: c$→E4 DuplicateField 3
 // Of the last two rows, the names share a slot of the table by which most names are known to be new.
 #[test]
 fn the_first_bad_line_is_told_and_nothing_follows(rt: HostRuntime) -> Result<(), AllocError> {
-    assert_rows(&rt, false, FAULTS)
+    assert_rows(&rt, Form::Plain, FAULTS)
 }
 
 const COMMENTS: &str = "\
@@ -180,7 +165,7 @@ A: 1$Explanation: x$A: 2$→E4 DuplicateField 3
 
 #[test]
 fn comments_end_a_field_and_are_in_none(rt: HostRuntime) -> Result<(), AllocError> {
-    assert_rows(&rt, true, COMMENTS)
+    assert_rows(&rt, Form::Commented, COMMENTS)
 }
 
 fn has_value(stanza: &Stanza<'_>, name: &[u8], wanted: &[u8]) -> bool {

@@ -1,4 +1,5 @@
-use Rattle.std.proofs.Common.{◌≡◌, ◌+◌, ◌≤◌, false, length}
+use Rattle.std.proofs.Common.{◌≡◌, ◌+◌, ◌≤◌, length}
+use Rattle.stanza.specs.declared.form.Form.TheVariants.{Plain}
 use Rattle.stanza.specs.Stanza.{items_of}
 use Rattle.index.specs.Index.{first_place, stanzas_in, with_stanzas}
 use Rattle.index.proofs.stanzas.stanzas_in.Given as goal
@@ -10,4 +11,4 @@ invariant-loop-item l =
     (goal.iterator-loop-item).is_finite l.item-iterator ×
     (l.stanzas.skipped + length l.item-iterator ≤ length l.text) ×
     (l.place.stanza + length l.item-iterator ≤ length l.text + 1) ×
-    (stanzas_in l.arch (first_place l.number) (items_of false l.text) l.before ≡ with_stanzas l.stanzas (stanzas_in l.arch l.place l.item-iterator (l.before + length l.stanzas.listed)))
+    (stanzas_in l.arch (first_place l.number) (items_of Plain l.text) l.before ≡ with_stanzas l.stanzas (stanzas_in l.arch l.place l.item-iterator (l.before + length l.stanzas.listed)))

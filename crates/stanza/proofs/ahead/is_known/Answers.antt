@@ -8,15 +8,15 @@ use Rattle.stanza.proofs.ahead.is_known.Goals as goal
 
 pub has-requires : goal.has-requires
 has-requires c =
-    subst (AreKnown c.args.known.now) (sym (names-noted c.args.commented c.requires.starts.0 c.args.done.now c.args.starts.now c.requires.starts.1)) c.requires.known
+    subst (AreKnown c.args.known.now) (sym (names-noted c.args.form c.requires.starts.0 c.args.done.now c.args.starts.now c.requires.starts.1)) c.requires.known
 
 pub returns-clause-repeated : goal.returns-clause-repeated
 returns-clause-repeated c =
     rw (sym c.may_repeat.ensures ∙ c.if-may_repeat.false)
     (subst (λ (names : List (List ℕ)). IfOk c.has.result (λ is. is ≡ list_any (λ earlier. same_name earlier c.args.name.now) names))
-    (names-noted c.args.commented c.requires.starts.0 c.args.done.now c.args.starts.now c.requires.starts.1) c.has.ensures.has)
+    (names-noted c.args.form c.requires.starts.0 c.args.done.now c.args.starts.now c.requires.starts.1) c.has.ensures.has)
 
 pub returns-clause-known : goal.returns-clause-known
 returns-clause-known c =
     subst (λ (names : List (List ℕ)). OnOk c.has.result (AreKnown c.has.new.self names))
-    (names-noted c.args.commented c.requires.starts.0 c.args.done.now c.args.starts.now c.requires.starts.1) c.has.ensures.known
+    (names-noted c.args.form c.requires.starts.0 c.args.done.now c.args.starts.now c.requires.starts.1) c.has.ensures.known

@@ -1,5 +1,5 @@
 -- The first newline ends the line; where there is none, the whole text is its last line if it is over.
-use Rattle.std.proofs.Common.{ℕ, Bool, ◌≡◌, true, false, sym, subst, add-one, length}
+use Rattle.std.proofs.Common.{ℕ, Bool, sym, subst, add-one, length}
 use Rattle.stanza.specs.Streamed.{EndsLine}
 use Rattle.stanza.proofs.StreamLemmas.{EndsLine-at, EndsLine-last, no-newline}
 use Rattle.stanza.proofs.ahead.whole_line.Goals as goal

@@ -9,4 +9,4 @@ abbrev pub invariant-loop-field : goal.invariant-loop-field
 invariant-loop-field l =
     (goal.iterator-loop-field).can_next l.field-iterator ×
     (goal.iterator-loop-field).is_finite l.field-iterator ×
-    (list_any (λ (field : FieldText). same_name field.name l.name) (fields_of l.commented 1 (lines_of l.done)) ≡ list_any (λ (field : FieldText). same_name field.name l.name) l.field-iterator)
+    (list_any (λ (field : FieldText). same_name field.name l.name) (fields_of l.fn.form 1 (lines_of l.done)) ≡ list_any (λ (field : FieldText). same_name field.name l.name) l.field-iterator)

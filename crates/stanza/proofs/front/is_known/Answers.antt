@@ -9,5 +9,5 @@ use Rattle.stanza.proofs.front.is_known.Goals as goal
 
 pub returns-else-has_slot_of : goal.returns-else-has_slot_of
 returns-else-has_slot_of c =
-    sym (and_right (not (may_repeat c.args.commented c.args.name.now)) _
-    (new_name c.args.seen.now.slots (names_of c.args.commented (lines_of c.args.done.now)) c.args.name.now c.requires (sym c.if-has_slot_of.ensures)))
+    sym (and_right (not (may_repeat c.args.form c.args.name.now)) _
+    (new_name c.args.seen.now.slots (names_of c.args.form (lines_of c.args.done.now)) c.args.name.now c.requires (sym c.if-has_slot_of.ensures)))

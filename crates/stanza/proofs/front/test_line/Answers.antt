@@ -1,5 +1,5 @@
 -- A line that passes all tests has no fault, and its name's slot is taken.
-use Rattle.std.proofs.Common.{◌≡◌, sym, ap, ◌∙◌, true, false, not}
+use Rattle.std.proofs.Common.{◌≡◌, sym, ap, ◌∙◌, false, not}
 use Rattle.std.proofs.lemmas.Bool.{and_parts, not-true}
 use Rattle.stanza.specs.Line.{lines_of, is_comment, is_continuation}
 use Rattle.stanza.specs.Field.{is_name, name_of}
@@ -11,12 +11,12 @@ use Rattle.stanza.proofs.front.test_line.Goals as goal
 
 pub returns : goal.returns
 returns c =
-    let commented = c.args.commented in
+    let form = c.args.form in
     let line = c.args.line.now in
     let before = lines_of c.args.done.now in
-    let found = name-found commented c.args.opened c.args.number line c.in-Some.name c.in_ok-name.field-0 c.in-Some.is c.in_ok-name.ensures in
-    let kinds = and_parts (not (is_comment commented line)) (not (is_continuation line)) found.begins in
-    let first : is_repeated commented before (name_of line) ≡ false = ap (is_repeated commented before) (sym found.is) ∙ sym c.if-is_known.ensures in (
-      fault_of-field commented before c.args.number line (not-true (is_comment commented line) kinds.0) (not-true (is_continuation line) kinds.1) found.colon (ap is_name (sym found.is) ∙ found.good) first,
-      AreSeen-field commented before line c.in-Some.name.now c.args.seen.now.slots c.add.new.self.slots found.begins found.is c.requires.seen c.add.ensures.slots c.add.ensures.added,
+    let found = name-found form c.args.opened c.args.number line c.in-Some.name c.in_ok-name.field-0 c.in-Some.is c.in_ok-name.ensures in
+    let kinds = and_parts (not (is_comment form line)) (not (is_continuation line)) found.begins in
+    let first : is_repeated form before (name_of line) ≡ false = ap (is_repeated form before) (sym found.is) ∙ sym c.if-is_known.ensures in (
+      fault_of-field form before c.args.number line (not-true (is_comment form line) kinds.0) (not-true (is_continuation line) kinds.1) found.colon (ap is_name (sym found.is) ∙ found.good) first,
+      AreSeen-field form before line c.in-Some.name.now c.args.seen.now.slots c.add.new.self.slots found.begins found.is c.requires.seen c.add.ensures.slots c.add.ensures.added,
     )

@@ -1,7 +1,6 @@
 -- Where more is needed more is read, and where none may be read the text is too large.
-use Rattle.std.proofs.Common.{◌≡◌, ◌+◌, ℕ, List, [], ◌∷◌, length, arith, sym, ap, subst, ◌∙◌, inl, inr, Err}
+use Rattle.std.proofs.Common.{◌≡◌, [], ◌∷◌, arith, sym, ap, ◌∙◌, inl, inr, Err}
 use Rattle.std.proofs.lemmas.Result.{err_from_is_err_and}
-use Rattle.stanza.specs.Held.{read_of}
 use Rattle.stanza.proofs.HeldLemmas.{filled-read, needs-more}
 use Rattle.stanza.specs.declared.error.ReadError.{ReadError}
 use Rattle.stanza.specs.declared.error.ReadError.TheVariants as read_error
@@ -17,7 +16,7 @@ pub returns-in_err-is_over-in-More-clause-refused : goal.returns-in_err-is_over-
 returns-in_err-is_over-in-More-clause-refused g c = λ left known.
     let w = c.loop-place in
     let f = w.invariant.known left known in
-    let more = needs-more w.is_over c.args.commented w.held c.cut.new.self c.cut.new.starts.items c.in_ok-place.field-0 c.in-More.is c.in_ok-place.ensures.found in
+    let more = needs-more w.is_over c.args.form w.held c.cut.new.self c.cut.new.starts.items c.in_ok-place.field-0 c.in-More.is c.in_ok-place.ensures.found in
     let e = c.in_err-is_over-in-More.ensures.large f.0 f.1 in
     let p = err_from_is_err_and c.from_residual-in_err-is_over-in-More.result c.from_residual-in_err-is_over-in-More.ensures.1 in
     rw (p.1, p.2) (elim e [
@@ -28,7 +27,7 @@ returns-in_err-is_over-in-More-clause-refused g c = λ left known.
 pub loop-place-preserved : goal.loop-place-preserved
 loop-place-preserved g c =
     let w = c.loop-place in
-    let more = needs-more w.is_over c.args.commented w.held c.cut.new.self c.cut.new.starts.items c.in_ok-place.field-0 c.in-More.is c.in_ok-place.ensures.found in
+    let more = needs-more w.is_over c.args.form w.held c.cut.new.self c.cut.new.starts.items c.in_ok-place.field-0 c.in-More.is c.in_ok-place.ensures.found in
     let filled = c.in_ok-is_over-in-More.ensures in
     record {
       held = filled.held;
@@ -38,7 +37,7 @@ loop-place-preserved g c =
       known = λ left known.
           let f = w.invariant.known left known in
           let n = filled.filled f.0 f.1 in
-          (n.0, n.1, f.2 ∙ more.read f.0 ∙ filled-read c.args.commented c.cut.new.self c.fill.new.self f.0 n.0 n.2, n.3);
+          (n.0, n.1, f.2 ∙ more.read f.0 ∙ filled-read c.args.form c.cut.new.self c.fill.new.self f.0 n.0 n.2, n.3);
       sure = λ sure. (filled.sure (w.invariant.sure sure)).0;
       count = filled.count ∙ w.invariant.count;
     }

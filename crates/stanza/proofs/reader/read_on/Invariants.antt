@@ -11,7 +11,7 @@ invariant-loop-place g l = record {
   total : total_of l.held ≤ total_of l.fn.held;
   some : 0 < length l.block;
   known : (left : List ℕ) → g.S.Source.left l.fn.source ≡ Some left
-      → (more : List ℕ) × (g.S.Source.left l.source ≡ Some more) × (read_of l.commented l.fn.held left ≡ read_of l.commented l.held more) × MayFollow l.is_over more;
+      → (more : List ℕ) × (g.S.Source.left l.source ≡ Some more) × (read_of l.form l.fn.held left ≡ read_of l.form l.held more) × MayFollow l.is_over more;
   sure : g.S.Source.is_sure l.fn.source ≡ true → g.S.Source.is_sure l.source ≡ true;
   count : g.S.Source.faults l.source ≡ g.S.Source.faults l.fn.source;
 }

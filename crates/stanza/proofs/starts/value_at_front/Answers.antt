@@ -1,7 +1,6 @@
 -- The value goes on over the continuations behind the first line.
-use Rattle.std.proofs.Common.{◌≡◌, ◌+◌, ℕ, List, length, take, sym, ap, ◌∙◌}
-use Rattle.stanza.specs.Field.{FieldText, continued, value_of}
-use Rattle.stanza.specs.Line.{lines_of}
+use Rattle.std.proofs.Common.{ℕ, List, take, sym, ap, ◌∙◌}
+use Rattle.stanza.specs.Field.{value_of}
 use Rattle.stanza.specs.Starts.{first_field}
 use Rattle.stanza.proofs.FieldsLemmas.{take-behind}
 use Rattle.stanza.proofs.starts.value_at_front.Goals as goal

@@ -1,4 +1,5 @@
-use Rattle.std.proofs.Common.{◌∙◌, Ok, ap, append-nil, false}
+use Rattle.std.proofs.Common.{◌∙◌, Ok, ap, append-nil}
+use Rattle.stanza.specs.declared.form.Form.TheVariants.{Plain}
 use Rattle.stanza.specs.Stanza.{items_of}
 use Rattle.status_text.proofs.DistinctLemmas.{distinct_names}
 use Rattle.status_text.proofs.SlotsLemmas.{one_more}
@@ -14,4 +15,4 @@ loop-item-preserved c = (
 
 pub returns-clause-distinct : goal.returns-clause-distinct
 returns-clause-distinct c =
-    distinct_names c.args.arch.now (items_of false c.args.text.now) c.loop-item.slots.items (c.loop-item.invariant.2 ∙ rw c.in-None.ensures.steps.0 (ap Ok (append-nil _)))
+    distinct_names c.args.arch.now (items_of Plain c.args.text.now) c.loop-item.slots.items (c.loop-item.invariant.2 ∙ rw c.in-None.ensures.steps.0 (ap Ok (append-nil _)))

@@ -1,4 +1,5 @@
-use Rattle.std.proofs.Common.{◌≡◌, [], false}
+use Rattle.std.proofs.Common.{◌≡◌, []}
+use Rattle.stanza.specs.declared.form.Form.TheVariants.{Plain}
 use Rattle.stanza.specs.Stanza.{items_of}
 use Rattle.status_text.specs.Status.{slots_in, with_slots}
 use Rattle.status_text.proofs.read.slots_in.Given as goal
@@ -8,4 +9,4 @@ abbrev pub invariant-loop-item : goal.invariant-loop-item
 invariant-loop-item l =
     (goal.iterator-loop-item).can_next l.item-iterator ×
     (goal.iterator-loop-item).is_finite l.item-iterator ×
-    (slots_in l.arch (items_of false l.text) [] ≡ with_slots l.slots.items (slots_in l.arch l.item-iterator l.seen))
+    (slots_in l.arch (items_of Plain l.text) [] ≡ with_slots l.slots.items (slots_in l.arch l.item-iterator l.seen))

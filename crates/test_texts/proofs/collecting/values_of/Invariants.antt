@@ -1,4 +1,5 @@
-use Rattle.std.proofs.Common.{◌≡◌, ℕ, false, List, map, Bor}
+use Rattle.std.proofs.Common.{◌≡◌, ℕ, List, map, Bor}
+use Rattle.stanza.specs.declared.form.Form.TheVariants.{Plain}
 use Rattle.stanza.specs.Stanza.{items_of}
 use Rattle.stanza.specs.Collect.{values_in}
 use Rattle.stanza.proofs.CollectLemmas.{with_front}
@@ -9,4 +10,4 @@ abbrev pub invariant-loop-item : goal.invariant-loop-item
 invariant-loop-item l =
     (goal.iterator-loop-item).can_next l.item-iterator ×
     (goal.iterator-loop-item).is_finite l.item-iterator ×
-    (values_in l.name (items_of false l.text) ≡ with_front (map (λ (value : Bor (List ℕ)). value.now) l.values.items) (values_in l.name l.item-iterator))
+    (values_in l.name (items_of Plain l.text) ≡ with_front (map (λ (value : Bor (List ℕ)). value.now) l.values.items) (values_in l.name l.item-iterator))

@@ -8,9 +8,9 @@ use Rattle.stanza.proofs.starts.ReadStanza.fields.Goals as goal
 
 pub invariant_of-result : goal.invariant_of-result
 invariant_of-result c =
-    subst (AreWithin c.self.inside.raw.now) (sym c.self.invariant.1) (within-at c.self.inside.commented c.self.inside.line c.self.inside.raw.now)
+    subst (AreWithin c.self.inside.raw.now) (sym c.self.invariant.1) (within-at c.self.inside.form c.self.inside.line c.self.inside.raw.now)
 
 pub returns : goal.returns
 returns c =
     ap (λ (starts : List Start). map (field_at c.self.inside.raw.now) starts) c.self.invariant.1
-    ∙ fields-at c.self.inside.commented c.self.inside.line c.self.inside.raw.now ∙ ap (λ (s : StanzaText). s.fields) c.self.view_is
+    ∙ fields-at c.self.inside.form c.self.inside.line c.self.inside.raw.now ∙ ap (λ (s : StanzaText). s.fields) c.self.view_is
