@@ -11,3 +11,4 @@ pub mod TurnLemmas
 pub mod FixedLemmas
 pub mod BeginningLemmas
 pub mod FoundLemmas
+pub mod MarkLemmas

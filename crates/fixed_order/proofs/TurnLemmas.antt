@@ -15,17 +15,16 @@ use Rattle.rules.specs.Step.{is_among}
 use Rattle.rules.proofs.EndLemmas.{both_true}
 use Rattle.rules.proofs.GroupLemmas.{GroupPasses-each, GroupPasses-from_each}
 use Rattle.plain.proofs.LeastGroupLemmas.{some_length}
-use Rattle.fixed_order.specs.Turn.{AsksBefore, AsksBeforeBy, ComesBefore, ComesBeforeBy, HasRings, is_ring, is_ringed, rank_in}
+use Rattle.fixed_order.specs.Turn.{AsksBefore, AsksBeforeBy, AsksOnly, AsksOnlyBy, ComesBefore, ComesBeforeBy, HasRings, IsOneBy, is_ring, is_ringed, rank_in}
 use mathlib.Core.Logic.{inl, inr}
 
--- what matches the clause comes before the name
-comes_before : (rank : List ℕ → ℕ) (db : List Record) (name : List ℕ) (clause : List Atom) (found : Record) → Contains db found
-    → IsPresent found → MatchesSome (pkg_of found) clause → All (λ atom. All (ComesBeforeBy rank name atom) db) clause
-    → ComesBefore rank found.name name
+-- what matches the clause is of such a name, where all that does is
+pub matched_only : (P : List ℕ → Type 0) (db : List Record) (clause : List Atom) (found : Record) → Contains db found → IsPresent found
+    → MatchesSome (pkg_of found) clause → All (λ atom. All (IsOneBy P atom) db) clause → P found.name
 unfolding MatchesSome
-comes_before rank db name clause found there present matches all = Any-elim (Matches (pkg_of found)) clause
-    (ComesBefore rank found.name name) (λ atom inside fits. All-contains (ComesBeforeBy rank name atom) db found
-    (All-contains (λ a. All (ComesBeforeBy rank name a) db) clause atom all inside) there present fits) matches
+matched_only P db clause found there present matches all = Any-elim (Matches (pkg_of found)) clause (P found.name)
+    (λ atom inside fits. All-contains (IsOneBy P atom) db found
+    (All-contains (λ a. All (IsOneBy P a) db) clause atom all inside) there present fits) matches
 
 module _ (rank : List ℕ → ℕ) (db : List Record) (group part : List (List ℕ)) (name : List ℕ)
     (closed : (other : List ℕ) → Contains group other → ComesBefore rank other name → Contains part other) where
@@ -38,7 +37,8 @@ module _ (rank : List ℕ → ℕ) (db : List Record) (group part : List (List �
         let from = Contains-map pkg_of (filter (is_present_among group) db) pkg grouped in
         let kept = Contains-filter (is_present_among group) db from.0 from.1 in
         let both = both_true (is_present_state from.0.state) (is_among group from.0) kept.1 in
-        let first = comes_before rank db name clause from.0 kept.0 both.0 (subst (λ (p : Pkg). MatchesSome p clause) (sym from.2) matches) before in
+        let first = matched_only (λ asked. ComesBefore rank asked name) db clause from.0 kept.0 both.0
+        (subst (λ (p : Pkg). MatchesSome p clause) (sym from.2) matches) before in
         let among : is_among part from.0 ≡ true =
         is_among-contains part from.0 (closed from.0.name (contains-is_among group from.0 both.1) first) in
         let passes : is_present_among part from.0 ≡ true = rw (both.0, among) refl in
@@ -49,7 +49,7 @@ module _ (rank : List ℕ → ℕ) (db : List Record) (group part : List (List �
 
   clause_met : (clause : List Atom) → AsksBeforeBy rank db name clause → MeetsClause (installed_of db ++ members_of group db) clause
       → MeetsClause (installed_of db ++ members_of part db) clause
-  unfolding MeetsClause AsksBeforeBy
+  unfolding MeetsClause AsksOnlyBy
   clause_met clause (inl met) whole = Any-append_left (λ member. MatchesSome member clause) (installed_of db) (members_of part db) met
   clause_met clause (inr before) whole = Any-elim (λ member. MatchesSome member clause) (installed_of db ++ members_of group db)
       (Any (λ member. MatchesSome member clause) (installed_of db ++ members_of part db))
@@ -68,7 +68,7 @@ pub part_passes : (rank : List ℕ → ℕ) (db : List Record) (group part : Lis
     → All (Contains group) part → ((name : List ℕ) → Contains part name → AsksBefore rank db name)
     → ((name other : List ℕ) → Contains part name → Contains group other → ComesBefore rank other name → Contains part other)
     → GroupPasses db part
-unfolding AsksBefore
+unfolding AsksOnly
 part_passes rank db group part passes within asks closed = GroupPasses-from_each db part (λ name there.
     let whole = GroupPasses-each db group passes name (All-contains (Contains group) part name within there) in
     record {
@@ -223,7 +223,7 @@ alone_or_ring rank db group some passes asks = at (least_ranked rank group some)
 
 -- by one rank for all, that of a ring, each name asks for names before it
 asks_in_ring : (db : List Record) (name : List ℕ) → AsksBefore (λ n. 1) db name
-unfolding AsksBefore AsksBeforeBy ComesBefore
+unfolding AsksOnly AsksOnlyBy ComesBefore
 asks_in_ring db name = All-intro (λ member. member.name ≡ name → All (AsksBeforeBy (λ n. 1) db name) member.relations.depends) db
     (λ member inside same. All-intro (AsksBeforeBy (λ n. 1) db name) member.relations.depends (λ clause there.
     inr (All-intro (λ atom. All (ComesBeforeBy (λ n. 1) name atom) db) clause (λ atom within.

@@ -13,9 +13,8 @@ use Rattle.rules.specs.Universe.{Universe}
 use Rattle.rules.proofs.GroupLemmas.{GroupPasses-from_each, others_of-contains}
 use Rattle.rules.proofs.Rising.{pairs_head, pairs_tail}
 use Rattle.plain.specs.Order.{IsLeastGroup}
-use Rattle.plain.specs.Underway.{unconfigured_of}
 use Rattle.plain.specs.Walk.{IsNextName, IsOnWalk}
-use Rattle.plain.proofs.LeastGroupLemmas.{names_unconfigured, walk_ends, walk_keeps, walk_leaves_out}
+use Rattle.plain.proofs.LeastGroupLemmas.{walk_ends, walk_keeps, walk_leaves_out}
 use Rattle.plain.proofs.SortedLemmas.{not_below_itself}
 use Rattle.fixed_order.specs.Names.{AreAllWith}
 use Rattle.fixed_order.specs.Walked.{IsFalling, IsWalkedTo}
@@ -105,13 +104,12 @@ module _ (db : List Record) (name : List ℕ) (left kept group : List (List ℕ)
   }
 
 -- the beginning of the walk
-pub walk_starts : (db : List Record) (down group : List (List ℕ)) → IsFalling (unconfigured_of db) down → IsOnWalk db [] group
+pub walk_starts : (db : List Record) (down group : List (List ℕ)) → IsFalling group down → IsOnWalk db [] group
     → IsWalkedTo db down [] group
 walk_starts db down group falling walk = record {
   walk = walk;
   falls = falling.falls;
-  known = λ name within. inr (falling.all name (All-contains (Contains (unconfigured_of db)) group name
-      (names_unconfigured db group walk.passing.passes) within));
+  known = λ name within. inr (falling.all name within);
   above = λ high low among there. absurd (Contains-nil high among);
 }
 

@@ -6,4 +6,5 @@ pub mod Purge
 pub mod Walked
 pub mod Alone
 pub mod Turn
+pub mod Askers
 pub mod Waiting

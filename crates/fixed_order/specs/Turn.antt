@@ -27,18 +27,29 @@ IsBelow rank other = (rank < other) ⊎ ((rank ≡ other) × (is_ring rank ≡ t
 unfoldable pub ComesBefore : (List ℕ → ℕ) → List ℕ → List ℕ → Type 0
 ComesBefore rank name other = (name ≡ other) ⊎ IsBelow (rank name) (rank other)
 
+-- the record, if it is present and matches the atom, is of such a name
+abbrev pub IsOneBy : (List ℕ → Type 0) → Atom → Record → Type 0
+IsOneBy P atom found = IsPresent found → Matches (pkg_of found) atom → P found.name
+
+-- an installed package meets the clause, or what matches it is of such names
+unfoldable pub AsksOnlyBy : (List ℕ → Type 0) → List Record → List Atom → Type 0
+AsksOnlyBy P db clause = MeetsClause (installed_of db) clause ⊎ All (λ atom. All (IsOneBy P atom) db) clause
+
+-- the name asks for such names alone in its Depends
+unfoldable pub AsksOnly : (List ℕ → Type 0) → List Record → List ℕ → Type 0
+AsksOnly P db name = All (λ member. member.name ≡ name → All (AsksOnlyBy P db) member.relations.depends) db
+
 -- the record, if it is present and matches the atom, comes before the name
 abbrev pub ComesBeforeBy : (List ℕ → ℕ) → List ℕ → Atom → Record → Type 0
-ComesBeforeBy rank name atom found = IsPresent found → Matches (pkg_of found) atom → ComesBefore rank found.name name
+ComesBeforeBy rank name = IsOneBy (λ asked. ComesBefore rank asked name)
 
 -- an installed package meets the clause, or what matches it comes before the name
-unfoldable pub AsksBeforeBy : (List ℕ → ℕ) → List Record → List ℕ → List Atom → Type 0
-AsksBeforeBy rank db name clause = MeetsClause (installed_of db) clause
-    ⊎ All (λ atom. All (ComesBeforeBy rank name atom) db) clause
+abbrev pub AsksBeforeBy : (List ℕ → ℕ) → List Record → List ℕ → List Atom → Type 0
+AsksBeforeBy rank db name = AsksOnlyBy (λ asked. ComesBefore rank asked name) db
 
 -- the name asks for names before it in its Depends
-unfoldable pub AsksBefore : (List ℕ → ℕ) → List Record → List ℕ → Type 0
-AsksBefore rank db name = All (λ member. member.name ≡ name → All (AsksBeforeBy rank db name) member.relations.depends) db
+abbrev pub AsksBefore : (List ℕ → ℕ) → List Record → List ℕ → Type 0
+AsksBefore rank db name = AsksOnly (λ asked. ComesBefore rank asked name) db name
 
 -- among the names these are all that are in rings: by some ranks each asks for names before it, and where names of a ring have the
 -- rank it is one of these

@@ -5,39 +5,28 @@
 ghost use Rattle.std.specs.Prelude.{◌≡◌, ◌↔◌, ◌∷◌, [], ℕ, List, true, IfOk, IsTrue, MatchOption, OnOk};
 ghost use Rattle.std.specs.List.{All, Contains};
 ghost use Rattle.std.specs.Option.{option_copied};
-ghost use Rattle.rules.specs.Configure.{AreConfigurable, AreDependsInstalled, ArePreDependsInstalled, IsGreatestPart, IsIndivisible, others_of};
+ghost use Rattle.rules.specs.Configure.{IsGreatestPart, IsIndivisible, others_of};
 ghost use Rattle.plancheck_group.specs.Part.{IsPartWith};
 ghost use Rattle.plain.specs.Change.{HasNothingToRemove};
 ghost use Rattle.plain.specs.Order.{AreConfigures, IsConfigurableGroup, IsLeastGroup, after_all};
-ghost use Rattle.plain.specs.Underway.{unconfigured_of};
 ghost use Rattle.plain.specs.Walk.{IsOnWalk};
 ghost use Rattle.fixed_order.specs.Ground.{IsGround, IsUnderwayOn, members_in};
 ghost use Rattle.fixed_order.specs.Alone.{IsFirstWith, MayPass, NoneIsBroken, PassesAlone, is_below};
 ghost use Rattle.fixed_order.specs.Waiting.{IsWaitingIn};
+ghost use Rattle.fixed_order.specs.Selection.{marked};
 ghost use Rattle.fixed_order.specs.Walked.{IsBeginning, IsFalling, IsWalkedTo};
 
 use crate::ground::Ground;
-use crate::key::Key;
+use crate::key::{Key, from_greatest};
+use crate::marks::{have_what_they_ask, is_marked};
+use crate::turn::copies;
 use crate::waiting::Waiting;
 use plancheck::apply;
-use plancheck_group::{
-    are_configurable, are_depends_installed, are_pre_depends_installed, greatest_part,
-    is_indivisible,
-};
+use plancheck_group::{are_configurable, greatest_part, is_indivisible};
 use plancheck_state::{Records, is_same};
 use rules::{Name, Names, Step};
 use std::alloc::{AllocError, Global};
 use std::slice::from_ref;
-
-// Whether the names of a group may be configured and what they ask for is installed, or theirs.
-fn have_what_they_ask(db: &Records<'_, '_>, group: &[Name]) -> bool
-    ensures { IsTrue result ↔ (AreConfigurable db.now group.now × AreDependsInstalled db.now group.now
-        × ArePreDependsInstalled db.now group.now) }
-{
-    are_configurable(db, group)
-        && are_depends_installed(db, group)
-        && are_pre_depends_installed(db, group)
-}
 
 // Whether the name passes alone. In a plain change nothing breaks it, so that isn't asked.
 fn passes_alone(db: &Records<'_, '_>, name: &Name) -> bool
@@ -47,13 +36,27 @@ fn passes_alone(db: &Records<'_, '_>, name: &Name) -> bool
     have_what_they_ask(db, from_ref(name))
 }
 
+// The same of the name at the place, of which nothing is asked where it isn't marked though that is known.
+fn passes_at(db: &Records<'_, '_>, waiting: &Waiting<'_>, place: usize, name: &Name) -> bool
+    requires unbroken { NoneIsBroken db.now }
+    requires marked { waiting.now.is_known ≡ true → PassesAlone db.now name.now → marked waiting.now.marks.items place ≡ true }
+    ensures { IsTrue result ↔ PassesAlone db.now name.now }
+{
+    if waiting.is_known && !is_marked(waiting.marks.as_slice(), place) {
+        return false;
+    }
+    passes_alone(db, name)
+}
+
 // The place of the first name that passes alone, or the end.
-fn first_alone(db: &Records<'_, '_>, names: &[Name]) -> usize
-    requires { NoneIsBroken db.now }
+fn first_alone(db: &Records<'_, '_>, waiting: &Waiting<'_>, names: &[Name]) -> usize
+    requires unbroken { NoneIsBroken db.now }
+    requires waiting { IsWaitingIn db.now waiting.now }
+    requires names { names.now ≡ waiting.now.names.items }
     ensures { IsFirstWith (PassesAlone db.now) names.now result }
 {
     for place in 0..names.len() {
-        if passes_alone(db, &names[place]) {
+        if passes_at(db, waiting, place, &names[place]) {
             return place;
         }
     }
@@ -160,7 +163,7 @@ fn first_group(
     ensures { IfOk result (λ group. IsBeginning db.now group.items) }
 {
     let names = waiting.names.as_slice();
-    let place = first_alone(db, names);
+    let place = first_alone(db, waiting, names);
     let (before, rest) = names.split_at(place);
     let bound = rest.first();
     let group = lower_group(alloc, db, waiting, before, bound)?;
@@ -273,16 +276,17 @@ fn walked(
     db: &Records<'_, '_>,
     down: &[Key<'_>],
     whole: bool,
-    group: Vec<Name>,
+    group: &[Name],
 ) -> Result<Names, AllocError>
-    requires falls { IsFalling (unconfigured_of db.now) down.now }
-    requires walk { IsOnWalk db.now [] group.items }
-    requires whole { whole ≡ true → IsIndivisible db.now group.items }
+    requires falls { IsFalling group.now down.now }
+    requires walk { IsOnWalk db.now [] group.now }
+    requires whole { whole ≡ true → IsIndivisible db.now group.now }
     ensures { IfOk result (IsLeastGroup ground.now.universe.now db.now) }
 {
+    let copied = copies(ground.alloc, group)?;
     let mut walk = Walk {
         kept: Vec::new(ground.alloc),
-        group,
+        group: copied,
     };
     for key in down {
         walk_on(ground.alloc, db, &mut walk, whole, key)?;
@@ -323,8 +327,10 @@ fn least_group<'p, 'a>(
     if group.is_empty() {
         return Ok(None);
     }
-    let whole = is_whole(ground.alloc, db, waiting.rings.most, group.as_slice())?;
-    let least = walked(ground, db, waiting.down.as_slice(), whole, group)?;
+    let names = group.as_slice();
+    let whole = is_whole(ground.alloc, db, waiting.rings.most, names)?;
+    let down = from_greatest(ground.alloc, names)?;
+    let least = walked(ground, db, down.as_slice(), whole, names)?;
     Ok(Some(least))
 }
 
@@ -344,18 +350,19 @@ fn configures_of<'p, 'a>(
     let mut waiting = waiting;
     let mut steps = Vec::new(ground.alloc);
     while let Some(names) = least_group(ground, db, &waiting)? {
-        waiting.leave_out(names.as_slice());
+        let places = waiting.askers.of_group(names.as_slice())?;
         let step = Step::Configure(names);
         apply(db, ground.universe, None, &step)?;
+        waiting.look_again(db, places.as_slice());
         steps.push(step)?;
     }
     Ok(steps)
 }
 
-/// Takes the configures, and answers them. For each, names are tested alone up to the first that passes, and where names may ask
-/// for one another in turn it costs what `plancheck_group::greatest_part` does of those of them that come before that one; only
-/// where some of these pass a walk is made, which costs as much again for each name of a group that is no least one. Memory
-/// alone can fail.
+/// Takes the configures, and answers them. For each, the first name that passes alone is looked for among the marks, and then the
+/// names that ask for one of its group are tested again; where names may ask for one another in turn it costs what
+/// `plancheck_group::greatest_part` does of those of them that come before that one; only where some of these pass a walk over the
+/// group is made, which costs as much again for each name of a group that is no least one. Memory alone can fail.
 pub(crate) fn configures<'p, 'a>(
     ground: &Ground<'_, '_, 'p, 'a>,
     db: &mut Records<'p, 'a>,

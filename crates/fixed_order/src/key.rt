@@ -6,7 +6,9 @@ ghost use Rattle.std.specs.Cmp.Lexicographic.{nat_list_cmp_total};
 ghost use Rattle.std.specs.List.{Contains};
 ghost use Rattle.std.specs.Ordering.{as_partial_cmp, eq_by_cmp};
 ghost use Rattle.rules.specs.Name.{is_name, name_cmp};
+ghost use Rattle.rules.specs.Name.{IsAscending};
 ghost use Rattle.fixed_order.specs.Names.{AreAllWith};
+ghost use Rattle.fixed_order.specs.Walked.{IsFalling};
 
 use rules::Name;
 use std::alloc::{AllocError, Global};
@@ -100,4 +102,34 @@ pub(crate) fn in_order(keys: Vec<Key<'_>>) -> Result<Vec<Key<'_>>, AllocError>
     ordered.sort()?;
     ordered.dedup();
     Ok(ordered)
+}
+
+// The keys of the names.
+fn keys_of(alloc: Global, names: &[Name]) -> Result<Vec<Key<'_>>, AllocError>
+    ensures { IfOk result (λ keys. keys.items ≡ names.now) }
+{
+    let mut keys = Vec::new(alloc);
+    for name in names {
+        keys.push(Key::new(name.as_bytes()))?;
+    }
+    Ok(keys)
+}
+
+// The keys from the greatest down.
+fn falling(keys: Vec<Key<'_>>) -> Vec<Key<'_>>
+    requires { IsAscending keys.items }
+    ensures { IsFalling keys.entry.items result.items }
+{
+    let mut down = keys;
+    down.reverse();
+    down
+}
+
+/// The keys of the names from the greatest down, each once. About n log n comparisons. Memory alone can fail.
+pub(crate) fn from_greatest(alloc: Global, names: &[Name]) -> Result<Vec<Key<'_>>, AllocError>
+    ensures { IfOk result (λ down. IsFalling names.now down.items) }
+{
+    let keys = keys_of(alloc, names)?;
+    let ordered = in_order(keys)?;
+    Ok(falling(ordered))
 }

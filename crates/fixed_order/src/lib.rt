@@ -3,10 +3,12 @@
 // judge's calls, by which it asks whether a step is allowed. The main call is `fixed_order`.
 #![tactic(auto)]
 
+mod askers;
 mod configure;
 mod fixed;
 mod ground;
 mod key;
+mod marks;
 mod members;
 mod named;
 mod needs;

@@ -3,10 +3,9 @@
 // name that was left last on, comes to one ring after another (Kosaraju). Whether ranks are right is asked elsewhere, so nothing is
 // proved of them here.
 
+use crate::askers::Askers;
 use crate::ranks::Ranks;
 use indexmap::IndexSet;
-use plancheck_state::{Records, is_met, is_same};
-use relation::{Atom, Clause};
 use rules::Name;
 use std::alloc::{AllocError, Global};
 
@@ -51,69 +50,23 @@ impl<'n> Asking<'n> {
         Ok(())
     }
 
-    // Notes for whom the name at the place asks in these atoms.
-    fn read_atoms(
-        &mut self,
-        db: &Records<'_, '_>,
-        asking: usize,
-        atoms: &[Atom<'_>],
-    ) -> Result<(), AllocError> {
-        for atom in atoms {
-            for found in db.holders(atom.name()) {
-                if found
-                    .present_pkg()
-                    .is_some_and(|there| atom.matched_by(there))
-                {
-                    if let Some(asked) = self.names.get_index_of(found.name()) {
-                        self.note(asking, asked)?;
-                    }
-                }
-            }
+    // Notes those that ask for the name at the place.
+    fn read_of(&mut self, asked: usize, asking: &[usize]) -> Result<(), AllocError> {
+        for place in asking {
+            self.note(*place, asked)?;
         }
         Ok(())
     }
 
-    // The same in the clauses that no installed package meets.
-    fn read_clauses(
-        &mut self,
-        db: &Records<'_, '_>,
-        asking: usize,
-        clauses: &[Clause<'_>],
-    ) -> Result<(), AllocError> {
-        for clause in clauses {
-            if !is_met(db, clause) {
-                self.read_atoms(db, asking, clause.as_slice())?;
-            }
-        }
-        Ok(())
-    }
-
-    // The same in the Depends of the package of the name.
-    fn read_of(
-        &mut self,
-        db: &Records<'_, '_>,
-        asking: usize,
-        name: &[u8],
-    ) -> Result<(), AllocError> {
-        for found in db.holders(name) {
-            if is_same(found.name(), name) {
-                self.read_clauses(db, asking, found.depends())?;
-            }
-        }
-        Ok(())
-    }
-
-    // What these names ask of each other. For each atom of their Depends linear in the records that have or provide its name.
+    // What these names ask of each other.
     fn read(
         alloc: Global,
-        db: &Records<'_, '_>,
+        askers: &Askers<'_>,
         names: &'n [Name],
     ) -> Result<Asking<'n>, AllocError> {
         let mut asking = Asking::bare(alloc, names)?;
-        for name in names {
-            if let Some(place) = asking.names.get_index_of(name.as_bytes()) {
-                asking.read_of(db, place, name.as_bytes())?;
-            }
+        for (place, name) in names.iter().enumerate() {
+            asking.read_of(place, askers.of(name.as_bytes()))?;
         }
         Ok(asking)
     }
@@ -242,17 +195,17 @@ fn ranks_by<'n>(
     Ok(ranks)
 }
 
-/// Ranks of the names. For each atom of their Depends linear in the records that have or provide its name. Memory alone can fail.
+/// Ranks of the names, of which the table says who asks for whom. Linear in the table. Memory alone can fail.
 pub(crate) fn ranks_of<'n>(
     alloc: Global,
-    db: &Records<'_, '_>,
+    askers: &Askers<'_>,
     names: &'n [Name],
 ) -> Result<Ranks<'n>, AllocError> {
     let Asking {
         names,
         asked,
         asking,
-    } = Asking::read(alloc, db, names)?;
+    } = Asking::read(alloc, askers, names)?;
     let mut down = left_of(alloc, asked)?;
     down.reverse();
     let ranks = ranks_by(alloc, &names, asking, down.as_slice())?;

@@ -7,6 +7,7 @@ ghost use Rattle.rules.specs.Database.{IsPresent, pkg_of};
 ghost use Rattle.rules.specs.Package.{Matches};
 ghost use Rattle.fixed_order.specs.Turn.{AsksBefore, AsksBeforeBy, ComesBefore, ComesBeforeBy, HasRings, is_ringed, rank_in};
 
+use crate::askers::Askers;
 use crate::ranks::Ranks;
 use crate::rings::ranks_of;
 use plancheck_state::{Holders, Records, StateRecord, is_met, is_same};
@@ -63,7 +64,7 @@ fn asks_atoms_before(
 }
 
 // Whether an installed package meets the clause, or all that matches it comes before the name.
-#[tactic(auto, unfolding(crate::specs::Turn::AsksBeforeBy))]
+#[tactic(auto, unfolding(crate::specs::Turn::AsksOnlyBy))]
 fn asks_clause_before(
     db: &Records<'_, '_>,
     ranks: &Ranks<'_>,
@@ -142,8 +143,8 @@ fn ringed(alloc: Global, ranks: &Ranks<'_>, names: &[Name]) -> Result<Vec<Name>,
     Ok(rings)
 }
 
-// The names, copied.
-fn copies(alloc: Global, names: &[Name]) -> Result<Vec<Name>, AllocError>
+/// The names, copied. Memory alone can fail.
+pub(crate) fn copies(alloc: Global, names: &[Name]) -> Result<Vec<Name>, AllocError>
     ensures { IfOk result (λ copied. copied.items ≡ names.now) }
 {
     let mut copied = Vec::new(alloc);
@@ -166,11 +167,12 @@ pub(crate) struct Rings {
 pub(crate) fn rings_of(
     alloc: Global,
     db: &Records<'_, '_>,
+    askers: &Askers<'_>,
     names: &[Name],
 ) -> Result<Rings, AllocError>
     ensures { IfOk result (λ rings. HasRings db.now names.now rings.names.items) }
 {
-    let ranks = ranks_of(alloc, db, names)?;
+    let ranks = ranks_of(alloc, askers, names)?;
     if ask_before(db, &ranks, names) {
         let found = ringed(alloc, &ranks, names)?;
         let most = ranks.most();

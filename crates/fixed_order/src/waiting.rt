@@ -1,28 +1,34 @@
-// What waits to be configured, before the first configure.
+// What waits to be configured, before the first configure and behind each.
 
-ghost use Rattle.std.specs.Prelude.{◌≡◌, IfOk};
-ghost use Rattle.std.specs.List.{Contains, filter};
-ghost use Rattle.rules.specs.Name.{IsAscending};
+ghost use Rattle.std.specs.Prelude.{◌≡◌, true, IfOk, length};
+ghost use Rattle.std.specs.List.{Contains};
+ghost use Rattle.rules.specs.Configure.{ArePreDependsInstalled};
 ghost use Rattle.plain.specs.Underway.{unconfigured_of};
+ghost use Rattle.fixed_order.specs.Askers.{AreAskers};
 ghost use Rattle.fixed_order.specs.Ground.{IsGround, IsUnderwayOn};
 ghost use Rattle.fixed_order.specs.Names.{AreAllWith};
-ghost use Rattle.fixed_order.specs.Waiting.{IsWaitingIn, is_away, is_in};
-ghost use Rattle.fixed_order.specs.Walked.{IsFalling};
+ghost use Rattle.fixed_order.specs.Waiting.{IsLookedAtAgain, IsWaitingIn};
 
+use crate::askers::{Askers, are_noted};
 use crate::ground::Ground;
 use crate::key::{Key, in_order};
+use crate::marks::{mark_each, marks_of};
 use crate::turn::{Rings, rings_of};
+use plancheck_group::are_pre_depends_installed;
 use plancheck_state::Records;
 use rules::Name;
 use std::alloc::{AllocError, Global};
 
-/// The names that wait to be configured, in their order and from the greatest down, and those of them that may ask for one
-/// another in turn. Names that were configured since may still be among the falling ones.
+/// The names that wait to be configured, in their order, those of them that may ask for one another in turn, and which of them
+/// have what they ask for: they are marked. Names that were configured since are still among them. Where it isn't known who asks
+/// for whom, nothing is known of the marks.
 #[derive(Drop)]
 pub(crate) struct Waiting<'a> {
     pub(crate) names: Vec<Name>,
-    pub(crate) down: Vec<Key<'a>>,
     pub(crate) rings: Rings,
+    pub(crate) askers: Askers<'a>,
+    pub(crate) marks: Vec<bool>,
+    pub(crate) is_known: bool,
 }
 
 // The names of what isn't configured, in the order of the records.
@@ -68,41 +74,16 @@ fn names_of(alloc: Global, keys: &[Key<'_>]) -> Result<Vec<Name>, AllocError>
     Ok(names)
 }
 
-// The names from the greatest down.
-fn falling(keys: Vec<Key<'_>>) -> Vec<Key<'_>>
-    requires { IsAscending keys.items }
-    ensures { IsFalling keys.entry.items result.items }
+// Whether the Pre-Depends of the names are installed, and it is noted for whom each of them asks.
+fn is_known(db: &Records<'_, '_>, askers: &Askers<'_>, names: &[Name]) -> bool
+    ensures { result ≡ true → ArePreDependsInstalled db.now names.now × AreAskers db.now askers.now names.now }
 {
-    let mut down = keys;
-    down.reverse();
-    down
-}
-
-// Whether the name is of the group.
-fn is_in(group: &[Name], name: &Name) -> bool
-    ensures { result ≡ is_in group.now name.now }
-{
-    group
-        .iter()
-        .any(|other| name.as_bytes() == other.as_bytes())
-}
-
-// Whether the name isn't of the group.
-fn is_away(group: &[Name], name: &Name) -> bool
-    ensures { result ≡ is_away group.now name.now }
-{
-    !is_in(group, name)
-}
-
-// Keeps the names that aren't of the group.
-fn keep_away(names: &mut Vec<Name>, group: &[Name])
-    ensures { names.new.items ≡ filter (is_away group.now) names.old.items }
-{
-    names.retain(|name| is_away(group, name));
+    are_pre_depends_installed(db, names) && are_noted(db, askers, names)
 }
 
 impl<'a> Waiting<'a> {
-    /// What waits in this database. About n log n comparisons of n names, and what `rings_of` says. Memory alone can fail.
+    /// What waits in this database. About n log n comparisons of n names, and what `rings_of`, `are_noted` and a test of each name
+    /// cost. Memory alone can fail.
     pub(crate) fn read<'p>(
         ground: &Ground<'_, '_, 'p, 'a>,
         db: &Records<'p, 'a>,
@@ -113,19 +94,25 @@ impl<'a> Waiting<'a> {
     {
         let keys = unconfigured(ground, db)?;
         let names = names_of(ground.alloc, keys.as_slice())?;
-        let rings = rings_of(ground.alloc, db, names.as_slice())?;
-        let down = falling(keys);
-        Ok(Waiting { names, down, rings })
+        let askers = Askers::read(ground.alloc, db, names.as_slice())?;
+        let rings = rings_of(ground.alloc, db, &askers, names.as_slice())?;
+        let marks = marks_of(ground.alloc, db, names.as_slice())?;
+        let is_known = is_known(db, &askers, names.as_slice());
+        Ok(Waiting {
+            names,
+            rings,
+            askers,
+            marks,
+            is_known,
+        })
     }
 
-    /// Leaves out the names of the group, which is configured: else each is asked again whether it passes. Linear in the
-    /// names, for each in the group's.
-    pub(crate) fn leave_out(&mut self, group: &[Name])
-        ensures names { self.new.names.items ≡ filter (is_away group.now) self.old.names.items }
-        ensures down { self.new.down.items ≡ self.old.down.items }
-        ensures rings { self.new.rings.names.items ≡ filter (is_away group.now) self.old.rings.names.items }
+    /// Tests anew which of the names at these places have what they ask for, in the database behind a configure: they are those of
+    /// the group and those that ask for it.
+    pub(crate) fn look_again(&mut self, db: &Records<'_, '_>, places: &[usize])
+        requires { length self.old.marks.items ≡ length self.old.names.items }
+        ensures { IsLookedAtAgain db.now places.now self.old self.new }
     {
-        keep_away(&mut self.names, group);
-        keep_away(&mut self.rings.names, group);
+        mark_each(db, self.names.as_slice(), &mut self.marks, places);
     }
 }

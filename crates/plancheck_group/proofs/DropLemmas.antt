@@ -2,7 +2,7 @@
 use Rattle.std.proofs.Common.{◌≡◌, ◌≢◌, ℕ, ◌+◌, ◌<◌, ◌≤◌, Bool, true, false, not, refl, Bor, List, [], ◌∷◌, ◌++◌, length, ap, sym, subst, arith, ◌∙◌}
 use Rattle.std.specs.Prelude.{◌↔◌, ◌==◌}
 use Rattle.std.specs.List.{All, Any, Contains}
-use Rattle.std.proofs.lemmas.List.Elements.{All-contains, All-push, All-weaker, All-contains_itself}
+use Rattle.std.proofs.lemmas.List.Elements.{All-contains, All-push, All-weaker}
 use Rattle.std.proofs.lemmas.Bool.{eq-eqb, eqb-true}
 use Rattle.std.proofs.lemmas.List.{length-append}
 use Rattle.rules.proofs.GroupLemmas.{ForMembers-each, MemberPasses-more, GroupPasses-each, GroupPasses-from_each, contains-others_of, empty_from_none, greatest_part, others_of-contains}
@@ -11,8 +11,7 @@ use Rattle.rules.specs.Database.{Record, installed_of}
 use Rattle.rules.specs.Sound.{MeetsClauses}
 use Rattle.rules.specs.ElementLaws.{All-intro, Any-elim, Any-intro, Contains-nil}
 use Rattle.plancheck_group.specs.Part.{AreSupplied, HasNoPartWithout, HasWhatPasses, HaveSameNames, IsDroppedTo, IsLookedAt, IsNarrowed, IsPartWith, IsReady, IsSupplied, IsSuppliedPart, IsWalked, NothingWithout}
-use Rattle.plancheck_group.proofs.PartLemmas.{alone, group_from, has_through, of_alone, ready_has, ready_in, unsupplied_in, whole_has, whole_narrowed}
-use mathlib.Core.Logic.{inl, inr}
+use Rattle.plancheck_group.proofs.PartLemmas.{alone, group_from, has_through, of_alone, ready_has, unsupplied_in, whole_narrowed}
 
 -- what holds of no names
 pub of_none : (P : List ℕ → Type 0) → All P []
@@ -208,16 +207,31 @@ pub within_others : (db : List Record) (names others left : List (List ℕ)) (na
 within_others db names others left name is has = All-intro (Contains names) left (λ n there.
     ((is n).0 (All-contains (Contains others) left n has.within there)).0)
 
+-- a part without the name is among the others
+among_others : (ready others other : List (List ℕ)) (name : List ℕ) → IsPartWith (λ other. other ≢ name) ready others
+    → All (Contains ready) other → ¬ Contains other name → All (Contains others) other
+among_others ready others other name is inside without = All-intro (Contains others) other (λ n there.
+    (is n).1 (All-contains (Contains ready) other n inside there, λ same. without (subst (Contains other) same there)))
+
+-- where a lost name isn't supplied in the others of a name, nothing passes without that name either
+pub nothing_where_stranded : (db : List Record) (ready others lost : List (List ℕ)) (name : List ℕ) → IsPartWith (λ other. other ≢ name) ready others
+    → All (NothingWithout db ready) lost → Any (λ n. ¬ IsSupplied db others n) lost → NothingWithout db ready name
+nothing_where_stranded db ready others lost name is all some part within passes lacks = Any-elim (λ n. ¬ IsSupplied db others n) lost (part ≡ [])
+    (λ n there stranded. All-contains (NothingWithout db ready) lost n all there part within passes
+    (unsupplied_in db others part n stranded (among_others ready others part name is within lacks) passes)) some
+
+-- where a lost name that asks is stranded, one of the lost names isn't supplied
+pub stranded_lost : (db : List Record) (lost others : List (List ℕ)) (asking : List (Bor (List ℕ)))
+    → Any (λ name. Contains lost name.now × (¬ IsSupplied db others name.now)) asking → Any (λ n. ¬ IsSupplied db others n) lost
+stranded_lost db lost others asking some = Any-elim (λ name. Contains lost name.now × (¬ IsSupplied db others name.now)) asking
+    (Any (λ n. ¬ IsSupplied db others n) lost) (λ name within both. Any-intro (λ n. ¬ IsSupplied db others n) lost name.now both.0 both.1) some
+
 -- where a lost name is gone from what is left of the others of a name, nothing passes without that name either
 pub nothing_where_lost : (db : List Record) (ready others left lost : List (List ℕ)) (name : List ℕ) → IsPartWith (λ other. other ≢ name) ready others
     → HasWhatPasses db others left → All (NothingWithout db ready) lost → Any (λ n. ¬ Contains left n) lost → NothingWithout db ready name
 nothing_where_lost db ready others left lost name is has all gone part within passes lacks = Any-elim (λ n. ¬ Contains left n) lost (part ≡ [])
     (λ n there missing. All-contains (NothingWithout db ready) lost n all there part within passes
-    (λ inside. missing (All-contains (Contains left) part n (has.greatest part (among part within lacks) passes) inside))) gone
-  where
-    among : (other : List (List ℕ)) → All (Contains ready) other → ¬ Contains other name → All (Contains others) other
-    among other inside without = All-intro (Contains others) other (λ n there.
-        (is n).1 (All-contains (Contains ready) other n inside there, λ same. without (subst (Contains other) same there)))
+    (λ inside. missing (All-contains (Contains left) part n (has.greatest part (among_others ready others part name is within lacks) passes) inside))) gone
 
 -- where nothing is left of the others of a name nothing passes without it, and only there
 pub nothing_where_empty : (db : List Record) (ready others left : List (List ℕ)) (name : List ℕ) → All (IsReady db) ready
@@ -226,7 +240,7 @@ pub nothing_where_empty : (db : List Record) (ready others left : List (List ℕ
 nothing_where_empty db ready others left name are_ready is has supplied = (
   λ empty part within passes lacks. empty_from_none part (λ n there. Contains-nil n
       (let P : List (List ℕ) → Type 0 = λ group. Contains group n in
-      subst P empty (All-contains (Contains left) part n (has.greatest part (among part within lacks) passes) there))),
+      subst P empty (All-contains (Contains left) part n (has.greatest part (among_others ready others part name is within lacks) passes) there))),
   λ nothing. nothing left (All-intro (Contains ready) left (λ n there. (from n there).0))
       (group_from db left (All-intro (IsReady db) left (λ n there. All-contains (IsReady db) ready n are_ready (from n there).0)) supplied)
       (λ there. (from name there).1 refl),
@@ -234,10 +248,6 @@ nothing_where_empty db ready others left name are_ready is has supplied = (
   where
     from : (n : List ℕ) → Contains left n → Contains ready n × (n ≢ name)
     from n there = (is n).0 (All-contains (Contains others) left n has.within there)
-
-    among : (other : List (List ℕ)) → All (Contains ready) other → ¬ Contains other name → All (Contains others) other
-    among other inside without = All-intro (Contains others) other (λ n there.
-        (is n).1 (All-contains (Contains ready) other n inside there, λ same. without (subst (Contains other) same there)))
 
 -- the ready names stand for all
 ready_for_all : (db : List Record) (names ready : List (List ℕ)) (name : List ℕ) → IsPartWith (IsReady db) names ready

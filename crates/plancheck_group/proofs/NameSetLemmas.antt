@@ -1,5 +1,5 @@
 -- Names that are put into a set of names, and taken out of it.
-use Rattle.std.proofs.Common.{◌≡◌, ◌≢◌, ◌⊎◌, ℕ, ◌+◌, ◌<◌, ◌≤◌, if◌then◌else◌, Bool, true, false, cond, ◌||◌, List, [], ◌∷◌, ◌++◌, length, map, bytes_eq, Bor, refl, sym, ap, subst, ◌∙◌, arith}
+use Rattle.std.proofs.Common.{◌≡◌, ◌≢◌, ◌⊎◌, ℕ, ◌+◌, ◌<◌, ◌≤◌, if◌then◌else◌, Bool, true, false, cond, List, [], ◌∷◌, ◌++◌, length, bytes_eq, Bor, refl, sym, ap, subst, ◌∙◌, arith}
 use Rattle.std.specs.Prelude.{◌↔◌}
 use Rattle.std.specs.List.{All, Contains, list_any}
 use Rattle.std.proofs.lemmas.Bool.{cases_Bool, true≢false}
@@ -8,7 +8,7 @@ use Rattle.std.proofs.lemmas.List.{length-map, nil_from_length}
 use Rattle.index.proofs.NameLemmas.{list_any-map}
 use Rattle.index.proofs.NameTable.{names_at}
 use Rattle.index.specs.Names.{with_name}
-use Rattle.rules.specs.ElementLaws.{All-intro, Any-elim, Any-from_list_any, list_any-from_contains, Contains-cons, Contains-head, Contains-map, Contains-map_intro, Contains-nil}
+use Rattle.rules.specs.ElementLaws.{All-intro, Any-elim, Any-from_list_any, list_any-from_contains, Contains-cons, Contains-head, Contains-map, Contains-nil}
 use Rattle.rules.specs.Database.{Record}
 use Rattle.rules.specs.NamedLaws.{bytes_eq-same, bytes_eq-true, contains-is_among, is_among-contains}
 use Rattle.rules.specs.Step.{is_among}
@@ -59,6 +59,27 @@ same_put part after so_far added last is named same name = subst (λ (set : List
 pub all_put : (P : List ℕ → Type 0) (part after : List (List ℕ)) (added : List ℕ) → after ≡ with_name part added → P added → All P part → All P after
 all_put P part after added is holds all = subst (All P) (sym is) (All-intro P (with_name part added) (λ name within.
     elim ((one_more part added name).0 within) [ inl before ↦ All-contains P part name all before | inr same ↦ subst P same holds ]))
+
+-- what has the same names as a set has those of the list that the set has
+pub same_through : (after whole names : List (List ℕ)) → HaveSameNames after whole → HaveSameNames whole names → HaveSameNames after names
+same_through after whole names one two name = (
+  λ there. (two name).0 ((one name).0 there),
+  λ there. (one name).1 ((two name).1 there),
+)
+
+-- a set that a name was taken out of and put back into has the names that it had
+pub same_put_back : (whole less after : List (List ℕ)) (name : List ℕ) → Contains whole name → IsPartWith (λ other. other ≢ name) whole less
+    → after ≡ with_name less name → HaveSameNames after whole
+same_put_back whole less after name there is put other = subst (λ (set : List (List ℕ)). Contains set other ↔ Contains whole other) (sym put) (
+  λ within. elim ((one_more less name other).0 within) [
+    | inl left ↦ ((is other).0 left).0
+    | inr same ↦ subst (Contains whole) same there
+  ],
+  λ within. (one_more less name other).1 (elim (cases_Bool (bytes_eq name other)) [
+    | inl same ↦ inr (bytes_eq-true name other same)
+    | inr apart ↦ inl ((is other).1 (within, λ same. true≢false (sym (bytes_eq-same name other (sym same)) ∙ apart)))
+  ]),
+)
 
 -- a set tells which names it has
 pub found_in_set : (name : List ℕ) (keys : List (Bor (List ℕ))) (names : List (List ℕ)) (answer : Bool)

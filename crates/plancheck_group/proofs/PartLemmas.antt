@@ -1,16 +1,16 @@
 -- A group passes where each of its names is ready and supplied, and what that says of its greatest part.
-use Rattle.std.proofs.Common.{◌≡◌, ◌≢◌, ℕ, ◌+◌, ◌-◌, ◌<◌, ◌≤◌, true, List, [], ◌∷◌, ◌++◌, length, get_or, take, drop, sym, ap, subst, arith, ◌∙◌}
+use Rattle.std.proofs.Common.{◌≡◌, ℕ, ◌+◌, ◌<◌, ◌≤◌, true, List, [], ◌∷◌, ◌++◌, length, get_or, take, sym, ap, subst, arith, ◌∙◌}
 use Rattle.std.specs.Prelude.{◌↔◌, ◌==◌}
 use Rattle.std.specs.List.{All, Contains}
-use Rattle.std.proofs.lemmas.List.Elements.{All-append, All-contains, All-drop, All-take, All-weaker, All-contains_itself, Contains-append_left, Contains-append_right, Contains-append_cases}
-use Rattle.std.proofs.lemmas.List.{drop_more, get_or_default, length-append, length-drop, length-take-le, nil_from_length, take_all, take_more, take-append-drop}
+use Rattle.std.proofs.lemmas.List.Elements.{All-contains, All-weaker, All-contains_itself, Contains-append_left, Contains-append_right, Contains-append_cases}
+use Rattle.std.proofs.lemmas.List.{nil_from_length, take_all, take_more}
 use Rattle.std.proofs.lemmas.Bool.{eq-eqb, eqb-true}
-use Rattle.rules.specs.Configure.{AreConfigurable, HasConfigurable, ArePreDependsInstalled, IsConfigurable, IsUnbroken, AreUnbroken, GroupPasses, IsGreatestPart, members_of, others_of}
+use Rattle.rules.specs.Configure.{AreConfigurable, HasConfigurable, ArePreDependsInstalled, IsConfigurable, IsUnbroken, AreUnbroken, GroupPasses, members_of}
 use Rattle.rules.specs.Database.{Record, HasRecord, ForMembers, installed_of}
-use Rattle.rules.specs.ElementLaws.{All-intro, Contains-cons, Contains-head, Contains-nil, Contains-rest}
+use Rattle.rules.specs.ElementLaws.{All-intro, Contains-cons, Contains-head, Contains-nil}
 use Rattle.rules.specs.Sound.{MeetsClauses}
-use Rattle.rules.proofs.GroupLemmas.{MemberPasses, MemberPasses-more, ForMembers-each, GroupPasses-each, GroupPasses-from_each, contains-others_of, empty_from_none, others_of-contains}
-use Rattle.plancheck_group.specs.Part.{AreSupplied, HasNoPartWithout, HasWhatPasses, IsNarrowed, IsPartWith, IsReady, IsSupplied, IsSuppliedPart}
+use Rattle.rules.proofs.GroupLemmas.{MemberPasses, MemberPasses-more, ForMembers-each, GroupPasses-each, GroupPasses-from_each}
+use Rattle.plancheck_group.specs.Part.{AreSupplied, HasWhatPasses, IsNarrowed, IsPartWith, IsReady, IsSupplied}
 use mathlib.Core.Logic.{inl, inr}
 
 -- the name of a list of one is in it

@@ -1,12 +1,12 @@
 // The greatest part of a group that could be configured by itself, and whether a proper part could (Policy 7.2
 // and 7.3).
 
-ghost use Rattle.std.specs.Prelude.{◌≡◌, ◌≢◌, ◌↔◌, true, IfOk, IsTrue, OnOk};
+ghost use Rattle.std.specs.Prelude.{◌≡◌, ◌≢◌, ◌↔◌, ℕ, List, true, IfOk, IsTrue, OnOk};
 ghost use Rattle.std.specs.List.{All, Any, Contains};
 ghost use Rattle.rules.specs.Configure.{IsGreatestPart, IsIndivisible};
-ghost use Rattle.plancheck_group.specs.Part.{HasNoPartWithout, IsNarrowed, IsPartWith, IsReady, NothingWithout};
+ghost use Rattle.plancheck_group.specs.Part.{HasNoPartWithout, HaveSameNames, IsNarrowed, IsPartWith, IsReady, IsSupplied, NothingWithout};
 
-use crate::lacking::{drop_after, keep_supplied};
+use crate::lacking::{drop_after, is_met_in, keep_supplied};
 use crate::needs::Needs;
 use crate::part::Part;
 use crate::ready::{keep_ready, names_left, ready_of};
@@ -82,6 +82,62 @@ fn is_lost_without<'n>(
     Ok(part.is_empty())
 }
 
+// Whether the name is one of the lost ones and its Depends aren't met among the others.
+fn is_stranded(db: &Records<'_, '_>, lost: &Part<'_>, others: &Part<'_>, name: &[u8]) -> bool
+    ensures { IsTrue result ↔ (Contains lost.now name.now × (¬ IsSupplied db.now others.now name.now)) }
+{
+    lost.has(name) && !is_met_in(db, others, name)
+}
+
+fn some_is_stranded(
+    db: &Records<'_, '_>,
+    lost: &Part<'_>,
+    others: &Part<'_>,
+    names: &[&[u8]],
+) -> bool
+    ensures { IsTrue result ↔ Any (λ name. Contains lost.now name.now × (¬ IsSupplied db.now others.now name.now)) names.now }
+{
+    names.iter().any(|name| is_stranded(db, lost, others, name))
+}
+
+// Whether one of the lost names asks for this one, and lacks it among the others.
+fn is_asked_by_lost(
+    db: &Records<'_, '_>,
+    needs: &Needs<'_>,
+    lost: &Part<'_>,
+    others: &Part<'_>,
+    name: &[u8],
+) -> bool
+    ensures { result ≡ true → Any (λ name. ¬ IsSupplied db.now others.now name) lost.now }
+{
+    match needs.asking_for(name) {
+        Some(asking) => some_is_stranded(db, lost, others, asking.as_slice()),
+        None => false,
+    }
+}
+
+// Whether nothing passes of the names without this one, as far as the lost names that ask for it tell: that takes no copy of the
+// names, which have the same as before.
+fn is_missed<'n>(
+    db: &Records<'_, '_>,
+    needs: &Needs<'n>,
+    lost: &Part<'_>,
+    whole: &mut Part<'n>,
+    name: &'n [u8],
+) -> Result<bool, AllocError>
+    ensures missed { IfOk result (λ missed. missed ≡ true → (ready : List (List ℕ)) → HaveSameNames whole.old ready
+        → All (NothingWithout db.now ready) lost.now → NothingWithout db.now ready name.now) }
+    ensures same { OnOk result (HaveSameNames whole.new whole.old) }
+{
+    if !whole.has(name) {
+        return Ok(false);
+    }
+    whole.leave_out(name);
+    let missed = is_asked_by_lost(db, needs, lost, whole, name);
+    whole.insert(name)?;
+    Ok(missed)
+}
+
 // Adds the name to the lost ones, if nothing passes without it. Answers whether.
 fn lose_one<'n>(
     alloc: Global,
@@ -103,6 +159,31 @@ fn lose_one<'n>(
     Ok(true)
 }
 
+// The same of a name for which lost ones may ask; all ready names are left in the whole.
+fn lose_next<'n>(
+    alloc: Global,
+    db: &Records<'_, '_>,
+    ready: &'n [Name],
+    needs: &Needs<'n>,
+    lost: &mut Part<'n>,
+    whole: &mut Part<'n>,
+    name: &'n [u8],
+) -> Result<bool, AllocError>
+    requires ready { All (IsReady db.now) ready.now }
+    requires lost { All (NothingWithout db.now ready.now) lost.old }
+    requires whole { HaveSameNames whole.old ready.now }
+    ensures lost { OnOk result (All (NothingWithout db.now ready.now) lost.new) }
+    ensures whole { OnOk result (HaveSameNames whole.new ready.now) }
+{
+    let missed = is_missed(db, needs, lost, whole, name)?;
+    if !missed {
+        let known = lose_one(alloc, db, ready, needs, lost, name)?;
+        return Ok(known);
+    }
+    lost.insert(name)?;
+    Ok(true)
+}
+
 // Adds the names to the lost ones, one after another, up to the first that isn't lost.
 fn lose<'n>(
     alloc: Global,
@@ -116,8 +197,9 @@ fn lose<'n>(
     requires lost { All (NothingWithout db.now ready.now) lost.old }
     ensures { OnOk result (All (NothingWithout db.now ready.now) lost.new) }
 {
+    let mut whole = Part::of(alloc, ready)?;
     for name in turn {
-        let known = lose_one(alloc, db, ready, needs, lost, *name)?;
+        let known = lose_next(alloc, db, ready, needs, lost, &mut whole, *name)?;
         if !known {
             return Ok(());
         }

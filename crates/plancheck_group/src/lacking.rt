@@ -12,8 +12,8 @@ use plancheck_state::Records;
 use rules::Name;
 use std::alloc::{AllocError, Global};
 
-// Whether the Depends of the name's package are met by installed packages and what is left.
-fn is_met_in(db: &Records<'_, '_>, part: &Part<'_>, name: &[u8]) -> bool
+/// Whether the Depends of the name's package are met by installed packages and what is left.
+pub fn is_met_in(db: &Records<'_, '_>, part: &Part<'_>, name: &[u8]) -> bool
     ensures { IsTrue result ↔ IsSupplied db.now part.now name.now }
 {
     is_supplied(db, &Among::left(part), name)

@@ -1,6 +1,6 @@
 -- Each step is that of the least group, and at the end there is none.
-use Rattle.std.proofs.Common.{rules, ℕ, List, ◌<◌, length, ap, sym, subst, ◌∙◌}
-use Rattle.std.specs.List.{filter}
+use Rattle.std.proofs.Common.{rules, ℕ, List, ◌<◌, length, sym, subst}
+use Rattle.std.specs.List.{All, Contains}
 use Rattle.rules.specs.Database.{Record}
 use Rattle.rules.specs.Run.{after}
 use Rattle.rules.specs.declared.step.Step.{Step}
@@ -14,7 +14,8 @@ use Rattle.plain.proofs.PeaceLemmas.{nothing_clashes}
 use Rattle.plain.proofs.UnderwayLemmas.{underway_has_old_and_new}
 use Rattle.fixed_order.proofs.FoundLemmas.{where_none, where_some}
 use Rattle.fixed_order.specs.Ground.{IsUnderwayOn, members_in}
-use Rattle.fixed_order.specs.Waiting.{IsWaitingIn, is_away}
+use Rattle.fixed_order.specs.Askers.{asking_in}
+use Rattle.fixed_order.specs.Waiting.{IsLookedAtAgain, IsWaitingIn}
 use Rattle.fixed_order.proofs.WaitingLemmas.{waiting_left}
 use Rattle.fixed_order.proofs.configure.configures_of.Goals as goal
 
@@ -31,13 +32,15 @@ loop-steps-preserved c =
     let kept = configures_keep c.args.ground.now.universe.now c.args.ground.now.start.now c.loop-steps.db (members_in c.args.ground.now)
     c.in-Some.names c.loop-steps.invariant.underway c.loop-steps.invariant.nothing (where_some ((names : List (List ℕ)) → ¬ IsConfigurableGroup c.args.ground.now.universe.now c.loop-steps.db names) (IsLeastGroup c.args.ground.now.universe.now c.loop-steps.db) _ c.in-Some.names c.in-Some.is c.in_ok-names.ensures).group.allowed in
     record {
-      waiting = subst (λ (db : List Record). IsWaitingIn db c.leave_out.new.self) (sym c.in_ok-apply.ensures.after)
+      waiting = subst (λ (db : List Record). IsWaitingIn db c.look_again.new.self) (sym c.in_ok-apply.ensures.after)
           (waiting_left c.args.ground.now.universe.now c.args.ground.now.start.now (members_in c.args.ground.now) c.loop-steps.db c.in-Some.names
-          c.loop-steps.waiting c.leave_out.new.self c.loop-steps.invariant.underway (where_some ((names : List (List ℕ)) → ¬ IsConfigurableGroup c.args.ground.now.universe.now c.loop-steps.db names) (IsLeastGroup c.args.ground.now.universe.now c.loop-steps.db) _ c.in-Some.names c.in-Some.is c.in_ok-names.ensures).group.allowed
+          c.loop-steps.waiting c.look_again.new.self c.in_ok-places.places.items c.loop-steps.invariant.underway (where_some ((names : List (List ℕ)) → ¬ IsConfigurableGroup c.args.ground.now.universe.now c.loop-steps.db names) (IsLeastGroup c.args.ground.now.universe.now c.loop-steps.db) _ c.in-Some.names c.in-Some.is c.in_ok-names.ensures).group.allowed
           c.loop-steps.invariant.waiting
-          (c.leave_out.ensures.names ∙ ap (λ (group : List (List ℕ)). filter (is_away group) c.loop-steps.waiting.names.items) c.as_slice.ensures.names)
-          c.leave_out.ensures.down
-          (c.leave_out.ensures.rings ∙ ap (λ (group : List (List ℕ)). filter (is_away group) c.loop-steps.waiting.rings.names.items) c.as_slice.ensures.names));
+          (subst (λ (db : List Record). IsLookedAtAgain db c.in_ok-places.places.items c.loop-steps.waiting c.look_again.new.self) c.in_ok-apply.ensures.after
+          (subst (λ (places : List ℕ). IsLookedAtAgain c.apply.new.db places c.loop-steps.waiting c.look_again.new.self) c.as_slice-in-Some.ensures.value
+          c.look_again.ensures))
+          (subst (All (λ name. All (Contains c.in_ok-places.places.items) (asking_in c.loop-steps.waiting.askers name))) c.as_slice.ensures.names
+          c.in_ok-places.ensures));
       underway = subst (λ (db : List Record). IsUnderwayOn c.args.ground.now db) (sym c.in_ok-apply.ensures.after) kept.0;
       nothing = subst (λ (db : List Record). HasNothingToRemove (members_in c.args.ground.now) db) (sym c.in_ok-apply.ensures.after) kept.1;
       so_far = subst (λ (db : List Record). AreNextSteps (IsNextConfigure c.args.ground.now.universe.now) c.args.ground.now.universe.now

@@ -2,9 +2,11 @@
 use Rattle.std.proofs.Common.{◌≡◌, ℕ, ◌+◌, ◌<◌, ◌≤◌, List, [], ◌∷◌, drop, get_or, length, sym, ap, subst, ◌∙◌}
 use Rattle.std.proofs.Math.ListN.{drop_of_length-le}
 use Rattle.std.proofs.lemmas.List.{drop_more}
+use Rattle.rules.specs.Configure.{IsIndivisible}
 use Rattle.rules.specs.Database.{Record}
 use Rattle.plain.specs.Order.{IsLeastGroup}
-use Rattle.fixed_order.specs.Walked.{IsWalkedTo}
+use Rattle.plain.specs.Walk.{IsOnWalk}
+use Rattle.fixed_order.specs.Walked.{IsFalling, IsWalkedTo}
 use Rattle.fixed_order.proofs.WalkLemmas.{least_some, walk_is_over, walk_starts}
 use Rattle.fixed_order.proofs.configure.walked.Goals as goal
 
@@ -31,9 +33,11 @@ loop-key-preserved c = record {
 
 pub loop-key-init : goal.loop-key-init
 loop-key-init c = record {
-  walked = subst (λ (kept : List (List ℕ)). IsWalkedTo c.args.db.now c.args.down.now kept c.args.group.items) (sym c.new.ensures.items)
-      (walk_starts c.args.db.now c.args.down.now c.args.group.items c.requires.falls c.requires.walk);
-  whole = c.requires.whole;
+  walked = subst (λ (kept : List (List ℕ)). IsWalkedTo c.args.db.now c.args.down.now kept c.in_ok-copied.copied.items) (sym c.new.ensures.items)
+      (walk_starts c.args.db.now c.args.down.now c.in_ok-copied.copied.items
+      (subst (λ (group : List (List ℕ)). IsFalling group c.args.down.now) (sym c.in_ok-copied.ensures) c.requires.falls)
+      (subst (IsOnWalk c.args.db.now []) (sym c.in_ok-copied.ensures) c.requires.walk));
+  whole = λ so. subst (IsIndivisible c.args.db.now) (sym c.in_ok-copied.ensures) (c.requires.whole so);
 }
 
 pub new-requires-2-clause-some : goal.new-requires-2-clause-some

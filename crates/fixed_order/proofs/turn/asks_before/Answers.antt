@@ -3,11 +3,11 @@ use Rattle.std.proofs.Common.{◌≡◌, ◌∙◌, true≢false, sym}
 use Rattle.std.specs.List.{All}
 use Rattle.rules.specs.Database.{Record}
 use Rattle.plancheck_state.specs.HolderLaws.{holders-all, named-holds}
-use Rattle.fixed_order.specs.Turn.{AsksBefore, AsksBeforeBy, rank_in}
+use Rattle.fixed_order.specs.Turn.{AsksBeforeBy, AsksOnly, rank_in}
 use Rattle.fixed_order.proofs.turn.asks_before.Goals as goal
 
 pub returns : goal.returns
-unfolding AsksBefore
+unfolding AsksOnly
 returns c =
     let P : Record → Type 0 = λ member. member.name ≡ c.args.name.now
     → All (AsksBeforeBy (rank_in c.args.ranks.now) c.args.db.now c.args.name.now) member.relations.depends in

@@ -1,5 +1,5 @@
 -- A name without which something passes makes the answer no.
-use Rattle.std.proofs.Common.{◌≡◌, ◌∙◌, true, false, sym, subst, take, refl}
+use Rattle.std.proofs.Common.{◌≡◌, ◌∙◌, true, false, sym, take, refl}
 use Rattle.std.specs.List.{All}
 use Rattle.std.proofs.lemmas.List.Elements.{All-contains, All-push}
 use Rattle.plancheck_group.specs.Part.{NothingWithout}

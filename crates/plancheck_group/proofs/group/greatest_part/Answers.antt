@@ -1,8 +1,4 @@
 -- What is supplied is kept, then what is ready, and then what is supplied.
-use Rattle.std.proofs.Common.{◌∙◌}
-use Rattle.std.proofs.lemmas.List.Elements.{All-contains}
-use Rattle.std.specs.List.{Contains}
-use Rattle.rules.specs.ElementLaws.{All-intro}
 use Rattle.plancheck_group.proofs.DropLemmas.{greatest_left, within_left, within_same}
 use Rattle.plancheck_group.proofs.group.greatest_part.Goals as goal
 

@@ -1,5 +1,5 @@
 -- The ready names stand for all.
-use Rattle.std.proofs.Common.{ℕ, List, [], subst, sym}
+use Rattle.std.proofs.Common.{subst, sym}
 use Rattle.std.specs.List.{All}
 use Rattle.plancheck_group.specs.Part.{IsReady, NothingWithout}
 use Rattle.plancheck_group.proofs.DropLemmas.{nothing_without_each, of_none}

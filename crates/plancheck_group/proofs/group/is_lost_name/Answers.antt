@@ -1,5 +1,5 @@
 -- A name that is known to be lost is.
-use Rattle.std.proofs.Common.{ℕ, List, subst, sym, true, refl}
+use Rattle.std.proofs.Common.{ℕ, List, subst, refl}
 use Rattle.std.specs.Prelude.{◌↔◌, IsTrue}
 use Rattle.std.specs.List.{Contains}
 use Rattle.std.proofs.lemmas.List.Elements.{All-contains}

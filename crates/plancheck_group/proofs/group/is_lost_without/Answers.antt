@@ -1,5 +1,5 @@
 -- Nothing passes where a lost name is gone, or where nothing is left.
-use Rattle.std.proofs.Common.{◌≡◌, ◌∙◌, ℕ, List, false, true, sym, arith, refl}
+use Rattle.std.proofs.Common.{refl}
 use Rattle.plancheck_group.proofs.DropLemmas.{nothing_where_empty, nothing_where_lost, within_others}
 use Rattle.plancheck_group.proofs.PartLemmas.{has_through}
 use Rattle.plancheck_group.proofs.group.is_lost_without.Goals as goal

@@ -1,5 +1,5 @@
 -- Each turn narrows what is left, and drops as many names as it answers.
-use Rattle.std.proofs.Common.{rules, ◌<◌, ◌∙◌, sym, length, arith}
+use Rattle.std.proofs.Common.{rules, ◌<◌, length, arith}
 use Rattle.plancheck_group.proofs.DropLemmas.{lost_is_gone, narrowed_through, some_left}
 use Rattle.plancheck_group.proofs.PartLemmas.{whole_narrowed}
 use Rattle.plancheck_group.proofs.lacking.drop_after.Goals as goal

@@ -1,5 +1,5 @@
 -- The Depends of the name's package are those of the records of it.
-use Rattle.std.proofs.Common.{ℕ, List, subst, ◌∙◌}
+use Rattle.std.proofs.Common.{ℕ, List, subst}
 use Rattle.std.specs.Prelude.{◌↔◌, IsTrue}
 use Rattle.plancheck_group.specs.Part.{IsSupplied}
 use Rattle.plancheck_group.proofs.DropLemmas.{supplied_alone}

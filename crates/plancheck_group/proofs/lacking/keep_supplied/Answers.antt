@@ -1,5 +1,5 @@
 -- What is lacking since names went is dropped, and a walk that drops nothing is the last.
-use Rattle.std.proofs.Common.{rules, ◌<◌, ◌∙◌, sym, length, arith}
+use Rattle.std.proofs.Common.{rules, ◌<◌, length, arith}
 use Rattle.plancheck_group.proofs.DropLemmas.{narrowed_through, none_left, settled_part, some_left}
 use Rattle.plancheck_group.proofs.PartLemmas.{whole_narrowed}
 use Rattle.plancheck_group.proofs.lacking.keep_supplied.Goals as goal

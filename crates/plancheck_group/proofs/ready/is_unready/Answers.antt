@@ -1,5 +1,5 @@
 -- A name that is left is unready where it fails a test.
-use Rattle.std.proofs.Common.{◌≡◌, ◌∙◌, ℕ, List, true, false, not, Bool, subst, sym}
+use Rattle.std.proofs.Common.{◌≡◌, ◌∙◌, true, false, not, Bool, subst, sym}
 use Rattle.std.specs.List.{Contains}
 use Rattle.plancheck_group.proofs.DropLemmas.{not_not}
 use Rattle.plancheck_group.proofs.ready.is_unready.Goals as goal
