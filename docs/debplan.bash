@@ -18,7 +18,7 @@ _debplan()
             COMPREPLY=($(compgen -f -- "$word"))
             return
             ;;
-        --arch | --limit | --target)
+        --arch | --goal | --limit | --target)
             return
             ;;
     esac
@@ -27,21 +27,21 @@ _debplan()
             COMPREPLY=($(compgen -W "--help lt le eq ne ge gt" -- "$word"))
             ;;
         candidate)
-            COMPREPLY=($(compgen -W "--arch --status --sources --preferences --target --help" -- "$word"))
+            COMPREPLY=($(compgen -W "--arch --status --sources --preferences --target --explain --help" -- "$word"))
             ;;
         solve)
-            COMPREPLY=($(compgen -W "--arch --status --sources --preferences --target --request --limit --help" -- "$word"))
+            COMPREPLY=($(compgen -W "--arch --status --sources --preferences --target --request --goal --limit --explain --help" -- "$word"))
             ;;
         check-plan)
-            COMPREPLY=($(compgen -W "--arch --status --sources --preferences --target --request --help" -- "$word"))
+            COMPREPLY=($(compgen -W "--arch --status --sources --preferences --target --request --goal --explain --help" -- "$word"))
             COMPREPLY+=($(compgen -f -- "$word"))
             ;;
         check-refutation)
-            COMPREPLY=($(compgen -W "--arch --status --sources --preferences --target --request --help" -- "$word"))
+            COMPREPLY=($(compgen -W "--arch --status --sources --preferences --target --request --goal --explain --help" -- "$word"))
             COMPREPLY+=($(compgen -f -- "$word"))
             ;;
         apply)
-            COMPREPLY=($(compgen -W "--arch --status --sources --preferences --target --request --journal --output --help" -- "$word"))
+            COMPREPLY=($(compgen -W "--arch --status --sources --preferences --target --request --goal --journal --output --help" -- "$word"))
             COMPREPLY+=($(compgen -f -- "$word"))
             ;;
         help)

@@ -13,10 +13,13 @@ DERIVED = rb"derive(?: %s)* :(?: %s)+" % (LITERAL, PAIR)
 RULE = b"F(?:1 PreDepends|2 Conflict|3 Breaks|4 Depends|5 Group|6 NeededBy|7 Essential|8 Held|9 WrongState|10 NotAdmitted)"
 REASON = rb"(?:(?:Unfinished|Relation|Essential) %s|Goal %s)" % (NAME, LINE)
 VERDICT = rb"no (?:start F0 StartConflict|step %s %s|end F11 %s)\n" % (LINE, RULE, REASON)
+# A name with its candidate, and a name that has none.
+FOUND = rb"%s %s -?[0-9]+\n" % (NAME, VERSION)
+LACKING = rb"[^\n]* none\n"
 # Of each command what it prints with each exit status. `undecided unchecked` is a bug of the program.
 ANSWERS = {
     "compare": {0: rb"yes\n", 1: rb"no\n"},
-    "candidate": {0: rb"%s %s -?[0-9]+\n" % (NAME, VERSION), 1: rb"[^\n]* none\n"},
+    "candidate": {0: rb"(?:%s)+" % FOUND, 1: rb"(?:%s)*%s(?:%s|%s)*" % (FOUND, LACKING, FOUND, LACKING)},
     "check-plan": {0: rb"yes\n", 1: VERDICT},
     "check-refutation": {0: rb"yes\n", 1: rb"no line %s\n" % LINE},
     "solve": {0: rb"(?:plan 1\n(?:%s)*|plan 2\n(?:%s)*end [0-9]+\n)" % (STEP, STEP), 1: rb"refutation 1\n(?:(?:%s|%s)\n)+" % (PREMISE, DERIVED),

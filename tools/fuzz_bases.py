@@ -59,11 +59,14 @@ def base_of(label, scenario, command):
 
 @functools.lru_cache(maxsize=None)
 def scenario_bases():
-    """The calls of all scenarios, in the order of their files."""
+    """The calls of all scenarios, in the order of their files, but for those whose request is no file, that read standard input, or
+    that ask for sentences."""
     found = []
     for path in sorted((TOP / "scenarios").glob("*.txt")):
         for scenario in scenarios_of(path.read_text(encoding="utf-8")):
-            found += [base_of(f"{path.name}:{command.line}", scenario, command) for command in scenario.commands]
+            if scenario.goals is None and not scenario.input:
+                found += [base_of(f"{path.name}:{command.line}", scenario, command) for command in scenario.commands
+                          if "--explain" not in command.words(scenario)]
     return found
 
 

@@ -16,12 +16,13 @@ FILE = re.compile(r"status|sources|preferences|request|plan|index[0-9]+")
 # The files that the command `apply` writes, beside the one that it reads.
 WRITTEN = ("journal", "output")
 # The commands with the words that may stand behind each, and of those that have a text of their own its first line.
-COMMANDS = {"compare": r"[^ ]* [^ ]* [^ ]*", "candidate": r"[^ ]+", "check-plan": "", "check-refutation": "", "solve": r"|--limit [^ ]+",
-            "apply": "", "run": r".*"}
+COMMANDS = {"compare": r"[^ ]* [^ ]* [^ ]*", "candidate": r"[^ ]+( [^ ]+)*", "check-plan": r"|--explain", "check-refutation": r"|--explain",
+            "solve": r"|--explain|(--explain )?--limit [^ ]+", "apply": "", "run": r".*"}
 HEADS = {"check-plan": b"plan 1\n", "check-refutation": b"refutation 1\n", "apply": b"plan 1\n", "run": b"plan 1\n"}
 # What may stand behind `wants`: its place in their order, and the commands that it belongs to.
 BEHIND = {"leaves": (1, ("check-plan",)), "dpkg": (2, ("check-plan",)), "dpkg leaves": (3, ("check-plan",)),
-          "apt": (2, ("candidate",)), "decision": (4, ("check-plan", "candidate")), "output": (1, ("apply",)), "journal": (2, ("apply",))}
+          "apt": (2, ("candidate",)), "decision": (4, ("check-plan", "candidate")), "output": (1, ("apply",)), "journal": (2, ("apply",)),
+          "tells": (0, tuple(COMMANDS))}
 
 
 class Fault(Exception):
@@ -48,21 +49,28 @@ class Item:
 @dataclass
 class Wanted:
     """What is wanted of a command: an `output`, a `refusal`, the refusal of words (`usage`), `help`, a `plan` or a
-    `refutation`; its exit status; and the text that is said of it. Of a plan this is what is installed at its end."""
+    `refutation`; its exit status; the text that is said of it, of a plan what is installed at its end; and the sentences behind that
+    on standard error."""
 
     form: str
     status: int
     text: bytes = b""
+    told: bytes = b""
+
+    def errors(self):
+        """What is wanted on standard error."""
+        return (b"debplan: " + self.text + b"\n" if self.form == "refusal" else b"") + self.told
 
     def described(self):
         """In words."""
+        behind = " and sentences" if self.told else ""
         return {
-            "output": described(self.status, self.text, b""),
-            "refusal": described(self.status, b"", b"debplan: " + self.text + b"\n"),
+            "output": described(self.status, self.text, self.errors()),
+            "refusal": described(self.status, b"", self.errors()),
             "usage": "status 4 and something on standard error alone",
             "help": "status 0 and something on standard output alone",
-            "plan": "status 0 and a plan that is judged good",
-            "refutation": "status 1 and a refutation that is accepted",
+            "plan": "status 0 and a plan that is judged good" + behind,
+            "refutation": "status 1 and a refutation that is accepted" + behind,
         }[self.form]
 
 
@@ -90,11 +98,11 @@ class Command:
             return self.rest.split(" ") if self.rest else []
         words = [self.kind, *(scenario.option_words() if self.kind != "compare" else [])]
         if self.kind not in ("compare", "candidate"):
-            words += ["--request", "request"]
+            words += scenario.request_words()
         if self.kind == "apply":
             words += ["--journal", "journal", "--output", "output"]
-        last = self.file() if self.kind in HEADS else self.rest
-        return words + (last.split(" ") if last else [])
+        words += self.rest.split(" ") if self.rest else []
+        return words + ([self.file()] if self.kind in HEADS else [])
 
     def said(self, word):
         """What is said behind a word, or nothing."""
@@ -115,13 +123,16 @@ class Command:
 @dataclass
 class Scenario:
     """A scenario: its heading, the texts of the files that were given, what its lines `index` make of the sources, the files
-    that are missing, its options, its commands, and its faults, each with the number of its line."""
+    that are missing, its options, its goals where `--goal` gives them, its standard input, its commands, and its faults, each with
+    the number of its line."""
 
     heading: str = ""
     texts: dict = field(default_factory=dict)
     made_sources: bytes = b""
     missing: list = field(default_factory=list)
     options: dict = field(default_factory=dict)
+    goals: list = None
+    input: bytes = b""
     commands: list = field(default_factory=list)
     faults: list = field(default_factory=list)
 
@@ -140,6 +151,12 @@ class Scenario:
         if "preferences" in self.texts or "preferences" in self.missing:
             words += ["--preferences", "preferences"]
         return words + (["--target", self.options["target"]] if "target" in self.options else [])
+
+    def request_words(self):
+        """The options that say what is requested."""
+        if self.goals is None:
+            return ["--request", "request"]
+        return [word for goal in self.goals for word in ("--goal", goal)]
 
 
 def described(status, out, err):
@@ -264,6 +281,9 @@ def add_input(scenario, item):
     """Adds an input, or says that the item is none."""
     if item.word in FORMS:
         add_text(scenario, item)
+    elif item.word in ("goals", "input"):
+        need(not item.rest, f"words behind `{item.word}`")
+        (add_goals if item.word == "goals" else add_standard_input)(scenario, item)
     elif item.word in ("arch", "target", "missing"):
         need(is_word(item.rest), f"not one word behind `{item.word}`")
         need(not item.block, f"a block below `{item.word}`")
@@ -284,6 +304,18 @@ def add_text(scenario, item):
     text = text_of(scenario, item.block, FORMS[item.word])
     need(name not in scenario.texts, f"`{name}` a second time")
     scenario.texts[name] = text
+
+
+def add_goals(scenario, item):
+    """Adds the goals that options give, a line each."""
+    need(scenario.goals is None, "`goals` a second time")
+    scenario.goals = text_of(scenario, item.block, plain_line).decode().splitlines()
+
+
+def add_standard_input(scenario, item):
+    """Adds the text of standard input."""
+    need(not scenario.input, "`input` a second time")
+    scenario.input = text_of(scenario, item.block, plain_line)
 
 
 def add_option(scenario, item):
@@ -348,6 +380,9 @@ def add_behind(scenario, item):
         return False
     need(command.kind in kinds, f"`{item.word}` behind another command")
     need(all(BEHIND[earlier][0] < turn for earlier in command.behind), f"`{item.word}` a second time, or behind what it stands before")
+    if word == "tells":
+        add_told(scenario, command, item)
+        return True
     if word in WRITTEN:
         command.behind[word] = ""
         command.written[word] = written_of(scenario, item)
@@ -360,6 +395,15 @@ def add_behind(scenario, item):
     command.behind[word] = rest
     need(command.wanted, f"`{item.word}` before `wants`")
     return True
+
+
+def add_told(scenario, command, item):
+    """Adds the sentences that stand on standard error behind what is wanted."""
+    need(command.wanted, "`tells` before `wants`")
+    need(item.block and not item.rest, "no sentences below `tells`, or words behind it")
+    need(command.wanted.form not in ("usage", "help"), "`tells` behind what has no sentences")
+    command.behind["tells"] = ""
+    command.wanted.told = text_of(scenario, item.block, plain_line)
 
 
 def written_of(scenario, item):

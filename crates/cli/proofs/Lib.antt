@@ -1,3 +1,4 @@
+mod LineLemmas
 mod SaidLemmas
 mod ShelfLemmas
 mod WordsLemmas

@@ -8,8 +8,8 @@ use Rattle.apply_engine.specs.declared.refusal.ApplyRefusal.{ApplyRefusal}
 use Rattle.journal.specs.Payload.{Recorded}
 use Rattle.cli.specs.Applied.{IsSaidOfApplied}
 use Rattle.candidates.specs.Offer.{Offer}
-use Rattle.cli.specs.Calls.{IsSaidOfName}
-use Rattle.cli_engine.specs.Answer.{IsAnswer, IsCandidateAnswer, IsFirstRefusal}
+use Rattle.cli.specs.Calls.{IsSaidOfNames}
+use Rattle.cli_engine.specs.Answer.{AreCandidateAnswers, IsAnswer, IsFirstRefusal}
 use Rattle.cli_engine.specs.Meaning.{IsSaid}
 use Rattle.cli_engine.specs.Refuted.{IsFirstRefutationRefusal, IsRefutationAnswer, IsSaidOf}
 use Rattle.cli_engine.specs.Solution.{IsSaidOfRequest, IsSolution}
@@ -43,10 +43,11 @@ pub said_of_request : (texts : Texts) (limit : ℕ) (r : Result Answered Refusal
 said_of_request texts limit (Ok found) answer refused = answer
 said_of_request texts limit (Err e) answer refused = refused
 
-pub said_of_name : (texts : Texts) (name : List ℕ) (r : Result (Option Offer) Refusal)
-    → IfOk r (λ found. IsCandidateAnswer texts name found) → IfErr r (λ refused. IsRefusalBefore texts refused) → IsSaidOfName texts name r
-said_of_name texts name (Ok found) answer refused = answer
-said_of_name texts name (Err e) answer refused = refused
+pub said_of_names : (texts : Texts) (names : List (List ℕ)) (r : Result (List (Option Offer)) Refusal)
+    → IfOk r (λ found. AreCandidateAnswers texts names found) → IfErr r (λ refused. IsRefusalBefore texts refused)
+    → IsSaidOfNames texts names r
+said_of_names texts names (Ok found) answer refused = answer
+said_of_names texts names (Err e) answer refused = refused
 
 -- a plan that was carried out is one of which more is known
 pub done_by : (P Q : List ℕ → List Recorded → Type 0) (arch : List ℕ) → ((start : List ℕ) (records : List Recorded) → P start records → Q start records)

@@ -1,5 +1,5 @@
 -- What is printed of words that spell no call.
-use Rattle.std.proofs.Common.{◌≡◌, ◌≢◌, MatchOption, None, Option, Some, inl, inr}
+use Rattle.std.proofs.Common.{◌≡◌, ◌≢◌, MatchOption, None, Option, Some, inl, inr, subst}
 use Rattle.clap.specs.Kinds.{HasKind, Kinds}
 use Rattle.clap.specs.Values.{kind_of}
 use Rattle.clap.specs.declared.error.Error.{Error}
@@ -17,3 +17,8 @@ usage_by kinds e found (inr among) is = (kind_of e, among, is.1)
 pub holds_of_none : {A : Type 0} (found : Option A) (N : Type 0) (P : A → Type 0) → found ≡ None → MatchOption found N P → N
 holds_of_none None N P is holds = holds
 holds_of_none (Some a) N P is holds = absurd (let e : Some a ≡ None = is in cc)
+
+-- what holds of what there is
+pub holds_of_some : {A : Type 0} (found : Option A) (a : A) (N : Type 0) (P : A → Type 0) → found ≡ Some a → MatchOption found N P → P a
+holds_of_some None a N P is holds = absurd (let e : None ≡ Some a = is in cc)
+holds_of_some (Some b) a N P is holds = subst P (let e : Some b ≡ Some a = is in cc) holds

@@ -1,5 +1,5 @@
 -- What is printed of a verdict on a plan or a refutation, of a candidate and of a comparison (this project's own form).
-use Rattle.std.specs.Prelude.{ℕ, Bool, List, ◌++◌, Option, Some, None, codes, decimal, if◌then◌else◌}
+use Rattle.std.specs.Prelude.{ℕ, Bool, List, [], ◌∷◌, ◌++◌, Option, Some, None, codes, decimal, if◌then◌else◌}
 use Rattle.std.specs.Fmt.{signed_decimal}
 use Rattle.candidates.specs.Offer.{Offer}
 use Rattle.cli_engine.specs.declared.solve.Answered.{Answered}
@@ -86,6 +86,11 @@ candidate_words (Some offer) = offer.version ++ (codes " " ++ signed_decimal off
 -- the line that is printed of the candidate of a name
 abbrev pub candidate_line : List ℕ → Option Offer → List ℕ
 candidate_line name found = name ++ (codes " " ++ (candidate_words found ++ codes "\n"))
+
+-- the lines that are printed of the candidates of names, each in the place of its name
+abbrev pub candidate_lines : List (List ℕ) → List (Option Offer) → List ℕ
+candidate_lines (name ∷ names) (found ∷ others) = candidate_line name found ++ candidate_lines names others
+candidate_lines _ _ = []
 
 -- the line that is printed of a comparison
 abbrev pub comparison_line : Bool → List ℕ

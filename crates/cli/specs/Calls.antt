@@ -5,13 +5,14 @@ use Rattle.apply_engine.specs.declared.applied.Applied.{Applied}
 use Rattle.apply_engine.specs.declared.refusal.ApplyRefusal.{ApplyRefusal}
 use Rattle.cli.specs.Applied.{IsOutcomeOfApplied, IsSaidOfApplied}
 use Rattle.cli.specs.Files.{Files, shelved_at}
-use Rattle.cli.specs.Outcome.{IsOutcomeOf, IsOutcomeOfCandidate, IsOutcomeOfComparison, IsOutcomeOfRefutation, IsOutcomeOfSolved}
+use Rattle.cli.specs.Outcome.{IsOutcomeOf, IsOutcomeOfCandidates, IsOutcomeOfComparison, IsOutcomeOfRefutation, IsOutcomeOfSolved}
 use Rattle.cli.specs.declared.arguments.Arguments.{Arguments}
 use Rattle.cli.specs.declared.arguments.Call.{Call}
 use Rattle.cli.specs.declared.arguments.Call.TheVariants as call
 use Rattle.cli.specs.declared.arguments.CompareArguments.{CompareArguments}
 use Rattle.cli.specs.declared.outcome.Outcome.{Outcome}
-use Rattle.cli_engine.specs.Answer.{IsCandidateAnswer}
+use Rattle.command_line.specs.Asked.{texts_by}
+use Rattle.cli_engine.specs.Answer.{AreCandidateAnswers}
 use Rattle.cli_engine.specs.Comparison.{comparison_refusal, holds}
 use Rattle.cli_engine.specs.Meaning.{IsSaid}
 use Rattle.cli_engine.specs.Refuted.{IsSaidOf}
@@ -34,17 +35,17 @@ IsSaidOfVersions arguments (Ok answer) = (comparison_refusal arguments.version.n
     × (answer ≡ holds arguments.relation (version_cmp arguments.version.now arguments.other.now))
 IsSaidOfVersions arguments (Err refused) = comparison_refusal arguments.version.now arguments.other.now ≡ Some refused
 
--- what is said of a name: its candidate, or the first refusal
-abbrev pub IsSaidOfName : Texts → List ℕ → Result (Option Offer) Refusal → Type 0
-IsSaidOfName texts name (Ok found) = IsCandidateAnswer texts name found
-IsSaidOfName texts name (Err refused) = IsRefusalBefore texts refused
+-- what is said of names: their candidates, or the first refusal
+abbrev pub IsSaidOfNames : Texts → List (List ℕ) → Result (List (Option Offer)) Refusal → Type 0
+IsSaidOfNames texts names (Ok found) = AreCandidateAnswers texts names found
+IsSaidOfNames texts names (Err refused) = IsRefusalBefore texts refused
 
 -- The outcomes
 
--- the outcome is that of what is said of the name by the files
-abbrev pub IsOutcomeOfName : Files → Arguments → List ℕ → Outcome → Type 0
-IsOutcomeOfName files arguments name found = (said : Result (Option Offer) Refusal)
-    × IsSaidOfName (texts_at files arguments) name said × IsOutcomeOfCandidate name said found
+-- the outcome is that of what is said of the names by the files
+abbrev pub IsOutcomeOfNames : Files → Arguments → List (List ℕ) → Outcome → Type 0
+IsOutcomeOfNames files arguments names found = (said : Result (List (Option Offer)) Refusal)
+    × IsSaidOfNames (texts_at files arguments) names said × IsOutcomeOfCandidates names said found
 
 -- the outcome is that of what is said of the request by the files
 abbrev pub IsOutcomeOfRequest : Files → Arguments → ℕ → Outcome → Type 0
@@ -74,7 +75,7 @@ IsOutcomeOfPlanTaken files arguments found = (said : Result Applied ApplyRefusal
 -- the outcome is that of what is said in answer to the call
 abbrev pub IsOutcomeOfCall : Files → Call → Outcome → Type 0
 IsOutcomeOfCall files (call.Compare arguments) found = IsOutcomeOfVersions arguments found
-IsOutcomeOfCall files (call.Candidate arguments name) found = IsOutcomeOfName files arguments name.now found
+IsOutcomeOfCall files (call.Candidate arguments names) found = IsOutcomeOfNames files arguments (texts_by names.now) found
 IsOutcomeOfCall files (call.Solve arguments limit) found = IsOutcomeOfRequest files arguments limit found
 IsOutcomeOfCall files (call.CheckPlan arguments) found = IsOutcomeOfPlan files arguments found
 IsOutcomeOfCall files (call.CheckRefutation arguments) found = IsOutcomeOfLines files arguments found

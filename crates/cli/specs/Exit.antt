@@ -1,5 +1,6 @@
 -- With which status the program ends: 0 yes, 1 no, 2 undecided, 3 refused, 4 wrong words, 5 device or memory (this project's own).
-use Rattle.std.specs.Prelude.{ℕ, Bool, Option, Some, None, if◌then◌else◌}
+use Rattle.std.specs.Prelude.{ℕ, Bool, List, Option, is_some, if◌then◌else◌}
+use Rattle.std.specs.List.{list_all}
 use Rattle.apply.specs.declared.error.BeginError.TheVariants.{NotCreated, NotOpened}
 use Rattle.apply_engine.specs.declared.refusal.ApplyRefusal.{ApplyRefusal}
 use Rattle.apply_engine.specs.declared.refusal.ApplyRefusal.TheVariants as refused
@@ -51,10 +52,9 @@ exit_of_solved (solved.Undecided why) = exit.Undecided
 abbrev pub exit_of_comparison : Bool → Exit
 exit_of_comparison answer = if answer then exit.Success else exit.No
 
--- success for a candidate, and no where there is none
-abbrev pub exit_of_candidate : {A : Type 0} → Option A → Exit
-exit_of_candidate None = exit.No
-exit_of_candidate (Some candidate) = exit.Success
+-- success where each name has a candidate, and no where one has none
+abbrev pub exit_of_candidates : {A : Type 0} → List (Option A) → Exit
+exit_of_candidates found = if list_all is_some found then exit.Success else exit.No
 
 -- the device's for want of memory (E1) and a file that can't be read (E5), and refused for every other fault
 abbrev pub exit_of_fault : Fault → Exit

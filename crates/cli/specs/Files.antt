@@ -2,11 +2,18 @@
 use Rattle.std.specs.Prelude.{◌≡◌, ◌≢◌, ℕ, List, Option, Some, Result, Ok, Err}
 use Rattle.std.specs.Option.{option_copied, option_map}
 use Rattle.cli.specs.declared.files.Paths.{Paths}
+use Rattle.cli.specs.declared.files.TextAt.{TextAt}
+use Rattle.cli.specs.declared.files.TextAt.TheVariants as place
 use Rattle.inputs.specs.Texts.{Shelved}
 
 -- what there is at a path, and nothing where none can be read
 abbrev pub Files : Type 0
 Files = List ℕ → Option (List ℕ)
+
+-- what there is of a text: the file at its path, or the text that is given
+abbrev pub text_at : Files → TextAt → Option (List ℕ)
+text_at files (place.File path) = files path.now
+text_at files (place.Given text) = Some text.now
 
 -- what is found at these paths: each text is the file at its path, and an index the file that its source names
 abbrev pub shelved_at : Files → Paths → Shelved
@@ -15,7 +22,7 @@ shelved_at files paths = record {
   sources = files paths.sources.now;
   index = λ number file. files file;
   preferences = option_map files (option_copied paths.preferences);
-  request = files paths.request.now;
+  request = text_at files paths.request;
   judged = files paths.judged.now;
 }
 

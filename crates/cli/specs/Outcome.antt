@@ -2,8 +2,8 @@
 use Rattle.std.specs.Prelude.{◌≡◌, ◌⊎◌, ℕ, Bool, List, ◌++◌, codes, Option, Result, Ok, Err}
 use Rattle.std.specs.Io.KnownBytes.{Appends}
 use Rattle.candidates.specs.Offer.{Offer}
-use Rattle.cli.specs.Answer.{candidate_line, comparison_line, refutation_line, solved_text, verdict_line}
-use Rattle.cli.specs.Exit.{code_of, exit_of_candidate, exit_of_comparison, exit_of_fault, exit_of_refutation, exit_of_solved, exit_of_verdict}
+use Rattle.cli.specs.Answer.{candidate_lines, comparison_line, refutation_line, solved_text, verdict_line}
+use Rattle.cli.specs.Exit.{code_of, exit_of_candidates, exit_of_comparison, exit_of_fault, exit_of_refutation, exit_of_solved, exit_of_verdict}
 use Rattle.cli.specs.declared.exit.Exit.TheVariants as exit
 use Rattle.cli.specs.declared.outcome.Outcome.{Outcome}
 use Rattle.cli.specs.declared.outcome.Outcome.TheVariants as outcome
@@ -41,11 +41,11 @@ abbrev pub IsOutcomeOfComparison : Result Bool Refusal → Outcome → Type 0
 IsOutcomeOfComparison (Ok answer) found = found ≡ outcome.Answer (comparison_line answer) (exit_of_comparison answer)
 IsOutcomeOfComparison (Err refusal) found = IsOutcomeOfRefusal refusal found
 
--- the outcome is that of the candidate of the name: its line on standard output, a refusal's on standard error
-abbrev pub IsOutcomeOfCandidate : List ℕ → Result (Option Offer) Refusal → Outcome → Type 0
-IsOutcomeOfCandidate name (Ok candidate) found =
-    found ≡ outcome.Answer (candidate_line name candidate) (exit_of_candidate candidate)
-IsOutcomeOfCandidate name (Err refusal) found = IsOutcomeOfRefusal refusal found
+-- the outcome is that of the candidates of the names: their lines on standard output, a refusal's on standard error
+abbrev pub IsOutcomeOfCandidates : List (List ℕ) → Result (List (Option Offer)) Refusal → Outcome → Type 0
+IsOutcomeOfCandidates names (Ok candidates) found =
+    found ≡ outcome.Answer (candidate_lines names candidates) (exit_of_candidates candidates)
+IsOutcomeOfCandidates names (Err refusal) found = IsOutcomeOfRefusal refusal found
 
 -- the outcome is written, by what standard output held and holds: an answer stands there behind the rest, or the
 -- program ends as where a device fails; of a complaint nothing stands there

@@ -1,6 +1,7 @@
 -- What the program answers to the words of a command line.
-use Rattle.std.specs.Prelude.{◌≡◌, ◌≢◌, ◌⊎◌, IsUtf8, List, [], ◌∷◌, Option, Some, codes, option_map}
+use Rattle.std.specs.Prelude.{◌≡◌, ◌≢◌, ◌⊎◌, ◌++◌, Bool, false, IsUtf8, List, [], ◌∷◌, Option, Some, codes, option_map, if◌then◌else◌}
 use Rattle.std.specs.List.{All}
+use Rattle.std.specs.Str.{bytes_eq}
 use Rattle.clap.specs.Kinds.{IsAmong, Kinds}
 use Rattle.clap.specs.declared.error.kind.ErrorKind.{ErrorKind}
 use Rattle.clap.specs.declared.error.kind.ErrorKind.TheVariants as kind
@@ -10,12 +11,14 @@ use Rattle.cli.specs.declared.arguments.Arguments.{Arguments}
 use Rattle.cli.specs.declared.arguments.Call.{Call}
 use Rattle.cli.specs.declared.arguments.Call.TheVariants as call
 use Rattle.cli.specs.declared.exit.Exit.TheVariants as exit
+use Rattle.cli.specs.declared.files.TextAt.{TextAt}
+use Rattle.cli.specs.declared.files.TextAt.TheVariants as place
 use Rattle.cli.specs.declared.outcome.Outcome.{Outcome}
 use Rattle.cli.specs.declared.outcome.Outcome.TheVariants as outcome
 use Rattle.cli_engine.specs.declared.comparison.Comparison.{Comparison}
 use Rattle.cli_engine.specs.declared.comparison.Comparison.TheVariants as comparison
 use Rattle.command_line.specs.Asked as ask
-use Rattle.command_line.specs.Asked.{Asked, Given}
+use Rattle.command_line.specs.Asked.{Asked, Given, Request, texts_by}
 use Rattle.command_line.specs.Joined.{Text, joined}
 use Rattle.command_line.specs.Spelled.{faults_of, spelled}
 use Rattle.command_line.specs.declared.call.Relation.{Relation}
@@ -30,26 +33,58 @@ comparison_of relation.NotEqual = comparison.NotEqual
 comparison_of relation.LaterOrEqual = comparison.LaterOrEqual
 comparison_of relation.Later = comparison.Later
 
--- the settings and paths are those of the options, with these paths of a request and of what is judged
-pub record HasGiven (given : Given) (asked weighed : Text) (arguments : Arguments) : Type 0 where
+-- the text of goals: each is a line
+abbrev pub lines_of : List Text → Text
+lines_of [] = []
+lines_of (goal ∷ others) = goal ++ (codes "\n" ++ lines_of others)
+
+-- the text of the goals of a request, of which that of a file has none
+abbrev pub goal_lines : Request → Text
+goal_lines (ask.file path) = []
+goal_lines (ask.goals texts) = lines_of texts
+
+-- the text of the goals of what is asked for
+abbrev pub goals_of : Asked → Text
+goals_of (ask.compare version word other) = []
+goals_of (ask.candidate given names explains) = []
+goals_of (ask.solve given request limit explains) = goal_lines request
+goals_of (ask.check_plan given request plan explains) = goal_lines request
+goals_of (ask.check_refutation given request refutation explains) = goal_lines request
+goals_of (ask.apply given request plan journal output) = goal_lines request
+
+-- the request is there: in the file at its path, or in the text of its goals
+abbrev pub IsAtRequest : Request → TextAt → Type 0
+IsAtRequest (ask.file path) (place.File named) = named.now ≡ path
+IsAtRequest (ask.goals texts) (place.Given text) = text.now ≡ lines_of texts
+IsAtRequest _ _ = ⊥
+
+-- the path of a file that isn't standard input: of `-` the file of that name
+abbrev pub file_path : Text → Text
+file_path path = if bytes_eq path (codes "-") then codes "./-" else path
+
+-- the settings and paths are those of the options, with this request and this path of what is judged
+pub record HasGiven (given : Given) (asked : Request) (weighed : Text) (told : Bool) (arguments : Arguments) : Type 0 where
   pub arch : arguments.settings.arch.now ≡ given.arch
   pub target : option_map (λ word. word.now) arguments.settings.target ≡ given.target
-  pub status : arguments.paths.status.now ≡ given.status
-  pub sources : arguments.paths.sources.now ≡ given.sources
-  pub preferences : option_map (λ word. word.now) arguments.paths.preferences ≡ given.preferences
-  pub request : arguments.paths.request.now ≡ asked
+  pub status : arguments.paths.status.now ≡ file_path given.status
+  pub sources : arguments.paths.sources.now ≡ file_path given.sources
+  pub preferences : option_map (λ word. word.now) arguments.paths.preferences ≡ option_map file_path given.preferences
+  pub request : IsAtRequest asked arguments.paths.request
   pub judged : arguments.paths.judged.now ≡ weighed
+  pub explains : arguments.explains ≡ told
 
 -- the call is the one that is asked for, by settings and paths
 abbrev pub IsCallOf : Asked → Call → Type 0
 IsCallOf (ask.compare version word other) (call.Compare arguments) = (arguments.version.now ≡ version)
     × (arguments.relation ≡ comparison_of word) × (arguments.other.now ≡ other)
-IsCallOf (ask.candidate given name) (call.Candidate arguments named) = HasGiven given [] [] arguments × (named.now ≡ name)
-IsCallOf (ask.solve given request limit) (call.Solve arguments most) = HasGiven given request [] arguments × (most ≡ limit)
-IsCallOf (ask.check_plan given request plan) (call.CheckPlan arguments) = HasGiven given request plan arguments
-IsCallOf (ask.check_refutation given request refutation) (call.CheckRefutation arguments) =
-    HasGiven given request refutation arguments
-IsCallOf (ask.apply given request plan journal output) (call.Apply arguments places) = HasGiven given request plan arguments
+IsCallOf (ask.candidate given names explains) (call.Candidate arguments named) =
+    HasGiven given (ask.file []) [] explains arguments × (texts_by named.now ≡ names)
+IsCallOf (ask.solve given request limit explains) (call.Solve arguments most) =
+    HasGiven given request [] explains arguments × (most ≡ limit)
+IsCallOf (ask.check_plan given request plan explains) (call.CheckPlan arguments) = HasGiven given request plan explains arguments
+IsCallOf (ask.check_refutation given request refutation explains) (call.CheckRefutation arguments) =
+    HasGiven given request refutation explains arguments
+IsCallOf (ask.apply given request plan journal output) (call.Apply arguments places) = HasGiven given request plan false arguments
     × (places.journal.now ≡ journal) × (places.output.now ≡ output)
 IsCallOf _ _ = ⊥
 
@@ -64,10 +99,15 @@ IsOutcomeOfKind said (outcome.Complaint text ending) =
 abbrev pub IsOutcomeOfUsage : Kinds → Outcome → Type 0
 IsOutcomeOfUsage kinds found = (said : ErrorKind) × IsAmong said kinds × IsOutcomeOfKind said found
 
--- the outcome is that of the call that the words spell, by the files, where they are known
+-- the outcome is that of the call that is asked for, by the files, where they are known
+abbrev pub IsOutcomeOfAsked : Option Files → Asked → Outcome → Type 0
+IsOutcomeOfAsked files asked found =
+    (called : Call) × IsCallOf asked called × ((at : Files) → files ≡ Some at → IsOutcomeOfCall at called found)
+
+-- the outcome is that of the call that the words spell
 abbrev pub IsOutcomeOfSpelled : Option Files → List Text → Outcome → Type 0
-IsOutcomeOfSpelled files words found = (asked : Asked) × (called : Call) × (spelled (joined words) ≡ Some asked)
-    × IsCallOf asked called × ((at : Files) → files ≡ Some at → IsOutcomeOfCall at called found)
+IsOutcomeOfSpelled files words found =
+    (asked : Asked) × (spelled (joined words) ≡ Some asked) × IsOutcomeOfAsked files asked found
 
 -- the outcome is that of the words: of the call that they spell, or usage exactly where they spell none or one of them
 -- isn't UTF-8

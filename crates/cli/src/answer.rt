@@ -1,6 +1,6 @@
-// A verdict on a plan or a refutation, a candidate and the answer of a comparison as the line that is printed of it (this
+// A verdict on a plan or a refutation, candidates and the answer of a comparison as the line that is printed of it (this
 // project's own form).
-ghost use Rattle.std.specs.Prelude.{◌≡◌, ◌++◌, IfOk, codes, decimal};
+ghost use Rattle.std.specs.Prelude.{◌≡◌, ◌++◌, IfOk, codes, decimal, map};
 ghost use Rattle.std.specs.Fmt.{signed_decimal};
 ghost use Rattle.std.specs.Option.{option_copied};
 ghost use Rattle.cli.specs.Answer as Spec;
@@ -81,6 +81,27 @@ pub fn comparison_line(alloc: Global, answer: bool) -> Result<Vec<u8>, AllocErro
     } else {
         b"no\n".to_vec(alloc)
     }
+}
+
+/// The lines that are printed of the candidates of these names, each in the place of its name. Memory alone can fail.
+pub fn candidate_lines(
+    alloc: Global,
+    names: &[&str],
+    found: &[Option<Candidate>],
+) -> Result<Vec<u8>, AllocError>
+    ensures { IfOk result (λ lines. lines.items ≡ Spec.candidate_lines (map (λ name. name.now) names.now) found.now) }
+{
+    let mut lines = Vec::new(alloc);
+    let mut rest = found;
+    for name in names {
+        let Some((candidate, behind)) = rest.split_first() else {
+            return Ok(lines);
+        };
+        let line = candidate_line(alloc, name.as_bytes(), candidate.as_ref())?;
+        lines.extend_from_slice(line.as_slice())?;
+        rest = behind;
+    }
+    Ok(lines)
 }
 
 /// The line that is printed of the candidate of a name: `NAME VERSION PRIORITY`, or `NAME none`. Memory alone can fail.

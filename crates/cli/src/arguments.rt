@@ -1,19 +1,23 @@
 // A call of the command line, by settings and paths.
-ghost use Rattle.std.specs.Prelude.{◌≡◌, option_map};
-ghost use Rattle.cli.specs.Words.{HasGiven, IsCallOf, comparison_of};
-ghost use Rattle.command_line.specs.Asked.{asked_by, given_by};
+ghost use Rattle.std.specs.Prelude.{◌≡◌, IfOk, option_map};
+ghost use Rattle.cli.specs.Words.{HasGiven, IsAtRequest, IsCallOf, comparison_of, file_path, goal_lines, goals_of, lines_of};
+ghost use Rattle.command_line.specs.Asked.{Request as RequestOf, asked_by, given_by, request_by, texts_by};
 
-use crate::files::Paths;
+use crate::files::{Paths, TextAt};
 use cli_engine::{Comparison, Settings};
-use command_line::{Call as Asked, Options, Relation};
+use command_line::{Call as Asked, Options, Relation, Request};
+use std::alloc::{AllocError, Global};
 
-/// What an answer is given by: for which architecture texts are read, which release is preferred, and where the files are.
+/// What an answer is given by: for which architecture texts are read, which release is preferred, where the texts are, and whether
+/// sentences are wanted beside it.
 #[derive(Clone, Copy)]
 pub(crate) struct Arguments<'a> {
     /// The architecture, and the target release.
     pub(crate) settings: Settings<'a>,
-    /// The paths of the files.
+    /// Where the texts are.
     pub(crate) paths: Paths<'a>,
+    /// Whether sentences on the answer are wanted.
+    pub(crate) explains: bool,
 }
 
 /// What two versions are to be compared as.
@@ -41,8 +45,8 @@ pub(crate) struct Places<'a> {
 pub(crate) enum Call<'a> {
     /// To compare two versions.
     Compare(CompareArguments<'a>),
-    /// To name the candidate of this name, which need not be that of a package.
-    Candidate(Arguments<'a>, &'a str),
+    /// To name the candidate of each of these names, which need not be those of packages.
+    Candidate(Arguments<'a>, &'a [&'a str]),
     /// To solve a request, with at most so many conflicts of the search.
     Solve(Arguments<'a>, u32),
     /// To judge a plan.
@@ -53,9 +57,10 @@ pub(crate) enum Call<'a> {
     Apply(Arguments<'a>, Places<'a>),
 }
 
-/// The call that is asked for, by settings and paths.
-pub(crate) fn call_by<'a>(asked: &Asked<'a>) -> Call<'a>
-    ensures { IsCallOf (asked_by asked.now) result }
+/// The call that is asked for, by settings and paths, and by the text of its goals.
+pub(crate) fn call_by<'a>(asked: &'a Asked<'a>, goals: &'a [u8]) -> Call<'a>
+    requires { goals.now ≡ goals_of (asked_by asked.now) }
+    ensures { IsCallOf (asked_by asked.entry.now) result }
 {
     match asked {
         Asked::Compare {
@@ -67,22 +72,40 @@ pub(crate) fn call_by<'a>(asked: &Asked<'a>) -> Call<'a>
             relation: comparison_by(*relation),
             other: *other,
         }),
-        Asked::Candidate { options, name } => Call::Candidate(arguments_by(options, "", ""), *name),
+        Asked::Candidate {
+            options,
+            names,
+            explains,
+        } => Call::Candidate(
+            arguments_by(options, TextAt::File(""), "", *explains),
+            names.as_slice(),
+        ),
         Asked::Solve {
             options,
             request,
             limit,
-        } => Call::Solve(arguments_by(options, *request, ""), *limit),
+            explains,
+        } => Call::Solve(
+            arguments_by(options, place_of(request, goals), "", *explains),
+            *limit,
+        ),
         Asked::CheckPlan {
             options,
             request,
             plan,
-        } => Call::CheckPlan(arguments_by(options, *request, *plan)),
+            explains,
+        } => Call::CheckPlan(arguments_by(options, place_of(request, goals), *plan, *explains)),
         Asked::CheckRefutation {
             options,
             request,
             refutation,
-        } => Call::CheckRefutation(arguments_by(options, *request, *refutation)),
+            explains,
+        } => Call::CheckRefutation(arguments_by(
+            options,
+            place_of(request, goals),
+            *refutation,
+            *explains,
+        )),
         Asked::Apply {
             options,
             request,
@@ -90,13 +113,60 @@ pub(crate) fn call_by<'a>(asked: &Asked<'a>) -> Call<'a>
             journal,
             output,
         } => Call::Apply(
-            arguments_by(options, *request, *plan),
+            arguments_by(options, place_of(request, goals), *plan, false),
             Places {
                 journal: *journal,
                 output: *output,
             },
         ),
     }
+}
+
+// Where the request is, of which this is the text of its goals.
+fn place_of<'a>(request: &Request<'a>, goals: &'a [u8]) -> TextAt<'a>
+    requires { goals.now ≡ goal_lines (request_by request.now) }
+    ensures { IsAtRequest (request_by request.now) result }
+{
+    match request {
+        Request::File(path) => TextAt::File(*path),
+        Request::Goals(_) => TextAt::Given(goals),
+    }
+}
+
+/// The text of the goals of the call, each a line, which is empty where it has none. Memory alone can fail.
+pub(crate) fn goals_in(alloc: Global, asked: &Asked<'_>) -> Result<Vec<u8>, AllocError>
+    ensures { IfOk result (λ text. text.items ≡ goals_of (asked_by asked.now)) }
+{
+    match asked {
+        Asked::Compare { .. } => Ok(Vec::new(alloc)),
+        Asked::Candidate { .. } => Ok(Vec::new(alloc)),
+        Asked::Solve { request, .. } => lines_in(alloc, request),
+        Asked::CheckPlan { request, .. } => lines_in(alloc, request),
+        Asked::CheckRefutation { request, .. } => lines_in(alloc, request),
+        Asked::Apply { request, .. } => lines_in(alloc, request),
+    }
+}
+
+// The text of the goals of the request.
+fn lines_in(alloc: Global, request: &Request<'_>) -> Result<Vec<u8>, AllocError>
+    ensures { IfOk result (λ text. text.items ≡ goal_lines (request_by request.now)) }
+{
+    match request {
+        Request::File(_) => Ok(Vec::new(alloc)),
+        Request::Goals(goals) => lines(alloc, goals.as_slice()),
+    }
+}
+
+// These texts, each a line.
+fn lines(alloc: Global, texts: &[&str]) -> Result<Vec<u8>, AllocError>
+    ensures { IfOk result (λ text. text.items ≡ lines_of (texts_by texts.now)) }
+{
+    let mut all = Vec::new(alloc);
+    for text in texts {
+        all.extend_from_slice(text.as_bytes())?;
+        all.extend_from_slice(b"\n")?;
+    }
+    Ok(all)
 }
 
 fn comparison_by(relation: Relation) -> Comparison
@@ -112,20 +182,34 @@ fn comparison_by(relation: Relation) -> Comparison
     }
 }
 
-// What an answer is given by, with the paths of the request and of what is judged, which are empty where none is read.
-fn arguments_by<'a>(options: &Options<'a>, request: &'a str, judged: &'a str) -> Arguments<'a>
-    ensures { HasGiven (given_by options.now) request.entry.now judged.entry.now result }
+// What an answer is given by, with the place of the request and the path of what is judged, which are empty where none is read.
+fn arguments_by<'a>(
+    options: &Options<'a>,
+    request: TextAt<'a>,
+    judged: &'a str,
+    explains: bool,
+) -> Arguments<'a>
+    ensures { (asked : RequestOf) → IsAtRequest asked request.entry
+        → HasGiven (given_by options.now) asked judged.entry.now explains result }
 {
     Arguments {
         settings: settings_by(options),
         paths: Paths {
-            status: options.status,
-            sources: options.sources,
-            preferences: options.preferences,
+            status: file_path(options.status),
+            sources: file_path(options.sources),
+            preferences: options.preferences.map(|path| file_path(path)),
             request,
             judged,
         },
+        explains,
     }
+}
+
+// The path of a file that is never standard input, also where it is `-`.
+fn file_path<'a>(path: &'a str) -> &'a str
+    ensures { result.now ≡ file_path path.now }
+{
+    if path == "-" { "./-" } else { path }
 }
 
 fn settings_by<'a>(options: &Options<'a>) -> Settings<'a>

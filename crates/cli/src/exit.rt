@@ -1,6 +1,6 @@
 // With which status the program ends (this project's own).
-ghost use Rattle.std.specs.Prelude.{◌≡◌};
-ghost use Rattle.std.specs.Option.{option_copied};
+ghost use Rattle.std.specs.Prelude.{◌≡◌, is_some};
+ghost use Rattle.std.specs.List.{list_all};
 ghost use Rattle.cli.specs.Exit as Spec;
 
 use apply::BeginError;
@@ -14,7 +14,7 @@ use rules::Verdict;
 pub enum Exit {
     /// The answer is yes, or help was asked for.
     Success,
-    /// The answer is no, or that a name has no candidate.
+    /// The answer is no, or one of the names has no candidate.
     No,
     /// A request is undecided.
     Undecided,
@@ -80,14 +80,21 @@ pub fn exit_of_comparison(answer: bool) -> Exit
     if answer { Exit::Success } else { Exit::No }
 }
 
-/// How the program ends with this candidate, or without one.
-pub fn exit_of_candidate(found: Option<&Candidate>) -> Exit
-    ensures { result ≡ Spec.exit_of_candidate (option_copied found.entry) }
+/// How the program ends with these candidates of names, of which some may have none.
+pub fn exit_of_candidates(found: &[Option<Candidate>]) -> Exit
+    ensures { result ≡ Spec.exit_of_candidates found.now }
 {
-    match found {
-        None => Exit::No,
-        Some(_) => Exit::Success,
+    if are_all_there(found) {
+        Exit::Success
+    } else {
+        Exit::No
     }
+}
+
+fn are_all_there(found: &[Option<Candidate>]) -> bool
+    ensures { result ≡ list_all is_some found.now }
+{
+    found.iter().all(|candidate| candidate.is_some())
 }
 
 /// How the program ends with this refusal: files and memory (E1, E5) have a status of their own.

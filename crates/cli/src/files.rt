@@ -1,14 +1,25 @@
 // The files of a host, at the paths of a command line, as a shelf.
 ghost use Rattle.std.specs.Prelude.{◌≡◌, IfErr, IfOk, None, Some};
 ghost use Rattle.std.specs.Option.{option_map};
-ghost use Rattle.cli.specs.Files.{Files, shelved_at};
+ghost use Rattle.cli.specs.Files.{Files, shelved_at, text_at};
+ghost use Rattle.inputs.specs.Counting.{Counts};
 ghost use Rattle.inputs.specs.Texts.{part_of};
+ghost use Rattle.inputs.specs.declared.shelf.ReadError.TheVariants as ReadError;
 
 use crate::host::Host;
 use inputs::{Part, ReadError, Shelf};
-use std::alloc::Global;
+use std::alloc::{AllocError, Global};
 
-/// The paths of the files that an answer is given by. That of a request or of a plan is empty where none is read.
+/// Where a text is.
+#[derive(Clone, Copy)]
+pub enum TextAt<'a> {
+    /// The file at this path.
+    File(&'a str),
+    /// This text.
+    Given(&'a [u8]),
+}
+
+/// Where the texts are that an answer is given by. The path of a request or of a plan is empty where none is read.
 #[derive(Clone, Copy)]
 pub struct Paths<'a> {
     /// The path of the status file.
@@ -17,23 +28,92 @@ pub struct Paths<'a> {
     pub sources: &'a str,
     /// The path of the preferences, if there are any.
     pub preferences: Option<&'a str>,
-    /// The path of the request.
-    pub request: &'a str,
+    /// Where the request is.
+    pub request: TextAt<'a>,
     /// The path of the plan, or of the refutation.
     pub judged: &'a str,
 }
 
 impl<'a> Paths<'a> {
-    // The path of the text that is read whole for this part.
-    fn of(&self, part: Part) -> &'a str
-        ensures { (at : Files) → part_of (shelved_at at self.now) part ≡ at result.now }
+    // Where the text is that is read whole for this part.
+    fn of(&self, part: Part) -> TextAt<'a>
+        ensures { (at : Files) → part_of (shelved_at at self.now) part ≡ text_at at result }
     {
         match part {
-            Part::Status => self.status,
-            Part::Sources => self.sources,
+            Part::Status => TextAt::File(self.status),
+            Part::Sources => TextAt::File(self.sources),
             Part::Request => self.request,
-            Part::Judged => self.judged,
+            Part::Judged => TextAt::File(self.judged),
         }
+    }
+}
+
+/// What is remembered of the texts that were read, for sentences on a refusal.
+#[derive(Drop)]
+pub struct Seen {
+    /// The text of the request, of a file.
+    pub request: Vec<u8>,
+    /// The file of the index that was opened last.
+    pub index: Vec<u8>,
+}
+
+impl Seen {
+    /// What is remembered before a text is read: nothing.
+    pub fn new(alloc: Global) -> Seen {
+        Seen {
+            request: Vec::new(alloc),
+            index: Vec::new(alloc),
+        }
+    }
+}
+
+// The text again. Memory alone can fail.
+fn copied(alloc: Global, text: &[u8]) -> Result<Vec<u8>, ReadError>
+    ensures copy { IfOk result (λ copy. copy.items ≡ text.now) }
+    ensures memory { IfErr result (λ e. e ≡ ReadError.OutOfMemory) }
+{
+    match text.to_vec(alloc) {
+        Ok(copy) => Ok(copy),
+        Err(AllocError) => Err(ReadError::OutOfMemory),
+    }
+}
+
+// Remembers the text of this part, if it's the request's and that is wanted. Memory alone can fail.
+fn note_text(
+    alloc: Global,
+    seen: &mut Option<Seen>,
+    part: Part,
+    text: &[u8],
+) -> Result<(), ReadError>
+    ensures { IfErr result (λ e. e ≡ ReadError.OutOfMemory) }
+{
+    if let (Some(seen), Part::Request) = (seen, part) {
+        seen.request = copied(alloc, text)?;
+    }
+    Ok(())
+}
+
+// Remembers the file of an index, if that is wanted. Memory alone can fail.
+fn note_index(alloc: Global, seen: &mut Option<Seen>, file: &[u8]) -> Result<(), ReadError>
+    ensures { IfErr result (λ e. e ≡ ReadError.OutOfMemory) }
+{
+    if let Some(seen) = seen {
+        seen.index = copied(alloc, file)?;
+    }
+    Ok(())
+}
+
+// The text that is there.
+fn read_at<H: Host>(alloc: Global, host: &mut H, place: TextAt<'_>) -> Result<Vec<u8>, ReadError>
+    ensures found { (at : Files) → H.files host.old ≡ Some at → IfOk result (λ text. text_at at place.entry ≡ Some text.items) }
+    ensures missing { (at : Files) → H.files host.old ≡ Some at
+        → IfErr result (λ e. e ≡ ReadError.Unreadable → text_at at place.entry ≡ None) }
+    ensures same { H.files host.new ≡ H.files host.old }
+    ensures count { Counts result (H.faults host.old) (H.faults host.new) }
+{
+    match place {
+        TextAt::File(path) => host.read(alloc, path.as_bytes()),
+        TextAt::Given(text) => copied(alloc, text),
     }
 }
 
@@ -44,6 +124,8 @@ pub struct HostShelf<'a, H> {
     pub host: H,
     /// The paths.
     pub paths: Paths<'a>,
+    /// What is remembered of the texts, where sentences are wanted.
+    pub seen: Option<Seen>,
 }
 
 impl<'a, H: Host> Shelf for HostShelf<'a, H> {
@@ -58,7 +140,9 @@ impl<'a, H: Host> Shelf for HostShelf<'a, H> {
     }
 
     fn read(&mut self, alloc: Global, part: Part) -> Result<Vec<u8>, ReadError> {
-        self.host.read(alloc, self.paths.of(part).as_bytes())
+        let text = read_at(alloc, &mut self.host, self.paths.of(part))?;
+        note_text(alloc, &mut self.seen, part, text.as_slice())?;
+        Ok(text)
     }
 
     fn read_preferences(&mut self, alloc: Global) -> Result<Option<Vec<u8>>, ReadError> {
@@ -69,6 +153,7 @@ impl<'a, H: Host> Shelf for HostShelf<'a, H> {
     }
 
     fn open(&mut self, alloc: Global, _number: usize, file: &[u8]) -> Result<H::Text, ReadError> {
+        note_index(alloc, &mut self.seen, file)?;
         self.host.open(alloc, file)
     }
 

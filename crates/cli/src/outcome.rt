@@ -1,5 +1,5 @@
 // What the program prints, and on which stream.
-ghost use Rattle.std.specs.Prelude.{◌≡◌, ◌≢◌, ℕ, IfOk, List};
+ghost use Rattle.std.specs.Prelude.{◌≡◌, ◌≢◌, ℕ, IfOk, List, map};
 ghost use Rattle.clap.specs.Values.{kind_of};
 ghost use Rattle.cli.specs.Words.{IsOutcomeOfKind};
 ghost use Rattle.cli.specs.Answer.{applied_line};
@@ -7,13 +7,13 @@ ghost use Rattle.cli.specs.declared.exit.Exit.TheVariants as exit;
 ghost use Rattle.cli.specs.Applied.{IsUnwritten};
 ghost use Rattle.cli.specs.Exit.{exit_of_apply_refusal};
 ghost use Rattle.cli.specs.declared.outcome.Outcome.TheVariants as found;
-ghost use Rattle.cli.specs.Outcome.{IsComplaint, IsOutcomeOf, IsOutcomeOfCandidate, IsOutcomeOfComparison, IsOutcomeOfRefusal, IsOutcomeOfRefutation, IsOutcomeOfSolved};
+ghost use Rattle.cli.specs.Outcome.{IsComplaint, IsOutcomeOf, IsOutcomeOfCandidates, IsOutcomeOfComparison, IsOutcomeOfRefusal, IsOutcomeOfRefutation, IsOutcomeOfSolved};
 
 use crate::answer::{
-    applied_line, candidate_line, comparison_line, refutation_line, solved_text, verdict_line,
+    applied_line, candidate_lines, comparison_line, refutation_line, solved_text, verdict_line,
 };
 use crate::exit::{
-    Exit, exit_of_apply_refusal, exit_of_candidate, exit_of_comparison, exit_of_refusal,
+    Exit, exit_of_apply_refusal, exit_of_candidates, exit_of_comparison, exit_of_refusal,
     exit_of_refutation, exit_of_solved, exit_of_verdict,
 };
 use apply::BeginError;
@@ -103,19 +103,20 @@ pub fn outcome_of_comparison(
     }
 }
 
-/// What is printed of the candidate of this name: its line on standard output, or a refusal's on standard error. Memory
+/// What is printed of the candidates of these names: a line for each on standard output, or a refusal's on standard error. Memory
 /// alone can fail.
-pub fn outcome_of_candidate(
+pub fn outcome_of_candidates(
     alloc: Global,
-    name: &[u8],
-    answer: &Result<Option<Candidate>, Refusal>,
+    names: &[&str],
+    answer: &Result<Items<Option<Candidate>>, Refusal>,
 ) -> Result<Outcome, AllocError>
-    ensures { IfOk result (λ outcome. IsOutcomeOfCandidate name.now answer.now outcome) }
+    ensures { IfOk result (λ outcome. IsOutcomeOfCandidates (map (λ name. name.now) names.now) answer.now outcome) }
 {
     match answer {
         Ok(found) => {
-            let line = Items::new(candidate_line(alloc, name, found.as_ref())?);
-            Ok(Outcome::Answer(line, exit_of_candidate(found.as_ref())))
+            let lines = Items::new(candidate_lines(alloc, names, found.as_slice())?);
+            let exit = exit_of_candidates(found.as_slice());
+            Ok(Outcome::Answer(lines, exit))
         }
         Err(refusal) => outcome_of_refusal(alloc, refusal),
     }

@@ -9,9 +9,25 @@ use crate::outcome::Outcome;
 use std::io;
 use std::io::Write;
 
-/// Writes what is printed and gives the exit status. A failure to write on standard output is printed as E26 and
-/// has its own status; one to write on standard error changes nothing.
-pub(crate) fn print<W: Write, E: Write>(outcome: &Outcome, out: &mut W, err: &mut E) -> u8
+/// Writes what is printed, and behind it these sentences on standard error, and gives the exit status. A failure to write on
+/// standard output is printed as E26 and has its own status; one to write on standard error changes nothing.
+pub(crate) fn print<W: Write, E: Write>(
+    outcome: &Outcome,
+    sentences: &[u8],
+    out: &mut W,
+    err: &mut E,
+) -> u8
+    ensures { IsWritten outcome.now (W.contents out.old) (W.contents out.new) result }
+{
+    let status = print_outcome(outcome, out, err);
+    if !sentences.is_empty() {
+        let _unwritten = write_whole(err, sentences);
+    }
+    status
+}
+
+// Writes what is printed and gives the exit status.
+fn print_outcome<W: Write, E: Write>(outcome: &Outcome, out: &mut W, err: &mut E) -> u8
     ensures { IsWritten outcome.now (W.contents out.old) (W.contents out.new) result }
 {
     match outcome {

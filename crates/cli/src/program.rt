@@ -1,34 +1,37 @@
 // The whole program over a host.
 ghost use Rattle.std.specs.Prelude.{◌≡◌, ◌⊎◌, IfOk, Some, map};
 ghost use Rattle.cli.specs.Applied.{IsOutcomeOfDone, IsOutcomeOfSteps, IsSaidOfApplied};
-ghost use Rattle.cli.specs.Calls.{IsOutcomeOfCall, IsOutcomeOfLines, IsOutcomeOfName, IsOutcomeOfPlan, IsOutcomeOfPlanTaken, IsOutcomeOfRequest, IsOutcomeOfVersions, IsSaidOfVersions, texts_at};
+ghost use Rattle.cli.specs.Calls.{IsOutcomeOfCall, IsOutcomeOfLines, IsOutcomeOfNames, IsOutcomeOfPlan, IsOutcomeOfPlanTaken, IsOutcomeOfRequest, IsOutcomeOfVersions, IsSaidOfVersions, texts_at};
 ghost use Rattle.cli.specs.Files.{Files};
 ghost use Rattle.cli.specs.Outcome.{IsWritten};
-ghost use Rattle.cli.specs.Words.{IsOutcomeOfMemory, IsOutcomeOfWords};
+ghost use Rattle.cli.specs.Words.{IsOutcomeOfAsked, IsOutcomeOfMemory, IsOutcomeOfWords};
+ghost use Rattle.command_line.specs.Asked.{asked_by};
 ghost use Rattle.cli.specs.declared.outcome.Outcome.{Outcome as Found};
 
-use crate::arguments::{Arguments, Call, CompareArguments, Places, call_by};
+use crate::arguments::{Arguments, Call, CompareArguments, Places, call_by, goals_in};
 use crate::carry_out::apply;
 use crate::exit::Exit;
-use crate::files::HostShelf;
-use crate::find::find_candidate;
+use crate::files::{HostShelf, Seen};
+use crate::find::find_candidates;
 use crate::host::{Host, PutError};
 use crate::judge::{check_plan, check_refutation};
 use crate::outcome::{
-    Outcome, outcome_of_answer, outcome_of_apply_refusal, outcome_of_candidate,
+    Outcome, outcome_of_answer, outcome_of_apply_refusal, outcome_of_candidates,
     outcome_of_comparison, outcome_of_refutation, outcome_of_solved, outcome_of_steps,
     outcome_of_unwritten, outcome_of_usage,
 };
 use crate::print::{complain, print};
 use crate::solve::solve_request;
+use crate::told::{tell_refusal, tell_undecided, tell_unfinished};
 use apply_engine::{Applied, ApplyRefusal, CarriedOut};
-use cli_engine::{Refusal, compare};
-use command_line::{call_of, joined, mistake, texts_of};
+use cli_engine::{Refusal, Sentences, compare};
+use command_line::{Call as Asked, call_of, joined, mistake, texts_of};
 use std::alloc::{AllocError, Global};
 use std::io::Write;
 
 /// Runs the program on the words of its command line, of which the first is its own name, and gives its exit status.
-/// It opens each file once, at its turn, and none behind a refusal. It writes nothing but its answer or one refusal.
+/// It opens each file once, at its turn, and none behind a refusal. It writes nothing but its answer or one refusal, and where the
+/// words ask for them, sentences behind that on standard error.
 pub fn run<H: Host, W: Write, E: Write>(
     alloc: Global,
     words: &[Vec<u8>],
@@ -39,8 +42,24 @@ pub fn run<H: Host, W: Write, E: Write>(
     ensures { (found : Found) × (IsOutcomeOfWords (H.files host.old) (map (λ word. word.items) words.now) found
         ⊎ IsOutcomeOfMemory found) × IsWritten found (W.contents out.old) (W.contents out.new) result }
 {
-    match outcome_of_words(alloc, words, host) {
-        Ok(outcome) => print(&outcome, out, err),
+    let mut told = Sentences::new(alloc);
+    run_telling(alloc, words, host, out, err, &mut told)
+}
+
+// The same, with the sentences that are told kept here.
+fn run_telling<H: Host, W: Write, E: Write>(
+    alloc: Global,
+    words: &[Vec<u8>],
+    host: &mut H,
+    out: &mut W,
+    err: &mut E,
+    told: &mut Sentences,
+) -> u8
+    ensures { (found : Found) × (IsOutcomeOfWords (H.files host.old) (map (λ word. word.items) words.now) found
+        ⊎ IsOutcomeOfMemory found) × IsWritten found (W.contents out.old) (W.contents out.new) result }
+{
+    match outcome_of_words(alloc, words, host, told) {
+        Ok(outcome) => print(&outcome, told.text.as_slice(), out, err),
         Err(AllocError) => refuse_for_memory(err),
     }
 }
@@ -52,11 +71,12 @@ pub fn refuse_for_memory<E: Write>(err: &mut E) -> u8
     complain(err, b"debplan: memory: E1 OutOfMemory\n", Exit::Device)
 }
 
-// What is printed of these words.
+// What is printed of these words, with sentences on it where they are asked for.
 fn outcome_of_words<H: Host>(
     alloc: Global,
     words: &[Vec<u8>],
     host: &mut H,
+    told: &mut Sentences,
 ) -> Result<Outcome, AllocError>
     ensures { IfOk result (IsOutcomeOfWords (H.files host.old) (map (λ word. word.items) words.now)) }
 {
@@ -65,9 +85,23 @@ fn outcome_of_words<H: Host>(
     };
     let words = joined(alloc, texts.as_slice())?;
     match call_of(alloc, words.as_slice()) {
-        Ok(asked) => outcome_of_call(alloc, &call_by(&asked), host),
+        Ok(asked) => outcome_of_asked(alloc, &asked, host, told),
         Err(error) => outcome_of_usage(alloc, &error),
     }
+}
+
+// What is printed of what is asked for.
+fn outcome_of_asked<H: Host>(
+    alloc: Global,
+    asked: &Asked<'_>,
+    host: &mut H,
+    told: &mut Sentences,
+) -> Result<Outcome, AllocError>
+    ensures { IfOk result (IsOutcomeOfAsked (H.files host.old) (asked_by asked.now)) }
+{
+    let goals = goals_in(alloc, asked)?;
+    let call = call_by(asked, goals.as_slice());
+    outcome_of_call(alloc, &call, host, told)
 }
 
 // What is printed of this call.
@@ -75,34 +109,51 @@ fn outcome_of_call<H: Host>(
     alloc: Global,
     call: &Call<'_>,
     host: &mut H,
+    told: &mut Sentences,
 ) -> Result<Outcome, AllocError>
     ensures { (at : Files) → H.files host.old ≡ Some at → IfOk result (λ outcome. IsOutcomeOfCall at call.now outcome) }
 {
     match call {
         Call::Compare(arguments) => outcome_of_versions(alloc, arguments),
-        Call::Candidate(arguments, name) => {
-            outcome_of_name(alloc, host, arguments, name.as_bytes())
-        }
-        Call::Solve(arguments, limit) => outcome_of_request(alloc, host, arguments, *limit),
-        Call::CheckPlan(arguments) => outcome_of_plan(alloc, host, arguments),
-        Call::CheckRefutation(arguments) => outcome_of_lines(alloc, host, arguments),
+        Call::Candidate(arguments, names) => outcome_of_names(alloc, host, arguments, names, told),
+        Call::Solve(arguments, limit) => outcome_of_request(alloc, host, arguments, *limit, told),
+        Call::CheckPlan(arguments) => outcome_of_plan(alloc, host, arguments, told),
+        Call::CheckRefutation(arguments) => outcome_of_lines(alloc, host, arguments, told),
         Call::Apply(arguments, places) => outcome_of_applied(alloc, host, arguments, places),
     }
 }
 
-// What is printed of the candidate of this name.
-fn outcome_of_name<H: Host>(
+// What is remembered of the texts, where sentences are wanted.
+fn seen_if(alloc: Global, explains: bool) -> Option<Seen> {
+    if explains {
+        Some(Seen::new(alloc))
+    } else {
+        None
+    }
+}
+
+// What is printed of the candidates of these names.
+fn outcome_of_names<H: Host>(
     alloc: Global,
     host: &mut H,
     arguments: &Arguments<'_>,
-    name: &[u8],
+    names: &[&str],
+    told: &mut Sentences,
 ) -> Result<Outcome, AllocError>
-    ensures { (at : Files) → H.files host.old ≡ Some at → IfOk result (λ outcome. IsOutcomeOfName at arguments.now name.now outcome) }
+    ensures { (at : Files) → H.files host.old ≡ Some at → IfOk result (λ outcome.
+        IsOutcomeOfNames at arguments.now (map (λ name. name.now) names.now) outcome) }
 {
-    let Arguments { settings, paths } = *arguments;
-    let mut shelf = HostShelf { host, paths };
-    let answer = find_candidate(alloc, &mut shelf, &settings, name);
-    outcome_of_candidate(alloc, name, &answer)
+    told.wanted = arguments.explains;
+    let Arguments {
+        settings,
+        paths,
+        explains,
+    } = *arguments;
+    let seen = seen_if(alloc, explains);
+    let mut shelf = HostShelf { host, paths, seen };
+    let answer = find_candidates(alloc, &mut shelf, &settings, names, told);
+    tell_refusal(alloc, &answer, &paths, shelf.seen.as_ref(), told)?;
+    outcome_of_candidates(alloc, names, &answer)
 }
 
 // What is printed of the answer to the request.
@@ -111,12 +162,21 @@ fn outcome_of_request<H: Host>(
     host: &mut H,
     arguments: &Arguments<'_>,
     limit: u32,
+    told: &mut Sentences,
 ) -> Result<Outcome, AllocError>
     ensures { (at : Files) → H.files host.old ≡ Some at → IfOk result (λ outcome. IsOutcomeOfRequest at arguments.now limit outcome) }
 {
-    let Arguments { settings, paths } = *arguments;
-    let mut shelf = HostShelf { host, paths };
-    let answer = solve_request(alloc, &mut shelf, &settings, limit);
+    told.wanted = arguments.explains;
+    let Arguments {
+        settings,
+        paths,
+        explains,
+    } = *arguments;
+    let seen = seen_if(alloc, explains);
+    let mut shelf = HostShelf { host, paths, seen };
+    let answer = solve_request(alloc, &mut shelf, &settings, limit, told);
+    tell_refusal(alloc, &answer, &paths, shelf.seen.as_ref(), told)?;
+    tell_undecided(&answer, told)?;
     outcome_of_solved(alloc, &answer)
 }
 
@@ -125,12 +185,21 @@ fn outcome_of_plan<H: Host>(
     alloc: Global,
     host: &mut H,
     arguments: &Arguments<'_>,
+    told: &mut Sentences,
 ) -> Result<Outcome, AllocError>
     ensures { (at : Files) → H.files host.old ≡ Some at → IfOk result (λ outcome. IsOutcomeOfPlan at arguments.now outcome) }
 {
-    let Arguments { settings, paths } = *arguments;
-    let mut shelf = HostShelf { host, paths };
-    let answer = check_plan(alloc, &mut shelf, &settings);
+    told.wanted = arguments.explains;
+    let Arguments {
+        settings,
+        paths,
+        explains,
+    } = *arguments;
+    let seen = seen_if(alloc, explains);
+    let mut shelf = HostShelf { host, paths, seen };
+    let answer = check_plan(alloc, &mut shelf, &settings, told);
+    tell_refusal(alloc, &answer, &paths, shelf.seen.as_ref(), told)?;
+    tell_unfinished(&answer, told)?;
     outcome_of_answer(alloc, &answer)
 }
 
@@ -139,12 +208,20 @@ fn outcome_of_lines<H: Host>(
     alloc: Global,
     host: &mut H,
     arguments: &Arguments<'_>,
+    told: &mut Sentences,
 ) -> Result<Outcome, AllocError>
     ensures { (at : Files) → H.files host.old ≡ Some at → IfOk result (λ outcome. IsOutcomeOfLines at arguments.now outcome) }
 {
-    let Arguments { settings, paths } = *arguments;
-    let mut shelf = HostShelf { host, paths };
-    let answer = check_refutation(alloc, &mut shelf, &settings);
+    told.wanted = arguments.explains;
+    let Arguments {
+        settings,
+        paths,
+        explains,
+    } = *arguments;
+    let seen = seen_if(alloc, explains);
+    let mut shelf = HostShelf { host, paths, seen };
+    let answer = check_refutation(alloc, &mut shelf, &settings, told);
+    tell_refusal(alloc, &answer, &paths, shelf.seen.as_ref(), told)?;
     outcome_of_refutation(alloc, &answer)
 }
 
@@ -175,8 +252,16 @@ fn answer_of_plan<H: Host>(
         → IfOk result (IsSaidOfApplied (texts_at at arguments.now) (at arguments.now.paths.judged.now)) }
 {
     let mut disk = host.journal(alloc, journal.as_bytes())?;
-    let Arguments { settings, paths } = *arguments;
-    let mut shelf = HostShelf { host, paths };
+    let Arguments {
+        settings,
+        paths,
+        ..
+    } = *arguments;
+    let mut shelf = HostShelf {
+        host,
+        paths,
+        seen: None,
+    };
     Ok(apply(alloc, &mut shelf, &settings, &mut disk))
 }
 

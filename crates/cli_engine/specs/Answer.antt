@@ -1,5 +1,6 @@
 -- What is answered of a plan and of a name, and which refusal comes first.
 use Rattle.std.specs.Prelude.{◌≡◌, ◌⊎◌, ℕ, List, Option, Result, Ok, Err}
+use Rattle.std.specs.List.{AllZip}
 use Rattle.candidates.specs.Candidates.{IsCandidateOf}
 use Rattle.candidates.specs.Inputs.{inputs_of}
 use Rattle.candidates.specs.Offer.{Offer}
@@ -53,3 +54,12 @@ pub record IsCandidateAnswer (texts : Texts) (name : List ℕ) (found : Option O
   pub prefs : Preferences
   pub read : AreRead texts start indices prefs
   pub holds : (request : Request) → IsCandidateOf (inputs_of start indices prefs request) name found
+
+-- they are the candidates of the names, each in the place of its name, whatever is asked for
+abbrev pub AreCandidatesOf : List Record → List Index → Preferences → List (List ℕ) → List (Option Offer) → Type 0
+AreCandidatesOf start indices prefs names found =
+    AllZip (λ name candidate. (request : Request) → IsCandidateOf (inputs_of start indices prefs request) name candidate) names found
+
+-- they are the candidates of the names, each in the place of its name, by what the texts before the request are read as
+abbrev pub AreCandidateAnswers : Texts → List (List ℕ) → List (Option Offer) → Type 0
+AreCandidateAnswers texts names found = AllZip (IsCandidateAnswer texts) names found

@@ -1,5 +1,5 @@
 //! A plan judged by texts, read in the order status, sources, indices, preferences, request and plan.
-ghost use Rattle.std.specs.Prelude.{◌≡◌, IfErr, IfOk, Some, length};
+ghost use Rattle.std.specs.Prelude.{◌≡◌, IfErr, IfOk, Some, false, length};
 ghost use Rattle.inputs.specs.Before.{HasIndices, HasStart};
 ghost use Rattle.inputs.specs.Counting.{CountsRead};
 ghost use Rattle.inputs.specs.Indices.{released};
@@ -10,6 +10,7 @@ ghost use Rattle.status_text.specs.Slot.{slot_records};
 ghost use Rattle.cli_engine.specs.Answer.{IsAnswer, IsFirstRefusal};
 
 use crate::plan::read_steps;
+use crate::sentences::Sentences;
 use index::KeptIndex;
 use inputs::{
     Inputs, MemoryShelf, Refusal, Settings, Shelf, lend_indices, read_listed, read_preferences,
@@ -47,6 +48,7 @@ fn check_over<'k, 'a: 'k, S: Shelf>(
     status_file: &StatusFile<'a>,
     kept: &'k [KeptIndex],
     releases: Vec<Release>,
+    told: &mut Sentences,
 ) -> Result<Verdict, Refusal>
     requires { length kept.now ≡ length releases.items }
     ensures answer { (at : Shelved) → S.found shelf.old ≡ Some at → HasStart (texts_of settings.now at) (slot_records status_file.now.slots)
@@ -57,6 +59,7 @@ fn check_over<'k, 'a: 'k, S: Shelf>(
         → IfErr result (λ refused. IsFirstRefusal (texts_of settings.now at) at.judged refused) }
     ensures same { S.found shelf.new ≡ S.found shelf.old }
     ensures count { CountsRead result (S.faults shelf.old) (S.faults shelf.new) }
+    ensures unasked { told.old.wanted ≡ false → told.new ≡ told.old }
 {
     let indices = lend_indices(alloc, kept, releases)?;
     let prefs = read_preferences(alloc, shelf, settings)?;
@@ -78,10 +81,12 @@ fn check_over<'k, 'a: 'k, S: Shelf>(
 /// refused where a text can't be read, at its place; where memory was wanting, that is answered instead. Of the indices no
 /// more is held than what is kept of them. Reading is linear in the texts but for the order of the stanzas, n log n, and the
 /// priorities cost what `candidates::Offered::find` says; judging costs what `plancheck::check_plan` says.
+/// Sentences on the answer go to `told`, where they are asked for.
 pub fn check_plan_from<S: Shelf>(
     alloc: Global,
     shelf: &mut S,
     settings: &Settings<'_>,
+    told: &mut Sentences,
 ) -> Result<Verdict, Refusal>
     ensures answer { (at : Shelved) → S.found shelf.old ≡ Some at
         → IfOk result (λ verdict. IsAnswer (texts_of settings.now at) at.judged verdict) }
@@ -89,6 +94,7 @@ pub fn check_plan_from<S: Shelf>(
         → IfErr result (λ refused. IsFirstRefusal (texts_of settings.now at) at.judged refused) }
     ensures same { S.found shelf.new ≡ S.found shelf.old }
     ensures count { CountsRead result (S.faults shelf.old) (S.faults shelf.new) }
+    ensures unasked { told.old.wanted ≡ false → told.new ≡ told.old }
 {
     let status = read_status(alloc, shelf, settings)?;
     let status_file = read_status_file(alloc, &status)?;
@@ -100,6 +106,7 @@ pub fn check_plan_from<S: Shelf>(
         &status_file,
         kept.as_slice(),
         releases,
+        told,
     )
 }
 
@@ -114,5 +121,6 @@ pub fn check_plan_bytes(
     ensures refused { IfErr result (λ refused. IsFirstRefusal (texts_of settings.now (shelved inputs.now (Some plan.now))) (Some plan.now) refused) }
 {
     let mut shelf = MemoryShelf::new(*inputs, Some(plan));
-    check_plan_from(alloc, &mut shelf, settings)
+    let mut told = Sentences::new(alloc);
+    check_plan_from(alloc, &mut shelf, settings, &mut told)
 }

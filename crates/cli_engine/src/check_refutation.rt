@@ -1,5 +1,5 @@
 //! A refutation judged by texts, read in the order status, sources, indices, preferences, request and refutation.
-ghost use Rattle.std.specs.Prelude.{◌≡◌, ◌≢◌, IfErr, IfOk, List, Ok, Some, length};
+ghost use Rattle.std.specs.Prelude.{◌≡◌, ◌≢◌, IfErr, IfOk, List, Ok, Some, false, length};
 ghost use Rattle.inputs.specs.Before.{HasIndices, HasStart};
 ghost use Rattle.inputs.specs.Counting.{CountsRead};
 ghost use Rattle.inputs.specs.Indices.{released};
@@ -15,10 +15,13 @@ ghost use Rattle.status_text.specs.Slot.{slot_records};
 ghost use Rattle.cli_engine.specs.Refuted.{AreRefuted, IsFirstRefutationRefusal, IsRefutationAnswer, refutation_of};
 
 use crate::laws::yes_refutes;
+use crate::refuted::tell_accepted;
+use crate::sentences::Sentences;
 use index::KeptIndex;
 use inputs::{
-    Fault, Input, Inputs, MemoryShelf, Part, Refusal, Settings, Shelf, lend_indices, read_listed,
-    read_part, read_preferences, read_status, read_status_file, read_universe, refused_at,
+    Fault, Input, Inputs, MemoryShelf, Part, Refusal, Requested, Settings, Shelf, lend_indices,
+    read_listed, read_part, read_preferences, read_requested, read_status, read_status_file,
+    refused_at,
 };
 use refutation::Refutation;
 use refutation_text::{RefutationError, read_refutation};
@@ -63,6 +66,7 @@ fn check_over<'k, 'a: 'k, S: Shelf>(
     status_file: &StatusFile<'a>,
     kept: &'k [KeptIndex],
     releases: Vec<Release>,
+    told: &mut Sentences,
 ) -> Result<Verdict, Refusal>
     requires { length kept.now ≡ length releases.items }
     ensures answer { (at : Shelved) → S.found shelf.old ≡ Some at → HasStart (texts_of settings.now at) (slot_records status_file.now.slots)
@@ -73,10 +77,14 @@ fn check_over<'k, 'a: 'k, S: Shelf>(
         → IfErr result (λ refused. IsFirstRefutationRefusal (texts_of settings.now at) at.judged refused) }
     ensures same { S.found shelf.new ≡ S.found shelf.old }
     ensures count { CountsRead result (S.faults shelf.old) (S.faults shelf.new) }
+    ensures unasked { told.old.wanted ≡ false → told.new ≡ told.old }
 {
     let indices = lend_indices(alloc, kept, releases)?;
     let prefs = read_preferences(alloc, shelf, settings)?;
-    let universe = read_universe(
+    let Requested {
+        universe,
+        asks_all_versions,
+    } = read_requested(
         alloc,
         shelf,
         settings,
@@ -86,6 +94,15 @@ fn check_over<'k, 'a: 'k, S: Shelf>(
     )?;
     let refutation = read_lines(alloc, shelf)?;
     let found = check_refutation(alloc, &universe, &refutation)?;
+    tell_accepted(
+        alloc,
+        &universe,
+        indices.as_slice(),
+        &refutation,
+        found,
+        asks_all_versions,
+        told,
+    )?;
     Ok(found)
 }
 
@@ -93,10 +110,12 @@ fn check_over<'k, 'a: 'k, S: Shelf>(
 /// then no set of admitted pairs is acceptable; else the number of its first bad line; or the first refusal in the order
 /// status, sources, indices, preferences, request, refutation, as `check_plan_from` has it. Reading costs what
 /// `check_plan_from` says; judging costs what `refutecheck::check_refutation` says.
+/// Sentences on the answer go to `told`, where they are asked for.
 pub fn check_refutation_from<S: Shelf>(
     alloc: Global,
     shelf: &mut S,
     settings: &Settings<'_>,
+    told: &mut Sentences,
 ) -> Result<Verdict, Refusal>
     // the verdict is true of the refutation that the text is read as
     ensures answer { (at : Shelved) → S.found shelf.old ≡ Some at
@@ -109,6 +128,7 @@ pub fn check_refutation_from<S: Shelf>(
         → IfErr result (λ refused. IsFirstRefutationRefusal (texts_of settings.now at) at.judged refused) }
     ensures same { S.found shelf.new ≡ S.found shelf.old }
     ensures count { CountsRead result (S.faults shelf.old) (S.faults shelf.new) }
+    ensures unasked { told.old.wanted ≡ false → told.new ≡ told.old }
 {
     yes_refutes();
     let status = read_status(alloc, shelf, settings)?;
@@ -121,6 +141,7 @@ pub fn check_refutation_from<S: Shelf>(
         &status_file,
         kept.as_slice(),
         releases,
+        told,
     )
 }
 
@@ -137,5 +158,6 @@ pub fn check_refutation_bytes(
         IsFirstRefutationRefusal (texts_of settings.now (shelved inputs.now (Some refutation.now))) (Some refutation.now) refused) }
 {
     let mut shelf = MemoryShelf::new(*inputs, Some(refutation));
-    check_refutation_from(alloc, &mut shelf, settings)
+    let mut told = Sentences::new(alloc);
+    check_refutation_from(alloc, &mut shelf, settings, &mut told)
 }

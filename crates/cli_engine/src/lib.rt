@@ -1,7 +1,7 @@
-//! The calls over texts: a plan judged, a refutation judged, a request solved, and the candidate of a name found, from the
+//! The calls over texts: a plan judged, a refutation judged, a request solved, and the candidates of names found, from the
 //! texts of a shelf to the answer, or to the first refusal in the order of reading. What the texts are read as is `inputs`;
 //! it stands on the judges `plancheck` and `refutecheck`, and for `solve_from` alone on `solver`. The main calls are
-//! `check_plan_from`, `check_refutation_from`, `solve_from` and `candidate_from`.
+//! `check_plan_from`, `check_refutation_from`, `solve_from` and `candidates_from`.
 #![tactic(auto)]
 
 mod candidate;
@@ -11,9 +11,11 @@ mod comparison;
 mod laws;
 mod offered;
 mod plan;
+mod refuted;
+mod sentences;
 mod solve;
 
-pub use candidate::{candidate_bytes, candidate_from};
+pub use candidate::{candidate_bytes, candidate_from, candidates_from};
 pub use check::{check_plan_bytes, check_plan_from, judge};
 pub use check_refutation::{check_refutation_bytes, check_refutation_from};
 pub use comparison::{Comparison, compare};
@@ -27,5 +29,6 @@ pub use offered::Candidate;
 pub use plan::read_steps;
 pub use refutecheck::Verdict as RefutationVerdict;
 pub use rules::{Reason, Rule, Verdict};
+pub use sentences::Sentences;
 pub use solve::{Answered, solve_bytes, solve_from};
 pub use solver::{Solved, Undecided};

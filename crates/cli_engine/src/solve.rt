@@ -1,5 +1,5 @@
 //! A request solved by texts, read in the order status, sources, indices, preferences and request.
-ghost use Rattle.std.specs.Prelude.{◌≡◌, IfErr, IfOk, None, Some, length};
+ghost use Rattle.std.specs.Prelude.{◌≡◌, IfErr, IfOk, None, Some, false, length};
 ghost use Rattle.inputs.specs.Before.{HasIndices, HasStart};
 ghost use Rattle.inputs.specs.Counting.{CountsRead};
 ghost use Rattle.inputs.specs.Indices.{released};
@@ -12,6 +12,8 @@ ghost use Rattle.solver.specs.Solved.{IsSolved};
 ghost use Rattle.status_text.specs.Slot.{slot_records};
 ghost use Rattle.cli_engine.specs.Solution.{IsSolution};
 
+use crate::refuted::tell_solved;
+use crate::sentences::Sentences;
 use fixed_order::{has_names, has_pair_names};
 use index::KeptIndex;
 use inputs::{
@@ -65,6 +67,7 @@ fn solve_by<'k, 'a: 'k, S: Shelf>(
     kept: &'k [KeptIndex],
     releases: Vec<Release>,
     limit: u32,
+    told: &mut Sentences,
 ) -> Result<Answered, Refusal>
     requires { length kept.now ≡ length releases.items }
     ensures answer { (at : Shelved) → S.found shelf.old ≡ Some at → HasStart (texts_of settings.now at) (slot_records status_file.now.slots)
@@ -75,6 +78,7 @@ fn solve_by<'k, 'a: 'k, S: Shelf>(
         → IfErr result (λ refused. IsRefusal (texts_of settings.now at) refused) }
     ensures same { S.found shelf.new ≡ S.found shelf.old }
     ensures count { CountsRead result (S.faults shelf.old) (S.faults shelf.new) }
+    ensures unasked { told.old.wanted ≡ false → told.new ≡ told.old }
 {
     let indices = lend_indices(alloc, kept, releases)?;
     let prefs = read_preferences(alloc, shelf, settings)?;
@@ -90,6 +94,14 @@ fn solve_by<'k, 'a: 'k, S: Shelf>(
         &prefs,
     )?;
     let solved = solve_over(alloc, status_file, &universe, limit)?;
+    tell_solved(
+        alloc,
+        &universe,
+        indices.as_slice(),
+        &solved,
+        asks_all_versions,
+        told,
+    )?;
     Ok(Answered {
         solved,
         asks_all_versions,
@@ -98,13 +110,14 @@ fn solve_by<'k, 'a: 'k, S: Shelf>(
 
 /// Solves the request by the texts of a shelf, with at most so many conflicts of the search: a plan that is good over what
 /// they denote; a refutation that is accepted over it, so that no set of admitted pairs is acceptable; or why it is
-/// undecided; with whether the request asks for all versions; or the first refusal in the order status, sources, indices, preferences, request, as `check_plan_from` has it.
-/// Reading costs what `check_plan_from` says; solving costs what `solver::solve` says.
+/// undecided; with whether the request asks for all versions; or the first refusal in the order status, sources, indices,
+/// preferences, request, as `check_plan_from` has it. Sentences on the answer go to `told`, where they are asked for. Reading costs what `check_plan_from` says; solving costs what `solver::solve` says.
 pub fn solve_from<S: Shelf>(
     alloc: Global,
     shelf: &mut S,
     settings: &Settings<'_>,
     limit: u32,
+    told: &mut Sentences,
 ) -> Result<Answered, Refusal>
     ensures answer { (at : Shelved) → S.found shelf.old ≡ Some at
         → IfOk result (λ found. IsSolution (texts_of settings.now at) limit found) }
@@ -112,6 +125,7 @@ pub fn solve_from<S: Shelf>(
         → IfErr result (λ refused. IsRefusal (texts_of settings.now at) refused) }
     ensures same { S.found shelf.new ≡ S.found shelf.old }
     ensures count { CountsRead result (S.faults shelf.old) (S.faults shelf.new) }
+    ensures unasked { told.old.wanted ≡ false → told.new ≡ told.old }
 {
     let status = read_status(alloc, shelf, settings)?;
     let status_file = read_status_file(alloc, &status)?;
@@ -124,6 +138,7 @@ pub fn solve_from<S: Shelf>(
         kept.as_slice(),
         releases,
         limit,
+        told,
     )
 }
 
@@ -138,5 +153,6 @@ pub fn solve_bytes(
     ensures refused { IfErr result (λ refused. IsRefusal (texts_of settings.now (shelved inputs.now None)) refused) }
 {
     let mut shelf = MemoryShelf::new(*inputs, None);
-    solve_from(alloc, &mut shelf, settings, limit)
+    let mut told = Sentences::new(alloc);
+    solve_from(alloc, &mut shelf, settings, limit, &mut told)
 }

@@ -2,6 +2,7 @@
 use Rattle.std.specs.Prelude.{◌≡◌, ◌++◌, List, [], ◌∷◌, Some, codes, pos, true, false}
 use Rattle.clap.specs.Simple.{App, Shape, app_of, new_rule, new_shape}
 use Rattle.clap.specs.Walk.{Rule, Text, rule_of}
+use Rattle.clap.specs.declared.builder.action.ArgAction.TheVariants.{Append, SetTrue}
 use Rattle.clap.specs.declared.builder.arg.Arg.{Arg}
 use Rattle.clap.specs.declared.builder.command.Command.{Command}
 use Rattle.clap.specs.declared.builder.command.Command.TheViews.{out-Command}
@@ -18,6 +19,14 @@ option name = record (word name) { long = Some name }
 -- what may be left out
 abbrev pub optional : Rule → Rule
 optional rule = record rule { required = false }
+
+-- what may stand there more than once
+abbrev pub repeated : Rule → Rule
+repeated rule = record rule { action = Some Append }
+
+-- an option without a value
+abbrev pub flag : Text → Rule
+flag name = record (new_rule name) { long = Some name; action = Some SetTrue }
 
 -- a number of 32 bits
 abbrev pub number : Rule → Rule
@@ -36,27 +45,31 @@ options = option (codes "arch") ∷ option (codes "status") ∷ option (codes "s
 abbrev pub compare_command : Shape
 compare_command = command (codes "compare") (word (codes "version") ∷ word (codes "relation") ∷ word (codes "other") ∷ [])
 
--- debplan candidate OPTIONS NAME
-abbrev pub candidate_command : Shape
-candidate_command = command (codes "candidate") (options ++ word (codes "name") ∷ [])
+-- the options that say what is requested, of which one kind is given
+abbrev pub request_options : List Rule
+request_options = optional (option (codes "request")) ∷ repeated (optional (option (codes "goal"))) ∷ []
 
--- debplan solve OPTIONS --request FILE [--limit N]
+-- debplan candidate OPTIONS [--explain] NAME..
+abbrev pub candidate_command : Shape
+candidate_command = command (codes "candidate") (options ++ flag (codes "explain") ∷ repeated (word (codes "name")) ∷ [])
+
+-- debplan solve OPTIONS REQUEST [--limit N] [--explain], where REQUEST is --request FILE, or --goal TEXT once or more
 abbrev pub solve_command : Shape
 solve_command = command (codes "solve")
-    (options ++ option (codes "request") ∷ number (optional (option (codes "limit"))) ∷ [])
+    (options ++ request_options ++ number (optional (option (codes "limit"))) ∷ flag (codes "explain") ∷ [])
 
--- debplan check-plan OPTIONS --request FILE PLAN
+-- debplan check-plan OPTIONS REQUEST [--explain] PLAN
 abbrev pub check_plan_command : Shape
-check_plan_command = command (codes "check-plan") (options ++ option (codes "request") ∷ word (codes "plan") ∷ [])
+check_plan_command = command (codes "check-plan") (options ++ request_options ++ flag (codes "explain") ∷ word (codes "plan") ∷ [])
 
--- debplan check-refutation OPTIONS --request FILE REFUTATION
+-- debplan check-refutation OPTIONS REQUEST [--explain] REFUTATION
 abbrev pub check_refutation_command : Shape
-check_refutation_command =
-    command (codes "check-refutation") (options ++ option (codes "request") ∷ word (codes "refutation") ∷ [])
+check_refutation_command = command (codes "check-refutation")
+    (options ++ request_options ++ flag (codes "explain") ∷ word (codes "refutation") ∷ [])
 
--- debplan apply OPTIONS --request FILE --journal FILE --output FILE PLAN
+-- debplan apply OPTIONS REQUEST --journal FILE --output FILE PLAN
 abbrev pub apply_command : Shape
-apply_command = command (codes "apply") (options ++ option (codes "request") ∷ option (codes "journal") ∷ option (codes "output")
+apply_command = command (codes "apply") (options ++ request_options ++ option (codes "journal") ∷ option (codes "output")
     ∷ word (codes "plan") ∷ [])
 
 -- the program, which has a version, and of which a command has to be named

@@ -1,13 +1,13 @@
 -- Which call the words of a command line spell, by what `clap` makes of the words.
-use Rattle.std.specs.Prelude.{◌≡◌, ℕ, List, [], ◌∷◌, Option, Some, None, Result, MatchResult, codes, is_some, option_and_then, option_map, if◌then◌else◌}
+use Rattle.std.specs.Prelude.{◌≡◌, ◌&&◌, ℕ, Bool, false, List, [], ◌∷◌, Option, Some, None, Result, MatchResult, codes, is_some, option_and_then, option_map, if◌then◌else◌}
 use Rattle.std.specs.Str.{bytes_eq}
 use Rattle.clap.specs.Faults.{fault_of}
 use Rattle.clap.specs.Kinds.{HasKind, Kinds, or_else}
 use Rattle.clap.specs.Simple.{subcommand_of}
-use Rattle.clap.specs.Walk.{Row, first_of, is_empty}
+use Rattle.clap.specs.Walk.{Row, all_of, first_of, is_empty}
 use Rattle.clap.specs.declared.error.Error.{Error}
 use Rattle.clap.specs.declared.error.kind.ErrorKind.TheVariants.{ValueValidation}
-use Rattle.command_line.specs.Asked.{Asked, Given, asked_by}
+use Rattle.command_line.specs.Asked.{Asked, Given, Request, asked_by, file, goals}
 use Rattle.command_line.specs.Asked as ask
 use Rattle.command_line.specs.Joined.{Text}
 use Rattle.command_line.specs.Number.{limit_of}
@@ -47,24 +47,63 @@ abbrev pub comparison_of : Option Text → Option Text → Option Text → Optio
 comparison_of (Some version) (Some word) (Some other) = option_map (λ relation. ask.compare version relation other) (relation_of word)
 comparison_of _ _ _ = None
 
--- the question for a candidate
-abbrev pub candidate_of : Option Given → Option Text → Option Asked
-candidate_of (Some given) (Some name) = Some (ask.candidate given name)
-candidate_of _ _ = None
+-- the request of a file or of goals, where one of them is given and not both
+abbrev pub request_of : Option Text → Option (List Text) → Option Request
+request_of (Some path) None = Some (file path)
+request_of None (Some texts) = Some (goals texts)
+request_of _ _ = None
+
+-- the request among the values of a command
+abbrev pub request_in : List Row → Option Request
+request_in rows = request_of (first_of (codes "request") rows) (all_of (codes "goal") rows)
+
+-- the value of a flag says that it stands among the words
+abbrev pub is_set : Option Text → Bool
+is_set (Some word) = bytes_eq word (codes "true")
+is_set None = false
+
+-- the command is to explain
+abbrev pub explains_in : List Row → Bool
+explains_in rows = is_set (first_of (codes "explain") rows)
+
+-- the path is that of standard input
+abbrev pub is_standard_input : Text → Bool
+is_standard_input path = bytes_eq path (codes "-")
+
+-- standard input would be read as the request and as what is judged
+abbrev pub is_read_twice : Request → Text → Bool
+is_read_twice (file path) judged = is_standard_input path && is_standard_input judged
+is_read_twice (goals texts) judged = false
+
+-- the path of what is judged beside a request, where it can be read beside it
+abbrev pub judged_beside : Request → Option Text → Option Text
+judged_beside request (Some path) = if is_read_twice request path then None else Some path
+judged_beside request None = None
+
+-- the question for the candidates of names
+abbrev pub candidate_of : Option Given → Option (List Text) → Bool → Option Asked
+candidate_of (Some given) (Some names) explains = Some (ask.candidate given names explains)
+candidate_of _ _ explains = None
 
 -- the request that is to be solved
-abbrev pub solve_of : Option Given → Option Text → Option ℕ → Option Asked
-solve_of (Some given) (Some request) (Some limit) = Some (ask.solve given request limit)
-solve_of _ _ _ = None
+abbrev pub solve_of : Option Given → Option Request → Option ℕ → Bool → Option Asked
+solve_of (Some given) (Some request) (Some limit) explains = Some (ask.solve given request limit explains)
+solve_of _ _ _ explains = None
 
 -- the text that is to be judged beside a request
-abbrev pub judged_of : (Given → Text → Text → Asked) → Option Given → Option Text → Option Text → Option Asked
-judged_of asks (Some given) (Some request) (Some judged) = Some (asks given request judged)
-judged_of asks _ _ _ = None
+abbrev pub judged_of : (Given → Request → Text → Bool → Asked) → Option Given → Option Request → Option Text → Bool → Option Asked
+judged_of asks (Some given) (Some request) judged explains =
+    option_map (λ path. asks given request path explains) (judged_beside request judged)
+judged_of asks _ _ _ explains = None
 
--- the plan that is to be carried out
-abbrev pub apply_of : Option Given → Option Text → Option Text → Option Text → Option Text → Option Asked
-apply_of (Some given) (Some request) (Some plan) (Some journal) (Some output) = Some (ask.apply given request plan journal output)
+-- the plan that is to be carried out, with the paths of the journal and of the output
+abbrev pub taken_of : Given → Request → Option Text → Option Text → Option Text → Option Asked
+taken_of given request (Some plan) (Some journal) (Some output) = Some (ask.apply given request plan journal output)
+taken_of given request _ _ _ = None
+
+-- the plan that is to be carried out beside a request
+abbrev pub apply_of : Option Given → Option Request → Option Text → Option Text → Option Text → Option Asked
+apply_of (Some given) (Some request) plan journal output = taken_of given request (judged_beside request plan) journal output
 apply_of _ _ _ _ _ = None
 
 -- what the command of this name asks for by these values, where no word is missing
@@ -72,15 +111,16 @@ abbrev pub asked_in : Text → List Row → Option Asked
 asked_in name rows =
     if bytes_eq name (codes "compare")
     then comparison_of (first_of (codes "version") rows) (first_of (codes "relation") rows) (first_of (codes "other") rows)
-    else if bytes_eq name (codes "candidate") then candidate_of (given_in rows) (first_of (codes "name") rows)
+    else if bytes_eq name (codes "candidate")
+    then candidate_of (given_in rows) (all_of (codes "name") rows) (explains_in rows)
     else if bytes_eq name (codes "solve")
-    then solve_of (given_in rows) (first_of (codes "request") rows) (limit_of (first_of (codes "limit") rows))
+    then solve_of (given_in rows) (request_in rows) (limit_of (first_of (codes "limit") rows)) (explains_in rows)
     else if bytes_eq name (codes "check-plan")
-    then judged_of ask.check_plan (given_in rows) (first_of (codes "request") rows) (first_of (codes "plan") rows)
+    then judged_of ask.check_plan (given_in rows) (request_in rows) (first_of (codes "plan") rows) (explains_in rows)
     else if bytes_eq name (codes "check-refutation")
-    then judged_of ask.check_refutation (given_in rows) (first_of (codes "request") rows) (first_of (codes "refutation") rows)
+    then judged_of ask.check_refutation (given_in rows) (request_in rows) (first_of (codes "refutation") rows) (explains_in rows)
     else if bytes_eq name (codes "apply")
-    then apply_of (given_in rows) (first_of (codes "request") rows) (first_of (codes "plan") rows) (first_of (codes "journal") rows)
+    then apply_of (given_in rows) (request_in rows) (first_of (codes "plan") rows) (first_of (codes "journal") rows)
     (first_of (codes "output") rows)
     else None
 

@@ -3,14 +3,14 @@ ghost use Rattle.std.specs.Prelude.{◌≡◌, ◌∷◌, IfOk, [], codes, map, 
 ghost use Rattle.std.specs.List.{list_all};
 ghost use Rattle.std.specs.Char.{is_ascii_digit};
 ghost use Rattle.clap.specs.Kinds.{HasKind};
-ghost use Rattle.clap.specs.Walk.{first_of, rows_of};
+ghost use Rattle.clap.specs.Walk.{all_of, first_of, rows_of};
 ghost use Rattle.clap.specs.Words.{found_of, kind_of, subcommand_rows_of};
-ghost use Rattle.command_line.specs.Asked.{asked_by, given_by};
+ghost use Rattle.command_line.specs.Asked.{asked_by, given_by, request_by, texts_by};
 ghost use Rattle.command_line.specs.Number.{limit_of, number_of, is_number};
 ghost use Rattle.command_line.specs.Spelled as spell;
 ghost use Rattle.command_line.specs.Asked as ask;
 
-use crate::call::{Call, Options, Relation};
+use crate::call::{Call, Options, Relation, Request};
 use crate::declare::program;
 use clap::error::ErrorKind;
 use clap::{ArgMatches, Error};
@@ -22,42 +22,72 @@ pub fn call_of<'a>(alloc: Global, words: &'a [String]) -> Result<Call<'a>, Error
     ensures { spell.IsAnswer (map string_bytes words.entry.now) result }
 {
     let matches = program(alloc)?.try_get_matches_from(words)?;
-    match call_in(&matches) {
+    match call_in(alloc, &matches)? {
         Some(call) => Ok(call),
         None => Err(mistake(alloc, mistake_in(&matches))),
     }
 }
 
-// The call that these values make, unless one is missing, or isn't what its command wants.
-fn call_in<'a>(matches: &ArgMatches<'a>) -> Option<Call<'a>>
-    ensures { option_map asked_by result ≡ spell.asked_of (subcommand_rows_of matches.now) }
+// The call that these values make, unless one is missing, or isn't what its command wants. Memory alone can fail.
+fn call_in<'a>(alloc: Global, matches: &ArgMatches<'a>) -> Result<Option<Call<'a>>, AllocError>
+    ensures { IfOk result (λ call. option_map asked_by call ≡ spell.asked_of (subcommand_rows_of matches.now)) }
 {
     match matches.subcommand() {
-        Some(named) => call_named(named.0, named.1),
-        None => None,
+        Some(named) => call_of_command(alloc, named.0, named.1),
+        None => Ok(None),
     }
 }
 
-// The call that these values of the command of this name make.
-fn call_named<'a>(command: &str, values: &ArgMatches<'a>) -> Option<Call<'a>>
+// The call that these values of the command of this name make. Memory alone can fail.
+fn call_of_command<'a>(
+    alloc: Global,
+    command: &str,
+    values: &ArgMatches<'a>,
+) -> Result<Option<Call<'a>>, AllocError>
+    ensures { IfOk result (λ call. option_map asked_by call ≡ spell.asked_in command.now (rows_of (found_of values.now))) }
+{
+    let request = request_in(alloc, values)?;
+    let names = texts_in(alloc, values, "name")?;
+    Ok(call_named(command, values, request, names))
+}
+
+// The call that these values of the command of this name make, with the request and the names that are among them.
+fn call_named<'a>(
+    command: &str,
+    values: &ArgMatches<'a>,
+    request: Option<Request<'a>>,
+    names: Option<Vec<&'a str>>,
+) -> Option<Call<'a>>
+    requires request { option_map request_by request ≡ spell.request_in (rows_of (found_of values.now)) }
+    requires names { option_map (λ names. texts_by names.items) names ≡ all_of (codes "name") (rows_of (found_of values.now)) }
     ensures { option_map asked_by result ≡ spell.asked_in command.now (rows_of (found_of values.now)) }
 {
     match command {
         "compare" => comparison_in(values),
-        "candidate" => candidate_in(values),
-        "solve" => solve_in(values),
-        "check-plan" => plan_in(values),
-        "check-refutation" => refutation_in(values),
-        "apply" => apply_in(values),
+        "candidate" => candidate_in(values, names),
+        "solve" => solve_in(values, request),
+        "check-plan" => plan_in(values, request),
+        "check-refutation" => refutation_in(values, request),
+        "apply" => apply_in(values, request),
         _ => None,
     }
 }
 
 // What is wrong with words that `clap` takes.
 fn mistake_in(matches: &ArgMatches<'_>) -> &'static str {
-    match matches.subcommand_name() {
-        Some("compare") => "REL is one of lt, le, eq, ne, ge and gt",
-        _ => "N is a number without a sign or a leading zero",
+    match matches.subcommand() {
+        Some(named) if named.0 != "compare" => mistake_of_request(named.1),
+        _ => "REL is one of lt, le, eq, ne, ge and gt",
+    }
+}
+
+// What is wrong with these values of a command with a request.
+fn mistake_of_request(values: &ArgMatches<'_>) -> &'static str {
+    match (values.contains_id("request"), values.contains_id("goal")) {
+        (true, true) => "the request is given as --request FILE or as --goal TEXT, not as both",
+        (false, false) => "the request is missing: --request FILE, or --goal TEXT once or more",
+        _ if values.contains_id("limit") => "N is a number without a sign or a leading zero",
+        _ => "standard input (-) can be read as one file alone",
     }
 }
 
@@ -66,6 +96,31 @@ fn text_in<'a>(values: &ArgMatches<'a>, name: &str) -> Option<&'a str>
     ensures { option_map (λ word. word.now) result ≡ first_of name.now (rows_of (found_of values.now)) }
 {
     values.get_str(name)
+}
+
+// The values of this name, of all its uses. Memory alone can fail.
+fn texts_in<'a>(
+    alloc: Global,
+    values: &ArgMatches<'a>,
+    name: &str,
+) -> Result<Option<Vec<&'a str>>, AllocError>
+    ensures { IfOk result (λ texts.
+        option_map (λ texts. texts_by texts.items) texts ≡ all_of name.now (rows_of (found_of values.now))) }
+{
+    match values.get_strs(name) {
+        Some(texts) => Ok(Some(texts.to_vec(alloc)?)),
+        None => Ok(None),
+    }
+}
+
+// Whether the flag stands among the words that asks for sentences: `clap` gives each flag a value.
+fn explains_in(values: &ArgMatches<'_>) -> bool
+    ensures { result ≡ spell.explains_in (rows_of (found_of values.now)) }
+{
+    match text_in(values, "explain") {
+        Some(word) => word == "true",
+        None => false,
+    }
 }
 
 fn comparison_in<'a>(values: &ArgMatches<'a>) -> Option<Call<'a>>
@@ -115,65 +170,116 @@ fn options_in<'a>(values: &ArgMatches<'a>) -> Option<Options<'a>>
     })
 }
 
-fn candidate_in<'a>(values: &ArgMatches<'a>) -> Option<Call<'a>>
-    ensures { let rows = rows_of (found_of values.now) in option_map asked_by result ≡ spell.candidate_of
-        (spell.given_in rows) (first_of (codes "name") rows) }
+// The request, unless it's missing or given in both ways. Memory alone can fail.
+fn request_in<'a>(alloc: Global, values: &ArgMatches<'a>) -> Result<Option<Request<'a>>, AllocError>
+    ensures { IfOk result (λ request. option_map request_by request ≡ spell.request_in (rows_of (found_of values.now))) }
 {
-    let options = options_in(values)?;
-    let name = text_in(values, "name")?;
-    Some(Call::Candidate { options, name })
+    let goals = texts_in(alloc, values, "goal")?;
+    Ok(request_of(text_in(values, "request"), goals))
 }
 
-fn solve_in<'a>(values: &ArgMatches<'a>) -> Option<Call<'a>>
-    ensures { let rows = rows_of (found_of values.now) in option_map asked_by result ≡ spell.solve_of
-        (spell.given_in rows) (first_of (codes "request") rows) (limit_of (first_of (codes "limit") rows)) }
+fn request_of<'a>(path: Option<&'a str>, goals: Option<Vec<&'a str>>) -> Option<Request<'a>>
+    ensures { option_map request_by result
+        ≡ spell.request_of (option_map (λ word. word.now) path.entry) (option_map (λ texts. texts_by texts.items) goals.entry) }
+{
+    match (path, goals) {
+        (Some(path), None) => Some(Request::File(path)),
+        (None, Some(goals)) => Some(Request::Goals(goals)),
+        _ => None,
+    }
+}
+
+// The path of what is judged, unless it's missing, or would be read where the request is read too.
+fn judged_in<'a>(values: &ArgMatches<'a>, name: &str, request: &Request<'_>) -> Option<&'a str>
+    ensures { option_map (λ word. word.now) result
+        ≡ spell.judged_beside (request_by request.now) (first_of name.now (rows_of (found_of values.now))) }
+{
+    let judged = text_in(values, name)?;
+    if is_read_twice(request, judged) {
+        return None;
+    }
+    Some(judged)
+}
+
+fn is_read_twice(request: &Request<'_>, judged: &str) -> bool
+    ensures { result ≡ spell.is_read_twice (request_by request.now) judged.now }
+{
+    match request {
+        Request::File(path) => *path == "-" && judged == "-",
+        Request::Goals(_) => false,
+    }
+}
+
+fn candidate_in<'a>(values: &ArgMatches<'a>, names: Option<Vec<&'a str>>) -> Option<Call<'a>>
+    ensures { let rows = rows_of (found_of values.now) in option_map asked_by result ≡ spell.candidate_of
+        (spell.given_in rows) (option_map (λ names. texts_by names.items) names.entry) (spell.explains_in rows) }
 {
     let options = options_in(values)?;
-    let request = text_in(values, "request")?;
+    let names = names?;
+    let explains = explains_in(values);
+    Some(Call::Candidate {
+        options,
+        names,
+        explains,
+    })
+}
+
+fn solve_in<'a>(values: &ArgMatches<'a>, request: Option<Request<'a>>) -> Option<Call<'a>>
+    ensures { let rows = rows_of (found_of values.now) in option_map asked_by result ≡ spell.solve_of
+        (spell.given_in rows) (option_map request_by request.entry) (limit_of (first_of (codes "limit") rows)) (spell.explains_in rows) }
+{
+    let options = options_in(values)?;
+    let request = request?;
     let limit = limit_of(text_in(values, "limit"))?;
+    let explains = explains_in(values);
     Some(Call::Solve {
         options,
         request,
         limit,
+        explains,
     })
 }
 
-fn plan_in<'a>(values: &ArgMatches<'a>) -> Option<Call<'a>>
+fn plan_in<'a>(values: &ArgMatches<'a>, request: Option<Request<'a>>) -> Option<Call<'a>>
     ensures { let rows = rows_of (found_of values.now) in option_map asked_by result ≡ spell.judged_of ask.check_plan
-        (spell.given_in rows) (first_of (codes "request") rows) (first_of (codes "plan") rows) }
+        (spell.given_in rows) (option_map request_by request.entry) (first_of (codes "plan") rows) (spell.explains_in rows) }
 {
     let options = options_in(values)?;
-    let request = text_in(values, "request")?;
-    let plan = text_in(values, "plan")?;
+    let request = request?;
+    let plan = judged_in(values, "plan", &request)?;
+    let explains = explains_in(values);
     Some(Call::CheckPlan {
         options,
         request,
         plan,
+        explains,
     })
 }
 
-fn refutation_in<'a>(values: &ArgMatches<'a>) -> Option<Call<'a>>
+fn refutation_in<'a>(values: &ArgMatches<'a>, request: Option<Request<'a>>) -> Option<Call<'a>>
     ensures { let rows = rows_of (found_of values.now) in option_map asked_by result ≡ spell.judged_of ask.check_refutation
-        (spell.given_in rows) (first_of (codes "request") rows) (first_of (codes "refutation") rows) }
+        (spell.given_in rows) (option_map request_by request.entry) (first_of (codes "refutation") rows) (spell.explains_in rows) }
 {
     let options = options_in(values)?;
-    let request = text_in(values, "request")?;
-    let refutation = text_in(values, "refutation")?;
+    let request = request?;
+    let refutation = judged_in(values, "refutation", &request)?;
+    let explains = explains_in(values);
     Some(Call::CheckRefutation {
         options,
         request,
         refutation,
+        explains,
     })
 }
 
-fn apply_in<'a>(values: &ArgMatches<'a>) -> Option<Call<'a>>
+fn apply_in<'a>(values: &ArgMatches<'a>, request: Option<Request<'a>>) -> Option<Call<'a>>
     ensures { let rows = rows_of (found_of values.now) in option_map asked_by result ≡ spell.apply_of
-        (spell.given_in rows) (first_of (codes "request") rows) (first_of (codes "plan") rows) (first_of (codes "journal") rows)
+        (spell.given_in rows) (option_map request_by request.entry) (first_of (codes "plan") rows) (first_of (codes "journal") rows)
         (first_of (codes "output") rows) }
 {
     let options = options_in(values)?;
-    let request = text_in(values, "request")?;
-    let plan = text_in(values, "plan")?;
+    let request = request?;
+    let plan = judged_in(values, "plan", &request)?;
     let journal = text_in(values, "journal")?;
     let output = text_in(values, "output")?;
     Some(Call::Apply {

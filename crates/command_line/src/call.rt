@@ -32,8 +32,18 @@ pub enum Relation {
     Later,
 }
 
-/// What a command line asks for. Each text is a word of it, or what stands in a word behind `--NAME=`.
-#[derive(Clone, Copy)]
+/// What a request is read from.
+#[derive(Drop)]
+pub enum Request<'a> {
+    /// The file at this path, where `-` is standard input.
+    File(&'a str),
+    /// These goals in their order, each a line of its own.
+    Goals(Vec<&'a str>),
+}
+
+/// What a command line asks for. Each text is a word of it, or what stands in a word behind `--NAME=`. Where a call explains, its
+/// answer is to be told in sentences too.
+#[derive(Drop)]
 pub enum Call<'a> {
     /// To compare two versions.
     Compare {
@@ -44,47 +54,55 @@ pub enum Call<'a> {
         /// The other version.
         other: &'a str,
     },
-    /// To name the candidate of a name, which need not be that of a package.
+    /// To name the candidate of each name, which need not be that of a package.
     Candidate {
         /// By these files.
         options: Options<'a>,
-        /// The name.
-        name: &'a str,
+        /// The names, one or more, in their order.
+        names: Vec<&'a str>,
+        /// Whether the call explains.
+        explains: bool,
     },
     /// To solve a request.
     Solve {
         /// By these files.
         options: Options<'a>,
-        /// The path of the request.
-        request: &'a str,
+        /// The request.
+        request: Request<'a>,
         /// The conflicts after which the search gives up.
         limit: u32,
+        /// Whether the call explains.
+        explains: bool,
     },
     /// To judge a plan.
     CheckPlan {
         /// By these files.
         options: Options<'a>,
-        /// The path of the request.
-        request: &'a str,
-        /// The path of the plan.
+        /// The request.
+        request: Request<'a>,
+        /// The path of the plan, where `-` is standard input.
         plan: &'a str,
+        /// Whether the call explains.
+        explains: bool,
     },
     /// To judge a refutation.
     CheckRefutation {
         /// By these files.
         options: Options<'a>,
-        /// The path of the request.
-        request: &'a str,
-        /// The path of the refutation.
+        /// The request.
+        request: Request<'a>,
+        /// The path of the refutation, where `-` is standard input.
         refutation: &'a str,
+        /// Whether the call explains.
+        explains: bool,
     },
     /// To carry a plan out.
     Apply {
         /// By these files.
         options: Options<'a>,
-        /// The path of the request.
-        request: &'a str,
-        /// The path of the plan.
+        /// The request.
+        request: Request<'a>,
+        /// The path of the plan, where `-` is standard input.
         plan: &'a str,
         /// The path of the journal.
         journal: &'a str,

@@ -1,10 +1,10 @@
 // The arguments that the program takes, as they are declared.
-ghost use Rattle.std.specs.Prelude.{◌≡◌, IfOk, [], codes};
-ghost use Rattle.clap.specs.Walk.{Text};
+ghost use Rattle.std.specs.Prelude.{◌≡◌, ◌++◌, IfOk, List, [], codes};
+ghost use Rattle.clap.specs.Walk.{Rule, Text};
 ghost use Rattle.clap.specs.Words.{app_of};
 ghost use Rattle.command_line.specs.Program as app;
 
-use clap::{Arg, Command, value_parser};
+use clap::{Arg, ArgAction, Command, value_parser};
 use std::alloc::{AllocError, Global};
 
 /// The version of the program.
@@ -13,16 +13,59 @@ const VERSION: &str = "0.1.0";
 /// The version of the program, and the toolchain that proves it (`rt version`).
 const VERSION_AND_TOOLCHAIN: &str = "0.1.0\ntoolchain: rattle-kit-13f logic dac8208d650f15bf";
 
-/// Of which versions an answer speaks, and what each exit status means, as it stands below each help.
+/// Of which versions an answer speaks, and what each exit status means, as it stands below the help of each command.
 const ANSWERS: &str =
     "A refutation shows that no choice among the admitted versions fulfils the request.
 Admitted are, of each package, the installed version, the candidate, and each version that a goal
 names, as in install hello (= 2.10-3); where the request has a line all-versions, each version that
 may become the candidate; of a held package, the installed version alone.
+The goals, the form of the sources file and examples: debplan --help
 
 Exit status:
-  0  yes, a plan, a candidate, a plan carried out, or help
-  1  no, a refutation, or no candidate
+  0  yes, a plan, a candidate of each name, a plan carried out, or help
+  1  no, a refutation, or a name without a candidate
+  2  undecided: the search gave up, or no order of steps was found
+  3  an input is malformed, or the journal is another plan's: standard error names the file, the fault and its place
+  4  the command line is wrong
+  5  a file can't be read, memory is exhausted, or the answer, the journal or the output can't be written";
+
+/// What a request and a sources file are, with examples, as it stands below the help of the program.
+const GUIDE: &str =
+    "A request is a file with a goal on each line, or the goals of --goal, each a line of its own.
+
+Goals:
+  install NAME [(REL VERSION)]  it is installed, in a version that stands so to VERSION
+  remove NAME                   it is not installed
+  purge NAME                    the same, and its configuration files are gone
+  upgrade NAME                  its candidate is installed
+  upgrade-all                   each installed package has its candidate, but for held ones
+  no-remove                     each installed package stays installed, in some version
+REL is <<, <=, =, >= or >>, as in install hello (>= 2.10).
+install X is content with an X that stands. upgrade X brings the candidate, and installs it where X
+is missing. Recommends, autoremove and auto marks aren't known.
+
+A refutation shows that no choice among the admitted versions fulfils the request: it is about these
+alone. Admitted are, of each package, the installed version, the candidate, and each version that a
+goal names, as in install hello (= 2.10-3); where the request has a line all-versions, which is no
+goal, each version that may become the candidate; of a held package, the installed version alone.
+
+A sources file has a stanza for each index, and an empty line between two:
+  File: index-1.Packages
+  Suite: stable
+  Codename: bookworm
+  Component: main
+  Origin: Debian
+  Host: deb.debian.org
+File is the path of an uncompressed Packages file. The other fields are what pins and --target match.
+
+Two examples, over the packages of this machine:
+  debplan solve --arch amd64 --status /var/lib/dpkg/status --sources sources --goal 'install hello'
+  debplan candidate --arch amd64 --status /var/lib/dpkg/status --sources sources hello bash
+The request, the plan and the refutation are read from standard input where their path is -.
+
+Exit status:
+  0  yes, a plan, a candidate of each name, a plan carried out, or help
+  1  no, a refutation, or a name without a candidate
   2  undecided: the search gave up, or no order of steps was found
   3  an input is malformed, or the journal is another plan's: standard error names the file, the fault and its place
   4  the command line is wrong
@@ -36,6 +79,19 @@ pub const COMMANDS: &str =
 const RELATION_HELP: &str =
     "How V is to compare to W, as for dpkg --compare-versions [possible values: lt, le, eq, ne, ge, gt]";
 
+/// The usage of each command with a request, of which there are two kinds of options.
+const SOLVE_USAGE: &str =
+    "debplan solve [OPTIONS] --arch <ARCH> --status <FILE> --sources <FILE> <--request <FILE>|--goal <TEXT>...>";
+
+const CHECK_PLAN_USAGE: &str =
+    "debplan check-plan [OPTIONS] --arch <ARCH> --status <FILE> --sources <FILE> <--request <FILE>|--goal <TEXT>...> <PLAN>";
+
+const CHECK_REFUTATION_USAGE: &str =
+    "debplan check-refutation [OPTIONS] --arch <ARCH> --status <FILE> --sources <FILE> <--request <FILE>|--goal <TEXT>...> <REFUTATION>";
+
+const APPLY_USAGE: &str =
+    "debplan apply [OPTIONS] --arch <ARCH> --status <FILE> --sources <FILE> <--request <FILE>|--goal <TEXT>...> --journal <FILE> --output <FILE> <PLAN>";
+
 /// The command line of the program. Memory alone can fail.
 pub fn program<'a>(alloc: Global) -> Result<Command<'a>, AllocError>
     ensures { IfOk result (λ c. app_of c ≡ app.debplan_app) }
@@ -44,6 +100,7 @@ pub fn program<'a>(alloc: Global) -> Result<Command<'a>, AllocError>
         alloc,
         "debplan",
         "Find and check plans of dpkg actions for Debian packages",
+        GUIDE,
     )
     .version(VERSION)
     .long_version(VERSION_AND_TOOLCHAIN)
@@ -57,17 +114,17 @@ pub fn program<'a>(alloc: Global) -> Result<Command<'a>, AllocError>
     Ok(whole)
 }
 
-// The command of this name, which does this.
-fn named<'a>(alloc: Global, name: &'a str, about: &'a str) -> Command<'a>
+// The command of this name, which does this, with the text below its help.
+fn named<'a>(alloc: Global, name: &'a str, about: &'a str, below: &'a str) -> Command<'a>
     ensures { app.Declares (app.command name.entry.now []) result }
 {
-    Command::new(alloc, name).about(about).after_help(ANSWERS)
+    Command::new(alloc, name).about(about).after_help(below)
 }
 
 fn compare<'a>(alloc: Global) -> Result<Command<'a>, AllocError>
     ensures { IfOk result (app.Declares app.compare_command) }
 {
-    let start = named(alloc, "compare", "Compare two versions");
+    let start = named(alloc, "compare", "Compare two versions", ANSWERS);
     let version = word(alloc, "version", "V", "A version");
     let relation = word(alloc, "relation", "REL", RELATION_HELP);
     let other = word(alloc, "other", "W", "The version to compare it to");
@@ -83,23 +140,33 @@ fn candidate<'a>(alloc: Global) -> Result<Command<'a>, AllocError>
     let start = named(
         alloc,
         "candidate",
-        "Show the candidate version of a package and its priority",
+        "Show the candidate version of each package and its priority",
+        ANSWERS,
     );
-    let name = word(alloc, "name", "NAME", "The name of a package");
+    let explain = explain(alloc);
+    let name = repeated(word(alloc, "name", "NAME", "The name of a package, or several"));
     let optioned = with_options(alloc, start)?;
-    let whole = optioned.arg(name)?;
+    let with_explain = optioned.arg(explain)?;
+    let whole = with_explain.arg(name)?;
     Ok(whole)
 }
 
 fn solve<'a>(alloc: Global) -> Result<Command<'a>, AllocError>
     ensures { IfOk result (app.Declares app.solve_command) }
 {
-    let start = named(alloc, "solve", "Find a plan for a request, or a refutation");
-    let goals = request(alloc);
+    let start = named(
+        alloc,
+        "solve",
+        "Find a plan for a request, or a refutation",
+        ANSWERS,
+    )
+    .override_usage(SOLVE_USAGE);
     let limit = limit(alloc);
+    let explain = explain(alloc);
     let optioned = with_options(alloc, start)?;
-    let with_goals = optioned.arg(goals)?;
-    let whole = with_goals.arg(limit)?;
+    let with_goals = with_request(alloc, optioned)?;
+    let with_limit = with_goals.arg(limit)?;
+    let whole = with_limit.arg(explain)?;
     Ok(whole)
 }
 
@@ -110,12 +177,15 @@ fn check_plan<'a>(alloc: Global) -> Result<Command<'a>, AllocError>
         alloc,
         "check-plan",
         "Check a plan of dpkg actions: each step by Policy, and the end",
-    );
-    let goals = request(alloc);
+        ANSWERS,
+    )
+    .override_usage(CHECK_PLAN_USAGE);
+    let explain = explain(alloc);
     let judged = plan(alloc);
     let optioned = with_options(alloc, start)?;
-    let with_goals = optioned.arg(goals)?;
-    let whole = with_goals.arg(judged)?;
+    let with_goals = with_request(alloc, optioned)?;
+    let with_explain = with_goals.arg(explain)?;
+    let whole = with_explain.arg(judged)?;
     Ok(whole)
 }
 
@@ -126,17 +196,20 @@ fn check_refutation<'a>(alloc: Global) -> Result<Command<'a>, AllocError>
         alloc,
         "check-refutation",
         "Check a refutation: that no choice among the admitted versions fulfils the request",
-    );
-    let goals = request(alloc);
+        ANSWERS,
+    )
+    .override_usage(CHECK_REFUTATION_USAGE);
+    let explain = explain(alloc);
     let judged = word(
         alloc,
         "refutation",
         "REFUTATION",
-        "The refutation, with a premise or a derived clause on each line",
+        "The refutation, with a premise or a derived clause on each line; - is standard input",
     );
     let optioned = with_options(alloc, start)?;
-    let with_goals = optioned.arg(goals)?;
-    let whole = with_goals.arg(judged)?;
+    let with_goals = with_request(alloc, optioned)?;
+    let with_explain = with_goals.arg(explain)?;
+    let whole = with_explain.arg(judged)?;
     Ok(whole)
 }
 
@@ -147,8 +220,9 @@ fn apply<'a>(alloc: Global) -> Result<Command<'a>, AllocError>
         alloc,
         "apply",
         "Carry a good plan out on the status database, by a journal, and write the status file at its end",
-    );
-    let goals = request(alloc);
+        ANSWERS,
+    )
+    .override_usage(APPLY_USAGE);
     let journal = option(
         alloc,
         "journal",
@@ -163,22 +237,42 @@ fn apply<'a>(alloc: Global) -> Result<Command<'a>, AllocError>
     );
     let judged = plan(alloc);
     let optioned = with_options(alloc, start)?;
-    let with_goals = optioned.arg(goals)?;
+    let with_goals = with_request(alloc, optioned)?;
     let with_journal = with_goals.arg(journal)?;
     let with_output = with_journal.arg(output)?;
     let whole = with_output.arg(judged)?;
     Ok(whole)
 }
 
-fn request<'a>(alloc: Global) -> Arg<'a>
-    ensures { app.Takes (app.option (codes "request")) result }
+// The command with the options that say what is requested, of which `call_of` wants one kind.
+fn with_request<'a>(alloc: Global, start: Command<'a>) -> Result<Command<'a>, AllocError>
+    ensures { (name : Text) (rules : List Rule) → app.Declares (app.command name rules) start.entry
+        → IfOk result (app.Declares (app.command name (rules ++ app.request_options))) }
 {
-    option(
+    let request = optional(
         alloc,
         "request",
         "FILE",
-        "Goals, one a line: install, remove, purge or upgrade NAME, upgrade-all, no-remove",
-    )
+        "Goals, one a line: install, remove, purge or upgrade NAME, upgrade-all, no-remove; - is standard input",
+    );
+    let goal = repeated(optional(
+        alloc,
+        "goal",
+        "TEXT",
+        "A goal, in place of --request; may be given several times",
+    ));
+    let with_file = start.arg(request)?;
+    let whole = with_file.arg(goal)?;
+    Ok(whole)
+}
+
+fn explain<'a>(alloc: Global) -> Arg<'a>
+    ensures { app.Takes (app.flag (codes "explain")) result }
+{
+    Arg::new(alloc, "explain")
+        .long("explain")
+        .action(ArgAction::SetTrue)
+        .help("Write sentences on the answer to standard error too")
 }
 
 fn plan<'a>(alloc: Global) -> Arg<'a>
@@ -188,7 +282,7 @@ fn plan<'a>(alloc: Global) -> Arg<'a>
         alloc,
         "plan",
         "PLAN",
-        "The plan, with an action on each line",
+        "The plan, with an action on each line; - is standard input",
     )
 }
 
@@ -236,6 +330,13 @@ fn with_options<'a>(alloc: Global, start: Command<'a>) -> Result<Command<'a>, Al
     let with_preferences = with_sources.arg(preferences)?;
     let whole = with_preferences.arg(target)?;
     Ok(whole)
+}
+
+// What may stand there more than once.
+fn repeated<'a>(argument: Arg<'a>) -> Arg<'a>
+    ensures { (rule : Rule) → app.Takes rule argument.entry → app.Takes (app.repeated rule) result }
+{
+    argument.action(ArgAction::Append)
 }
 
 // A word behind its option, which may be left out.

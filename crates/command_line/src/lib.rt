@@ -9,7 +9,7 @@ mod join;
 mod texts;
 
 pub use arguments::{call_of, mistake};
-pub use call::{Call, Options, Relation};
+pub use call::{Call, Options, Relation, Request};
 pub use declare::{COMMANDS, program};
 pub use join::joined;
 pub use texts::texts_of;

@@ -1,6 +1,6 @@
-// The files of the machine.
+// The files of the machine, and its standard input.
 ghost use Rattle.std.specs.Prelude.{◌≡◌, ◌≤◌, IfOk, length};
-ghost use Rattle.inputs.specs.Counting.{one_more};
+ghost use Rattle.inputs.specs.Counting.{Counts, one_more};
 ghost use Rattle.inputs.specs.declared.shelf.ReadError.TheVariants as ReadError;
 
 use crate::journal_file::JournalFile;
@@ -9,16 +9,16 @@ use cli::{Host, PutError, ReadError, ReadFailed, Source};
 use rules::TEXT_BYTES;
 use std::alloc::{AllocError, Global};
 use std::fs::File;
-use std::io::{ErrorKind, Read};
+use std::io::{ErrorKind, Read, Stdin};
 
-/// A file of the machine that was opened.
+/// What is read of the machine: a file that was opened, or its standard input.
 #[derive(Drop)]
-pub(crate) struct Opened {
-    file: File,
+pub(crate) struct Opened<R> {
+    reader: R,
     failures: u64,
 }
 
-impl Source for Opened {
+impl<R: Read> Source for Opened<R> {
     ghost faults = { λ opened. opened.failures };
 
     fn failures(&self) -> u64 {
@@ -26,7 +26,7 @@ impl Source for Opened {
     }
 
     fn read(&mut self, block: &mut [u8]) -> Result<usize, ReadFailed> {
-        match read_file(&mut self.file, block) {
+        match read_some(&mut self.reader, block) {
             Ok(count) => Ok(count),
             Err(failed) => {
                 self.failures = self.failures.saturating_add(1);
@@ -37,12 +37,12 @@ impl Source for Opened {
 }
 
 // Reads into the block, and once more where a signal came in between.
-fn read_file(file: &mut File, block: &mut [u8]) -> Result<usize, ReadFailed>
+fn read_some<R: Read>(reader: &mut R, block: &mut [u8]) -> Result<usize, ReadFailed>
     ensures size { length block.new ≡ length block.old }
     ensures count { IfOk result (λ count. count ≤ length block.new) }
 {
     for _ in 0..usize::MAX {
-        match file.read(block) {
+        match reader.read(block) {
             Ok(count) => return Ok(count),
             Err(error) if error.kind() == ErrorKind::Interrupted => {}
             Err(_) => return Err(ReadFailed),
@@ -51,7 +51,7 @@ fn read_file(file: &mut File, block: &mut [u8]) -> Result<usize, ReadFailed>
     Err(ReadFailed)
 }
 
-/// The files of the machine, and how many couldn't be read.
+/// The files of the machine, of which that at `-` is its standard input, and how many couldn't be read.
 #[derive(Drop)]
 pub(crate) struct Machine<'a> {
     rt: &'a HostRuntime,
@@ -72,10 +72,26 @@ impl<'a> Machine<'a> {
         self.failures = self.failures.saturating_add(1);
         ReadError::Unreadable
     }
+
+    // All that is read here.
+    fn read_all<R: Read + Drop>(
+        &mut self,
+        alloc: Global,
+        opened: Opened<R>,
+    ) -> Result<Vec<u8>, ReadError>
+        ensures { Counts result self.old.failures self.new.failures }
+    {
+        let mut opened = opened;
+        match read_whole(alloc, &mut opened) {
+            Ok(Ok(text)) => Ok(text),
+            Ok(Err(ReadFailed)) => Err(self.unreadable()),
+            Err(AllocError) => Err(ReadError::OutOfMemory),
+        }
+    }
 }
 
 impl<'a> Host for Machine<'a> {
-    type Text = Opened;
+    type Text = Opened<File>;
 
     type Journal = JournalFile<'a>;
 
@@ -86,23 +102,25 @@ impl<'a> Host for Machine<'a> {
     }
 
     fn read(&mut self, alloc: Global, path: &[u8]) -> Result<Vec<u8>, ReadError> {
-        let mut file = self.open(alloc, path)?;
-        match read_whole(alloc, &mut file) {
-            Ok(Ok(text)) => Ok(text),
-            Ok(Err(ReadFailed)) => Err(self.unreadable()),
-            Err(AllocError) => Err(ReadError::OutOfMemory),
+        if path == b"-".as_slice() {
+            return self.read_all(alloc, standard_input(self.rt));
         }
+        let file = self.open(alloc, path)?;
+        self.read_all(alloc, file)
     }
 
-    fn open(&mut self, _alloc: Global, path: &[u8]) -> Result<Opened, ReadError> {
+    fn open(&mut self, _alloc: Global, path: &[u8]) -> Result<Opened<File>, ReadError> {
         match open_file(self.rt, path) {
-            Ok(file) => Ok(Opened { file, failures: 0 }),
+            Ok(file) => Ok(Opened {
+                reader: file,
+                failures: 0,
+            }),
             Err(ErrorKind::OutOfMemory) => Err(ReadError::OutOfMemory),
             Err(_) => Err(self.unreadable()),
         }
     }
 
-    fn close(&mut self, text: Opened) {
+    fn close(&mut self, text: Opened<File>) {
         self.failures = self.failures.saturating_add(text.failures());
     }
 
@@ -112,6 +130,13 @@ impl<'a> Host for Machine<'a> {
 
     fn put(&mut self, alloc: Global, path: &[u8], text: &[u8]) -> Result<(), PutError> {
         put_text(self.rt, alloc, path, text)
+    }
+}
+
+fn standard_input(rt: &HostRuntime) -> Opened<Stdin> {
+    Opened {
+        reader: rt.stdin(),
+        failures: 0,
     }
 }
 
@@ -126,14 +151,17 @@ fn open_file(rt: &HostRuntime, path: &[u8]) -> Result<File, ErrorKind> {
 // How many bytes are asked for at a time.
 const BLOCK: usize = 262_144;
 
-// Reads the file to its end, or until it is longer than a text may be: what is longer is refused for that alone, so no
+// Reads it to its end, or until it is longer than a text may be: what is longer is refused for that alone, so no
 // more of it is asked for, be there an end or not.
-fn read_whole(alloc: Global, file: &mut Opened) -> Result<Result<Vec<u8>, ReadFailed>, AllocError> {
+fn read_whole<R: Read>(
+    alloc: Global,
+    opened: &mut Opened<R>,
+) -> Result<Result<Vec<u8>, ReadFailed>, AllocError> {
     let mut text = Vec::new(alloc);
     let mut block = Vec::new(alloc);
     block.resize(BLOCK, 0u8)?;
     for _ in 0..usize::MAX {
-        let Ok(count) = file.read(block.as_mut_slice()) else {
+        let Ok(count) = opened.read(block.as_mut_slice()) else {
             return Ok(Err(ReadFailed));
         };
         let front = block.as_slice().get(..count).unwrap_or_default();

@@ -22,4 +22,6 @@ mod starts;
 mod verdict;
 
 pub use check::check_refutation;
+pub use premise::clause_of;
+pub use premises::Premises;
 pub use verdict::Verdict;

@@ -7,11 +7,12 @@ use crate::memory::Memory;
 use crate::scenario::add_plan;
 use cli::{
     Candidate, Exit, Fault, Host, HostShelf, Input, Outcome, Paths, PutError, ReadError, Refusal,
-    Settings, Source, candidate_line, check_plan, exit_of_candidate, exit_of_refusal,
-    exit_of_verdict, find_candidate, outcome_of_answer, outcome_of_candidate, verdict_line,
+    Sentences, Settings, Source, TextAt, candidate_line, check_plan, exit_of_candidates,
+    exit_of_refusal, exit_of_verdict, find_candidates, outcome_of_answer, outcome_of_candidates,
+    verdict_line,
 };
 use disk::MemoryDisk;
-use rules::Verdict;
+use rules::{Items, Verdict};
 use std::alloc::{AllocError, Global};
 use std::test::Fail;
 
@@ -88,9 +89,17 @@ const PATHS: Paths<'static> = Paths {
     status: "status",
     sources: "sources",
     preferences: None,
-    request: "request",
+    request: TextAt::File("request"),
     judged: "plan",
 };
+
+fn shelf_of<H: Host>(host: H) -> HostShelf<'static, H> {
+    HostShelf {
+        host,
+        paths: PATHS,
+        seen: None,
+    }
+}
 
 // Whether the outcome is this line on standard output, with the status of an answer that is yes.
 fn is_line(outcome: &Outcome, line: &[u8]) -> bool {
@@ -117,8 +126,9 @@ fn prints_yes(alloc: Global, answer: &Result<Verdict, Refusal>) -> Result<bool, 
 fn answer_of_plan(alloc: Global) -> Result<Result<Verdict, Refusal>, Fail> {
     let mut host = Memory::new(alloc);
     add_plan(alloc, &mut host, "plan 1$")?;
-    let mut shelf = HostShelf { host, paths: PATHS };
-    Ok(check_plan(alloc, &mut shelf, &SETTINGS))
+    let mut shelf = shelf_of(host);
+    let mut told = Sentences::new(alloc);
+    Ok(check_plan(alloc, &mut shelf, &SETTINGS, &mut told))
 }
 
 #[test]
@@ -133,9 +143,7 @@ fn a_verdict_is_printed_as_an_answer(rt: HostRuntime) -> Result<(), Fail> {
 const FOO: &str = "Package: foo$Status: install ok installed$Version: 1$Architecture: all$";
 
 fn has_parts_of_foo(found: &Candidate) -> bool {
-    found.version() == b"1".as_slice()
-        && found.priority() == 100
-        && exit_of_candidate(Some(found)) == Exit::Success
+    found.version() == b"1".as_slice() && found.priority() == 100
 }
 
 fn is_foo(alloc: Global, found: &Candidate) -> Result<bool, AllocError> {
@@ -143,22 +151,37 @@ fn is_foo(alloc: Global, found: &Candidate) -> Result<bool, AllocError> {
     Ok(line.as_slice() == b"foo 1 100\n".as_slice() && has_parts_of_foo(found))
 }
 
-fn answers_foo(
-    alloc: Global,
-    answer: &Result<Option<Candidate>, Refusal>,
-) -> Result<bool, AllocError> {
-    match answer {
-        Ok(Some(found)) => is_foo(alloc, found),
+// Whether these are `foo`, and none of the other name.
+fn are_foo_and_none(alloc: Global, found: &[Option<Candidate>]) -> Result<bool, AllocError> {
+    match found {
+        [Some(found), None] => is_foo(alloc, found),
         _ => Ok(false),
     }
 }
 
+fn answers_foo(
+    alloc: Global,
+    answer: &Result<Items<Option<Candidate>>, Refusal>,
+) -> Result<bool, AllocError> {
+    match answer {
+        Ok(found) => Ok(
+            exit_of_candidates(found.as_slice()) == Exit::No
+                && are_foo_and_none(alloc, found.as_slice())?,
+        ),
+        Err(_) => Ok(false),
+    }
+}
+
+const NAMES: [&str; 2] = ["foo", "bar"];
+
 fn prints_foo(
     alloc: Global,
-    answer: &Result<Option<Candidate>, Refusal>,
+    answer: &Result<Items<Option<Candidate>>, Refusal>,
 ) -> Result<bool, AllocError> {
-    let outcome = outcome_of_candidate(alloc, b"foo", answer)?;
-    Ok(is_line(&outcome, b"foo 1 100\n"))
+    let outcome = outcome_of_candidates(alloc, NAMES.as_slice(), answer)?;
+    Ok(
+        matches!(&outcome, Outcome::Answer(printed, Exit::No) if printed.as_slice() == b"foo 1 100\nbar none\n".as_slice()),
+    )
 }
 
 fn add_foo(alloc: Global, host: &mut Memory<'_>) -> Result<(), Fail> {
@@ -166,15 +189,16 @@ fn add_foo(alloc: Global, host: &mut Memory<'_>) -> Result<(), Fail> {
     host.add(alloc, "sources", "")
 }
 
-fn answer_of_foo(alloc: Global) -> Result<Result<Option<Candidate>, Refusal>, Fail> {
+fn answer_of_foo(alloc: Global) -> Result<Result<Items<Option<Candidate>>, Refusal>, Fail> {
     let mut host = Memory::new(alloc);
     add_foo(alloc, &mut host)?;
-    let mut shelf = HostShelf { host, paths: PATHS };
-    Ok(find_candidate(alloc, &mut shelf, &SETTINGS, b"foo"))
+    let mut shelf = shelf_of(host);
+    let mut told = Sentences::new(alloc);
+    Ok(find_candidates(alloc, &mut shelf, &SETTINGS, NAMES.as_slice(), &mut told))
 }
 
 #[test]
-fn a_candidate_is_printed_as_an_answer(rt: HostRuntime) -> Result<(), Fail> {
+fn candidates_are_printed_as_an_answer(rt: HostRuntime) -> Result<(), Fail> {
     let answer = answer_of_foo(rt.alloc())?;
     assert!(rt; answers_foo(rt.alloc(), &answer)?);
     assert!(rt; prints_foo(rt.alloc(), &answer)?);
@@ -199,8 +223,9 @@ fn a_refusal_is_printed_as_a_complaint(rt: HostRuntime) -> Result<(), Fail> {
         text: b"",
         failures: 0,
     };
-    let mut shelf = HostShelf { host, paths: PATHS };
-    let answer = check_plan(rt.alloc(), &mut shelf, &SETTINGS);
+    let mut shelf = shelf_of(host);
+    let mut told = Sentences::new(rt.alloc());
+    let answer = check_plan(rt.alloc(), &mut shelf, &SETTINGS, &mut told);
     assert!(rt; matches!(&answer, Err(refusal) if are_sources_unread(refusal)));
     assert!(rt; shelf.host.failures() == 1);
     assert!(rt; is_complaint(rt.alloc(), &answer)?);

@@ -105,6 +105,28 @@ fn a_refusal_that_cannot_be_written_keeps_its_status(rt: HostRuntime) -> Result<
     Ok(())
 }
 
+const EXPLAINED: &str =
+    "debplan check-plan --explain --arch amd64 --status status --sources sources --request request plan";
+
+// The writer fails in the line of the refusal, or in the sentences behind it.
+#[test]
+fn a_sentence_that_cannot_be_written_changes_no_status(rt: HostRuntime) -> Result<(), Fail> {
+    let alloc = rt.alloc();
+    let words = words_in(alloc, EXPLAINED)?;
+    for room in [0, 40] {
+        let mut out = Vec::new(alloc);
+        let status = status_on(
+            alloc,
+            words.as_slice(),
+            "x$",
+            &mut out,
+            &mut Narrow { room },
+        )?;
+        assert!(rt; status == 3 && out.is_empty(), "{room}");
+    }
+    Ok(())
+}
+
 /// A host whose machine has no memory left for a file.
 #[derive(Drop)]
 struct Exhausted;

@@ -2,7 +2,7 @@
 use Rattle.cli.proofs.program.outcome_of_call.Goals as goal
 
 pub returns-in-Candidate : goal.returns-in-Candidate
-returns-in-Candidate g c at known = rw (c.in-Candidate.is, ← c.as_bytes.ensures.value) (c.outcome_of_name.ensures at known)
+returns-in-Candidate g c at known = rw c.in-Candidate.is (c.outcome_of_names.ensures at known)
 
 pub returns-in-Solve : goal.returns-in-Solve
 returns-in-Solve g c at known = rw c.in-Solve.is (c.outcome_of_request.ensures at known)

@@ -28,18 +28,18 @@ returns-in_err-refutation-clause-refused g c = λ at known started indexed.
     let listed = lent_listed (texts_of c.args.settings.now at) (slot_records c.args.status_file.now.slots) c.args.releases.items
     c.args.kept.now c.in_ok-indices.indices.items c.as_slice.result.now started indexed c.in_ok-indices.ensures c.as_slice.ensures.value in
     let read = c.in_ok-prefs.ensures.ok at (slot_records c.args.status_file.now.slots) (indices_of c.as_slice.result.now) known listed in
-    let denoted = c.in_ok-universe.ensures.ok at (c.in_ok-prefs.ensures.same ∙ known) read in
+    let denoted = (c.in_ok-universe.ensures.ok at (c.in_ok-prefs.ensures.same ∙ known) read).denoted in
     let p = err_from_is_err_and c.from_residual-in_err-refutation.result c.from_residual-in_err-refutation.ensures.1 in
-    rw (p.1, p.2) (c.in_err-refutation.ensures.refused at (texts_of c.args.settings.now at) c.in_ok-universe.universe (slot_records c.args.status_file.now.slots) (c.in_ok-universe.ensures.same ∙ (c.in_ok-prefs.ensures.same ∙ known)) denoted)
+    rw (p.1, p.2) (c.in_err-refutation.ensures.refused at (texts_of c.args.settings.now at) c.in_ok-universe.field-0.universe (slot_records c.args.status_file.now.slots) (c.in_ok-universe.ensures.same ∙ (c.in_ok-prefs.ensures.same ∙ known)) denoted)
 
 pub returns-clause-answer : goal.returns-clause-answer
 returns-clause-answer g c = λ at known started indexed.
     let listed = lent_listed (texts_of c.args.settings.now at) (slot_records c.args.status_file.now.slots) c.args.releases.items
     c.args.kept.now c.in_ok-indices.indices.items c.as_slice.result.now started indexed c.in_ok-indices.ensures c.as_slice.ensures.value in
     let read = c.in_ok-prefs.ensures.ok at (slot_records c.args.status_file.now.slots) (indices_of c.as_slice.result.now) known listed in
-    let denoted = c.in_ok-universe.ensures.ok at (c.in_ok-prefs.ensures.same ∙ known) read in
+    let denoted = (c.in_ok-universe.ensures.ok at (c.in_ok-prefs.ensures.same ∙ known) read).denoted in
     record {
-      universe = c.in_ok-universe.universe;
+      universe = c.in_ok-universe.field-0.universe;
       start = slot_records c.args.status_file.now.slots;
       lines = c.in_ok-refutation.refutation;
       denoted = denoted;

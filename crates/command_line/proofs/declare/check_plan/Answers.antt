@@ -1,9 +1,12 @@
 use Rattle.std.proofs.Common.{◌++◌, [], ◌∷◌, codes}
-use Rattle.command_line.specs.Program.{option, options, word}
-use Rattle.command_line.proofs.DeclareLemmas.{more}
+use Rattle.command_line.specs.Program.{flag, options, request_options, word}
+use Rattle.command_line.proofs.DeclareLemmas.{more, with_usage}
 use Rattle.command_line.proofs.declare.check_plan.Goals as goal
 
 pub returns : goal.returns
-returns c = more (codes "check-plan") (options ++ option (codes "request") ∷ []) (word (codes "plan")) _ _ _
-    (more (codes "check-plan") options (option (codes "request")) _ _ _
-    (c.in_ok-optioned.ensures (codes "check-plan") c.named-start.ensures) c.request-goals.ensures c.in_ok-with_goals.ensures) c.plan-judged.ensures c.in_ok-whole.ensures
+returns c = more (codes "check-plan") (options ++ request_options ++ flag (codes "explain") ∷ []) (word (codes "plan")) _ _ _
+    (more (codes "check-plan") (options ++ request_options) (flag (codes "explain")) _ _ _
+    (c.in_ok-with_goals.ensures (codes "check-plan") options (c.in_ok-optioned.ensures (codes "check-plan")
+    (with_usage _ _ _ _ c.named.ensures c.override_usage-start.ensures)))
+    c.explain-explain.ensures c.in_ok-with_explain.ensures)
+    c.plan-judged.ensures c.in_ok-whole.ensures

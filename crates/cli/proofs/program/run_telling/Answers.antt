@@ -2,7 +2,7 @@
 use Rattle.std.proofs.Common.{inl, inr, codes, refl}
 use Rattle.cli.specs.declared.exit.Exit.TheVariants as exit
 use Rattle.cli.specs.declared.outcome.Outcome.TheVariants as outcome
-use Rattle.cli.proofs.program.run.Goals as goal
+use Rattle.cli.proofs.program.run_telling.Goals as goal
 
 pub returns-in-Ok : goal.returns-in-Ok
 returns-in-Ok g c = (c.in-Ok.outcome, inl c.in-Ok.ensures, c.print.ensures)

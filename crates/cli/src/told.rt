@@ -1,0 +1,243 @@
+// Sentences on a refusal and on an answer that gives none of its own, for a person to read. Their words aren't promised.
+ghost use Rattle.std.specs.Prelude.{◌≡◌};
+
+use crate::files::{Paths, Seen, TextAt};
+use cli_engine::{Answered, Fault, Input, Refusal, Sentences, Solved, Undecided};
+use index::IndexFault;
+use inputs::StatusRefusal;
+use rules::{Reason, Verdict};
+use stanza::StanzaError;
+use std::alloc::{AllocError, Global};
+use universe_request::RequestFault;
+
+/// Tells where the text is that is refused, and what may help, where the answer is a refusal and that is asked for. Memory alone can
+/// fail.
+pub(crate) fn tell_refusal<T>(
+    alloc: Global,
+    answer: &Result<T, Refusal>,
+    paths: &Paths<'_>,
+    seen: Option<&Seen>,
+    told: &mut Sentences,
+) -> Result<(), AllocError> {
+    match (answer, seen) {
+        (Err(refusal), Some(seen)) => {
+            tell_place(alloc, refusal.place, paths, seen, told)?;
+            tell_fault(alloc, &refusal.fault, paths, seen, told)
+        }
+        _ => Ok(()),
+    }
+}
+
+// Tells where the text is that is refused.
+fn tell_place(
+    alloc: Global,
+    place: Input,
+    paths: &Paths<'_>,
+    seen: &Seen,
+    told: &mut Sentences,
+) -> Result<(), AllocError> {
+    match place {
+        Input::Status => tell_file(alloc, "The status file", paths.status, told),
+        Input::Sources => tell_file(alloc, "The sources file", paths.sources, told),
+        Input::Preferences => tell_file(
+            alloc,
+            "The preferences file",
+            paths.preferences.unwrap_or(""),
+            told,
+        ),
+        Input::Request => tell_request(alloc, paths.request, told),
+        Input::Plan => tell_text(alloc, "The plan", paths.judged, told),
+        Input::Refutation => tell_text(alloc, "The refutation", paths.judged, told),
+        Input::Index(number) => tell_index(alloc, number, seen, told),
+        Input::Version(_) | Input::Memory => Ok(()),
+    }
+}
+
+// Tells the path of a file.
+fn tell_file(
+    alloc: Global,
+    name: &str,
+    path: &str,
+    told: &mut Sentences,
+) -> Result<(), AllocError> {
+    told.add(format!(in alloc; "{name} is {path}.\n")?.as_bytes())
+}
+
+// Tells the path of a text, which may be that of standard input.
+fn tell_text(
+    alloc: Global,
+    name: &str,
+    path: &str,
+    told: &mut Sentences,
+) -> Result<(), AllocError> {
+    if path == "-" {
+        tell_file(alloc, name, "what standard input gives", told)
+    } else {
+        tell_file(alloc, name, path, told)
+    }
+}
+
+fn tell_request(alloc: Global, place: TextAt<'_>, told: &mut Sentences) -> Result<(), AllocError> {
+    match place {
+        TextAt::File(path) => tell_text(alloc, "The request", path, told),
+        TextAt::Given(_) => tell_file(alloc, "The request", "what --goal says", told),
+    }
+}
+
+fn tell_index(
+    alloc: Global,
+    number: usize,
+    seen: &Seen,
+    told: &mut Sentences,
+) -> Result<(), AllocError> {
+    told.add(format!(in alloc; "Index {number} is ")?.as_bytes())?;
+    tell_printed(alloc, seen.index.as_slice(), told)?;
+    told.add(b".\n")
+}
+
+// Tells what may help.
+fn tell_fault(
+    alloc: Global,
+    fault: &Fault,
+    paths: &Paths<'_>,
+    seen: &Seen,
+    told: &mut Sentences,
+) -> Result<(), AllocError> {
+    match fault {
+        Fault::Request(RequestFault::BadRequest(line)) => {
+            tell_line(alloc, *line, text_of(paths, seen), told)?;
+            told.add(GOALS)
+        }
+        Fault::UnknownName(line) => {
+            tell_line(alloc, *line, text_of(paths, seen), told)?;
+            told.add(UNKNOWN_NAME)
+        }
+        Fault::Status(StatusRefusal::ForeignArchitecture(_)) => told.add(ONE_ARCHITECTURE),
+        Fault::Index(IndexFault::Stanza(error)) => tell_compressed(*error, seen, told),
+        _ => Ok(()),
+    }
+}
+
+/// What a line of a request may be (docs/FORMATS.md, section 8).
+const GOALS: &[u8] =
+    b"A line is one of: install NAME [(REL VERSION)], remove NAME, purge NAME, upgrade NAME, upgrade-all, no-remove,
+or all-versions. REL is <<, <=, =, >= or >>.
+";
+
+const UNKNOWN_NAME: &[u8] = b"The package that it names is in no index, and isn't installed.\n";
+
+const ONE_ARCHITECTURE: &[u8] =
+    b"What can be asked about is a status file whose packages are of one architecture and all alone.\n";
+
+// The text of the request, as far as it was read.
+fn text_of<'a>(paths: &Paths<'a>, seen: &'a Seen) -> &'a [u8] {
+    match paths.request {
+        TextAt::File(_) => seen.request.as_slice(),
+        TextAt::Given(text) => text,
+    }
+}
+
+// Tells the line of this number, counted from 1, in the text of the request.
+fn tell_line(
+    alloc: Global,
+    number: usize,
+    text: &[u8],
+    told: &mut Sentences,
+) -> Result<(), AllocError> {
+    told.add(format!(in alloc; "Line {number} is: ")?.as_bytes())?;
+    tell_printed(alloc, line_at(text, number), told)?;
+    told.add(b"\n")
+}
+
+// The line of this number, counted from 1, without its end, or nothing where there are fewer.
+fn line_at(text: &[u8], number: usize) -> &[u8] {
+    match text
+        .split(|byte| *byte == b'\n')
+        .nth(number.saturating_sub(1))
+    {
+        Some(line) => line,
+        None => &[],
+    }
+}
+
+// Tells bytes of a text, with a question mark in the place of each that controls a terminal.
+fn tell_printed(alloc: Global, text: &[u8], told: &mut Sentences) -> Result<(), AllocError> {
+    let mut printed = text.to_vec(alloc)?;
+    for byte in printed.as_mut_slice() {
+        *byte = printed_byte(*byte);
+    }
+    told.add(printed.as_slice())
+}
+
+fn printed_byte(byte: u8) -> u8 {
+    if byte < 0x20 || byte == 0x7F {
+        b'?'
+    } else {
+        byte
+    }
+}
+
+// Tells that an index is to be given uncompressed, where it's no control text from its first line on and is named as a compressed
+// file.
+fn tell_compressed(
+    error: StanzaError,
+    seen: &Seen,
+    told: &mut Sentences,
+) -> Result<(), AllocError> {
+    match error {
+        StanzaError::BadLine(1) | StanzaError::BadFieldName(1)
+            if is_compressed_name(seen.index.as_slice()) => {
+            told.add(b"It looks compressed: give it uncompressed.\n")
+        }
+        _ => Ok(()),
+    }
+}
+
+// Whether a file has the name of one that gzip, xz, lz4, zstd or bzip2 has made.
+fn is_compressed_name(file: &[u8]) -> bool {
+    file.ends_with(b".gz")
+        || file.ends_with(b".xz")
+        || file.ends_with(b".lz4")
+        || file.ends_with(b".zst")
+        || file.ends_with(b".bz2")
+}
+
+/// Tells why a request is undecided, where it is and that is asked for. Memory alone can fail.
+pub(crate) fn tell_undecided(
+    answer: &Result<Answered, Refusal>,
+    told: &mut Sentences,
+) -> Result<(), AllocError> {
+    match answer {
+        Ok(found) => match &found.solved {
+            Solved::Undecided(why) => told.add(why_undecided(why)),
+            _ => Ok(()),
+        },
+        Err(_) => Ok(()),
+    }
+}
+
+fn why_undecided(why: &Undecided) -> &'static [u8] {
+    match why {
+        Undecided::Limit(_) => b"The search gave up at its limit, which --limit N raises.\n",
+        Undecided::Start => b"Two packages that are there conflict, so no plan can begin.\n",
+        Undecided::Stuck(_) => {
+            b"Versions that fulfil the request were found, and no order of steps that leads to them.\n"
+        }
+        Undecided::Unchecked =>
+            b"What was found didn't pass the program's own check: this is a bug.\n",
+    }
+}
+
+/// Tells what finishes a package that a plan leaves unfinished, where that is asked for. Memory alone can fail.
+pub(crate) fn tell_unfinished(
+    answer: &Result<Verdict, Refusal>,
+    told: &mut Sentences,
+) -> Result<(), AllocError> {
+    match answer {
+        Ok(Verdict::End(Reason::Unfinished(_))) => told.add(UNFINISHED),
+        _ => Ok(()),
+    }
+}
+
+const UNFINISHED: &[u8] =
+    b"The package isn't installed whole at the end. dpkg --configure -a finishes what dpkg has left unpacked or half-configured.\n";

@@ -1,0 +1,155 @@
+// Why no pair satisfies what is asked for: what is found of it, and how it is told.
+
+use crate::offers::is_listed;
+use crate::teller::Teller;
+use crate::wanted::Wanted;
+use crate::words::push_versioned;
+use debversion::Version;
+use std::alloc::AllocError;
+
+/// Why no pair satisfies what is asked for.
+#[derive(Drop)]
+pub(crate) enum Cause<'c, 'a, 'i> {
+    /// It is asked for of another architecture.
+    Foreign,
+    /// The name is held, in the version that stands, if one does.
+    Held(Option<&'c Version<'a>>),
+    /// This version fits and is in an index, but isn't admitted.
+    Unadmitted(&'c Version<'i>),
+    /// These pairs alone are of the name.
+    Others(Vec<u32>),
+    /// No pair is of the name, but these provide it.
+    Provided(Vec<u32>),
+    /// The indices have the name, but in no version that fits.
+    Unfit,
+    /// No index has the name.
+    Missing,
+}
+
+// Who provides the name where no pair has it, and else whether an index has it.
+fn cause_of_unnamed<'c, 'a, 'i>(
+    teller: &Teller<'c, '_, '_, 'a, 'i>,
+    wanted: &Wanted<'_>,
+) -> Result<Cause<'c, 'a, 'i>, AllocError> {
+    let providing = teller.providing(wanted.name)?;
+    if !providing.is_empty() {
+        return Ok(Cause::Provided(providing));
+    }
+    if is_listed(teller, wanted.name) {
+        Ok(Cause::Unfit)
+    } else {
+        Ok(Cause::Missing)
+    }
+}
+
+// The cause where the name isn't held.
+fn cause_of_unheld<'c, 'a, 'i>(
+    teller: &Teller<'c, '_, '_, 'a, 'i>,
+    wanted: &Wanted<'_>,
+) -> Result<Cause<'c, 'a, 'i>, AllocError> {
+    if let Some(version) = teller.highest(wanted) {
+        return Ok(Cause::Unadmitted(version));
+    }
+    let named = teller.named(wanted.name)?;
+    if named.is_empty() {
+        cause_of_unnamed(teller, wanted)
+    } else {
+        Ok(Cause::Others(named))
+    }
+}
+
+/// Why no pair satisfies it, where none does. Memory alone can fail. Linear in the pairs and in the stanzas of the indices.
+pub(crate) fn cause_of<'c, 'u: 'c, 'a, 'i>(
+    teller: &Teller<'c, 'u, '_, 'a, 'i>,
+    wanted: &Wanted<'_>,
+) -> Result<Cause<'c, 'a, 'i>, AllocError> {
+    if wanted.is_foreign {
+        return Ok(Cause::Foreign);
+    }
+    match teller.premises.start(wanted.name) {
+        Some(start) if start.is_held() => Ok(Cause::Held(start.standing())),
+        _ => cause_of_unheld(teller, wanted),
+    }
+}
+
+/// Writes that the name is held.
+pub(crate) fn push_held(
+    text: &mut Vec<u8>,
+    name: &[u8],
+    standing: Option<&Version<'_>>,
+) -> Result<(), AllocError> {
+    text.extend_from_slice(name)?;
+    match standing {
+        None => text.extend_from_slice(b" is held and not installed"),
+        Some(version) => {
+            text.extend_from_slice(b" is held at ")?;
+            text.extend_from_slice(version.text())
+        }
+    }
+}
+
+// Writes that the version isn't admitted, and what may admit it.
+fn push_unadmitted(
+    teller: &Teller<'_, '_, '_, '_, '_>,
+    text: &mut Vec<u8>,
+    name: &[u8],
+    version: &Version<'_>,
+) -> Result<(), AllocError> {
+    push_versioned(text, name, version)?;
+    text.extend_from_slice(b" is not admitted: its priority or the candidate rules it out (")?;
+    if !teller.all_versions {
+        text.extend_from_slice(b"a line all-versions, or ")?;
+    }
+    text.extend_from_slice(b"the goal install ")?;
+    text.extend_from_slice(name)?;
+    text.extend_from_slice(b" (= ")?;
+    text.extend_from_slice(version.text())?;
+    if teller.all_versions {
+        text.extend_from_slice(b") may admit it)")
+    } else {
+        text.extend_from_slice(b"), may admit it)")
+    }
+}
+
+// Writes the text, the name and the rest.
+fn push_about(
+    text: &mut Vec<u8>,
+    before: &[u8],
+    name: &[u8],
+    behind: &[u8],
+) -> Result<(), AllocError> {
+    text.extend_from_slice(before)?;
+    text.extend_from_slice(name)?;
+    text.extend_from_slice(behind)
+}
+
+/// Writes the cause why no pair satisfies what a package asks for.
+pub(crate) fn push_cause(
+    teller: &Teller<'_, '_, '_, '_, '_>,
+    text: &mut Vec<u8>,
+    name: &[u8],
+    cause: &Cause<'_, '_, '_>,
+) -> Result<(), AllocError> {
+    match cause {
+        Cause::Foreign => push_about(text, b"", name, b" is asked for of another architecture"),
+        Cause::Held(standing) => push_held(text, name, *standing),
+        Cause::Unadmitted(version) => push_unadmitted(teller, text, name, version),
+        Cause::Others(numbers) => {
+            text.extend_from_slice(b"only ")?;
+            teller.push_pairs(text, numbers.as_slice())?;
+            text.extend_from_slice(b" can be had")
+        }
+        Cause::Provided(numbers) => {
+            text.extend_from_slice(b"only ")?;
+            teller.push_pairs(text, numbers.as_slice())?;
+            push_about(
+                text,
+                b" provides ",
+                name,
+                b", without the version that is asked for",
+            )
+        }
+        Cause::Unfit => push_about(text, b"no index has a version of ", name, b" that fits"),
+        Cause::Missing => push_about(text, b"there is no package ", name, b" in any index"),
+    }
+}

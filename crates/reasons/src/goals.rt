@@ -1,0 +1,115 @@
+// What goals say.
+
+use crate::causes::{Cause, cause_of, push_cause, push_held};
+use crate::teller::Teller;
+use crate::wanted::Wanted;
+use rules::Goal;
+use std::alloc::AllocError;
+
+// Writes why no pair satisfies an install goal.
+fn push_goal_cause(
+    teller: &Teller<'_, '_, '_, '_, '_>,
+    text: &mut Vec<u8>,
+    wanted: &Wanted<'_>,
+) -> Result<(), AllocError> {
+    text.extend_from_slice(b", but ")?;
+    let cause = cause_of(teller, wanted)?;
+    match &cause {
+        // A goal asks for a package of the name itself.
+        Cause::Provided(numbers) => {
+            text.extend_from_slice(wanted.name)?;
+            text.extend_from_slice(b" is no package; it is provided by ")?;
+            teller.push_pairs(text, numbers.as_slice())
+        }
+        _ => push_cause(teller, text, wanted.name, &cause),
+    }
+}
+
+// Writes what an install goal asks for.
+fn push_install(
+    teller: &Teller<'_, '_, '_, '_, '_>,
+    text: &mut Vec<u8>,
+    wanted: &Wanted<'_>,
+    numbers: &[u32],
+) -> Result<(), AllocError> {
+    text.extend_from_slice(b"You ask for ")?;
+    wanted.push_to(text)?;
+    if numbers.is_empty() {
+        push_goal_cause(teller, text, wanted)
+    } else {
+        teller.push_satisfying(text, numbers)
+    }
+}
+
+// Writes why no pair is the candidate of the name.
+fn push_without_candidate(
+    teller: &Teller<'_, '_, '_, '_, '_>,
+    text: &mut Vec<u8>,
+    name: &[u8],
+) -> Result<(), AllocError> {
+    text.extend_from_slice(b", but ")?;
+    match teller.premises.start(name) {
+        Some(start) if start.is_held() => push_held(text, name, start.standing()),
+        _ => {
+            text.extend_from_slice(name)?;
+            text.extend_from_slice(b" has no candidate")
+        }
+    }
+}
+
+// Writes what an upgrade goal asks for.
+fn push_upgrade(
+    teller: &Teller<'_, '_, '_, '_, '_>,
+    text: &mut Vec<u8>,
+    name: &[u8],
+    numbers: &[u32],
+) -> Result<(), AllocError> {
+    text.extend_from_slice(b"You ask to upgrade ")?;
+    text.extend_from_slice(name)?;
+    if numbers.is_empty() {
+        push_without_candidate(teller, text, name)
+    } else {
+        teller.push_satisfying(text, numbers)
+    }
+}
+
+/// Writes what the goal of this number asks for, which these pairs are.
+pub(crate) fn push_goal(
+    teller: &Teller<'_, '_, '_, '_, '_>,
+    text: &mut Vec<u8>,
+    number: u32,
+    numbers: &[u32],
+) -> Result<(), AllocError> {
+    match teller.premises.goal_at(number) {
+        Some(Goal::Install(name, restriction)) => {
+            let wanted = Wanted::by_goal(name.as_bytes(), restriction);
+            push_install(teller, text, &wanted, numbers)
+        }
+        Some(Goal::Upgrade(name)) => push_upgrade(teller, text, name.as_bytes(), numbers),
+        _ => Ok(()),
+    }
+}
+
+/// Writes what the goal of this number says of the pair by itself.
+pub(crate) fn push_goal_on(
+    teller: &Teller<'_, '_, '_, '_, '_>,
+    text: &mut Vec<u8>,
+    number: u32,
+    pair: u32,
+) -> Result<(), AllocError> {
+    match teller.premises.goal_at(number) {
+        Some(Goal::Remove(name)) => {
+            text.extend_from_slice(b"You ask to remove ")?;
+            text.extend_from_slice(name.as_bytes())
+        }
+        Some(Goal::Purge(name)) => {
+            text.extend_from_slice(b"You ask to purge ")?;
+            text.extend_from_slice(name.as_bytes())
+        }
+        Some(Goal::UpgradeAll) => {
+            text.extend_from_slice(b"upgrade-all asks for ")?;
+            teller.push_number(text, pair)
+        }
+        _ => Ok(()),
+    }
+}

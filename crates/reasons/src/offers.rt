@@ -1,0 +1,89 @@
+// Who has or provides a name, among the pairs and in the indices.
+
+use crate::teller::Teller;
+use crate::wanted::Wanted;
+use debversion::Version;
+use index::IndexEntry;
+use relation::Provided;
+use std::alloc::AllocError;
+use universe::{CountingProvides, Pair};
+
+// Whether an item is of the name, for the configured architecture.
+fn has_item(items: &[Provided<'_>], name: &[u8]) -> bool {
+    items
+        .iter()
+        .any(|item| !item.is_foreign() && item.name() == name)
+}
+
+// The version of the stanza, if it is of the name, meets the restriction, and isn't lower than the one before.
+fn higher_in<'k, 'i>(
+    entry: &'k IndexEntry<'i>,
+    wanted: &Wanted<'_>,
+    before: Option<&'k Version<'i>>,
+) -> Option<&'k Version<'i>> {
+    if entry.name() != wanted.name || !wanted.is_met_by(entry.version()) {
+        return before;
+    }
+    match before {
+        Some(version) if version >= entry.version() => before,
+        _ => Some(entry.version()),
+    }
+}
+
+// Puts the number of the pair at this place behind the others.
+fn push_place(numbers: &mut Vec<u32>, place: usize) -> Result<(), AllocError> {
+    let Ok(place) = u32::try_from(place) else {
+        return Ok(());
+    };
+    if let Some(number) = place.checked_add(1) {
+        numbers.push(number)?;
+    }
+    Ok(())
+}
+
+impl<'k, 'u, 'p, 'a, 'i> Teller<'k, 'u, 'p, 'a, 'i> {
+    // Whether the pair provides the name.
+    fn is_provider(&self, pair: &Pair<'_, '_>, name: &[u8]) -> Result<bool, AllocError> {
+        let provides = CountingProvides::of_pair(self.alloc(), pair)?;
+        Ok(has_item(provides.items(), name))
+    }
+
+    /// The numbers of the pairs of the name. Memory alone can fail. Linear in the pairs.
+    pub(crate) fn named(&self, name: &[u8]) -> Result<Vec<u32>, AllocError> {
+        let mut numbers = Vec::new(self.alloc());
+        for (place, pair) in self.universe.pairs().iter().enumerate() {
+            if pair.name() == name {
+                push_place(&mut numbers, place)?;
+            }
+        }
+        Ok(numbers)
+    }
+
+    /// The numbers of the pairs that provide the name, whatever the version. Memory alone can fail. Linear in the pairs and in
+    /// what they provide.
+    pub(crate) fn providing(&self, name: &[u8]) -> Result<Vec<u32>, AllocError> {
+        let mut numbers = Vec::new(self.alloc());
+        for (place, pair) in self.universe.pairs().iter().enumerate() {
+            if self.is_provider(pair, name)? {
+                push_place(&mut numbers, place)?;
+            }
+        }
+        Ok(numbers)
+    }
+
+    /// The highest version in the indices that is of the name and meets the restriction. Linear in the stanzas.
+    pub(crate) fn highest(&self, wanted: &Wanted<'_>) -> Option<&'k Version<'i>> {
+        let mut highest = None;
+        for index in self.indices {
+            for entry in index.packages() {
+                highest = higher_in(entry, wanted, highest);
+            }
+        }
+        highest
+    }
+}
+
+/// Whether a stanza of the indices is of the name. Linear in the stanzas.
+pub(crate) fn is_listed(teller: &Teller<'_, '_, '_, '_, '_>, name: &[u8]) -> bool {
+    teller.indices.iter().any(|index| index.packages().iter().any(|entry| entry.name() == name))
+}
