@@ -138,6 +138,14 @@ RUNS = [
     Run("compare", None, "compare", ["1.0~rc1-1", "lt", "1.0-1"], None, said("yes")),
     Run("compare, a refused version", None, "compare", ["1", "eq", "1.0-"], None, refusal("version 2: E6 BadVersion EmptyRevision")),
     Run("help", None, "--help", [], None, "help"),
+    Run("solve --explain, a plan", BROKEN, "solve", ["--explain"], None, "told"),
+    Run("solve --explain, a refutation", AGAINST, "solve", ["--explain"], None, "told"),
+    Run("solve --format json, a plan", NEEDED, "solve", ["--format", "json"], None, "told"),
+    Run("solve --format json, a refutation", AGAINST, "solve", ["--format", "json"], None, "told"),
+    Run("solve --keep-back", AGAINST, "solve", ["--keep-back", "--format", "json"], None, "told"),
+    Run("check-plan --explain, a no", NEEDED, "check-plan", ["--explain"], NO_STEP, "told"),
+    Run("check-plan --explain, a yes", BROKEN, "check-plan", ["--explain", "--format", "json"], BROKEN_PLAN, "told"),
+    Run("candidate --explain", NEEDED, "candidate", ["nobody", "--explain"], None, "told"),
     Run("wrong words", None, "solve", ["--limit"], None, "usage"),
 ]
 
@@ -201,6 +209,8 @@ class Refusing:
         elif wanted in JUDGES:
             self.path("answer").write_bytes(ended.out)
             self.need(ended.err == b"" and self.call(self.words(JUDGES[wanted], [], True)) == said("yes"), "no", wanted, "but", ended)
+        elif wanted == "told":
+            self.need(ended.status in (0, 1) and ended.out, "it ended with", ended)
         else:
             self.need(ended.status == 0 and ended.out if wanted == "help" else ended.status == 4 and ended.err, "it ended with", ended)
         return ended

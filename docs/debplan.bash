@@ -14,11 +14,15 @@ _debplan()
         return
     fi
     case $before in
-        --journal | --output | --preferences | --request | --sources | --status)
+        --journal | --output | --preferences | --request | --request-out | --sources | --status)
             COMPREPLY=($(compgen -f -- "$word"))
             return
             ;;
         --arch | --goal | --limit | --target)
+            return
+            ;;
+        --format)
+            COMPREPLY=($(compgen -W "text json" -- "$word"))
             return
             ;;
     esac
@@ -27,17 +31,17 @@ _debplan()
             COMPREPLY=($(compgen -W "--help lt le eq ne ge gt" -- "$word"))
             ;;
         candidate)
-            COMPREPLY=($(compgen -W "--arch --status --sources --preferences --target --explain --help" -- "$word"))
+            COMPREPLY=($(compgen -W "--arch --status --sources --preferences --target --explain --format --help" -- "$word"))
             ;;
         solve)
-            COMPREPLY=($(compgen -W "--arch --status --sources --preferences --target --request --goal --limit --explain --help" -- "$word"))
+            COMPREPLY=($(compgen -W "--arch --status --sources --preferences --target --request --goal --limit --keep-back --request-out --explain --format --help" -- "$word"))
             ;;
         check-plan)
-            COMPREPLY=($(compgen -W "--arch --status --sources --preferences --target --request --goal --explain --help" -- "$word"))
+            COMPREPLY=($(compgen -W "--arch --status --sources --preferences --target --request --goal --explain --format --help" -- "$word"))
             COMPREPLY+=($(compgen -f -- "$word"))
             ;;
         check-refutation)
-            COMPREPLY=($(compgen -W "--arch --status --sources --preferences --target --request --goal --explain --help" -- "$word"))
+            COMPREPLY=($(compgen -W "--arch --status --sources --preferences --target --request --goal --explain --format --help" -- "$word"))
             COMPREPLY+=($(compgen -f -- "$word"))
             ;;
         apply)

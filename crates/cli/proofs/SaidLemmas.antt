@@ -9,6 +9,9 @@ use Rattle.journal.specs.Payload.{Recorded}
 use Rattle.cli.specs.Applied.{IsSaidOfApplied}
 use Rattle.candidates.specs.Offer.{Offer}
 use Rattle.cli.specs.Calls.{IsSaidOfNames}
+use Rattle.cli.specs.Possible.{IsSaidOfPossible}
+use Rattle.keep_back.specs.KeptBack.{IsKeptBack}
+use Rattle.keep_back.specs.declared.keep_back.KeptBack.{KeptBack}
 use Rattle.cli_engine.specs.Answer.{AreCandidateAnswers, IsAnswer, IsFirstRefusal}
 use Rattle.cli_engine.specs.Meaning.{IsSaid}
 use Rattle.cli_engine.specs.Refuted.{IsFirstRefutationRefusal, IsRefutationAnswer, IsSaidOf}
@@ -42,6 +45,11 @@ pub said_of_request : (texts : Texts) (limit : ℕ) (r : Result Answered Refusal
     → IfOk r (λ found. IsSolution texts limit found) → IfErr r (λ refused. IsRefusal texts refused) → IsSaidOfRequest texts limit r
 said_of_request texts limit (Ok found) answer refused = answer
 said_of_request texts limit (Err e) answer refused = refused
+
+pub said_of_possible : (texts : Texts) (limit : ℕ) (r : Result KeptBack Refusal)
+    → IfOk r (λ kept. IsKeptBack texts limit kept) → IfErr r (λ refused. IsRefusal texts refused) → IsSaidOfPossible texts limit r
+said_of_possible texts limit (Ok kept) answer refused = answer
+said_of_possible texts limit (Err e) answer refused = refused
 
 pub said_of_names : (texts : Texts) (names : List (List ℕ)) (r : Result (List (Option Offer)) Refusal)
     → IfOk r (λ found. AreCandidateAnswers texts names found) → IfErr r (λ refused. IsRefusalBefore texts refused)

@@ -1,17 +1,21 @@
 -- What the program answers to a call over known files.
 use Rattle.std.specs.Prelude.{◌≡◌, ℕ, Bool, List, Option, Result, Ok, Err, None, Some}
+use Rattle.std.specs.Option.{option_map}
 use Rattle.candidates.specs.Offer.{Offer}
 use Rattle.apply_engine.specs.declared.applied.Applied.{Applied}
 use Rattle.apply_engine.specs.declared.refusal.ApplyRefusal.{ApplyRefusal}
 use Rattle.cli.specs.Applied.{IsOutcomeOfApplied, IsSaidOfApplied}
 use Rattle.cli.specs.Files.{Files, shelved_at}
-use Rattle.cli.specs.Outcome.{IsOutcomeOf, IsOutcomeOfCandidates, IsOutcomeOfComparison, IsOutcomeOfRefutation, IsOutcomeOfSolved}
+use Rattle.cli.specs.Outcome.{IsOutcomeIn, IsOutcomeOf, IsOutcomeOfCandidates, IsOutcomeOfComparison, IsOutcomeOfRefutation, IsOutcomeOfSolved}
+use Rattle.cli.specs.Possible.{IsOutcomeOfPossible}
 use Rattle.cli.specs.declared.arguments.Arguments.{Arguments}
 use Rattle.cli.specs.declared.arguments.Call.{Call}
 use Rattle.cli.specs.declared.arguments.Call.TheVariants as call
 use Rattle.cli.specs.declared.arguments.CompareArguments.{CompareArguments}
 use Rattle.cli.specs.declared.outcome.Outcome.{Outcome}
 use Rattle.command_line.specs.Asked.{texts_by}
+use Rattle.command_line.specs.declared.call.Extent.{Extent}
+use Rattle.command_line.specs.declared.call.Extent.TheVariants as reach
 use Rattle.cli_engine.specs.Answer.{AreCandidateAnswers}
 use Rattle.cli_engine.specs.Comparison.{comparison_refusal, holds}
 use Rattle.cli_engine.specs.Meaning.{IsSaid}
@@ -40,27 +44,31 @@ abbrev pub IsSaidOfNames : Texts → List (List ℕ) → Result (List (Option Of
 IsSaidOfNames texts names (Ok found) = AreCandidateAnswers texts names found
 IsSaidOfNames texts names (Err refused) = IsRefusalBefore texts refused
 
--- The outcomes
+-- The outcomes, each in the format that the arguments ask for
 
 -- the outcome is that of what is said of the names by the files
 abbrev pub IsOutcomeOfNames : Files → Arguments → List (List ℕ) → Outcome → Type 0
 IsOutcomeOfNames files arguments names found = (said : Result (List (Option Offer)) Refusal)
-    × IsSaidOfNames (texts_at files arguments) names said × IsOutcomeOfCandidates names said found
+    × (plain : Outcome) × IsSaidOfNames (texts_at files arguments) names said × IsOutcomeOfCandidates names said plain
+    × IsOutcomeIn arguments.format plain found
 
 -- the outcome is that of what is said of the request by the files
 abbrev pub IsOutcomeOfRequest : Files → Arguments → ℕ → Outcome → Type 0
 IsOutcomeOfRequest files arguments limit found = (said : Result Answered Refusal)
-    × IsSaidOfRequest (texts_at files arguments) limit said × IsOutcomeOfSolved said found
+    × (plain : Outcome) × IsSaidOfRequest (texts_at files arguments) limit said × IsOutcomeOfSolved said plain
+    × IsOutcomeIn arguments.format plain found
 
 -- the outcome is that of what is said of the plan by the files
 abbrev pub IsOutcomeOfPlan : Files → Arguments → Outcome → Type 0
 IsOutcomeOfPlan files arguments found = (said : Result Verdict Refusal)
-    × IsSaid (texts_at files arguments) (files arguments.paths.judged.now) said × IsOutcomeOf said found
+    × (plain : Outcome) × IsSaid (texts_at files arguments) (files arguments.paths.judged.now) said × IsOutcomeOf said plain
+    × IsOutcomeIn arguments.format plain found
 
 -- the outcome is that of what is said of the refutation by the files
 abbrev pub IsOutcomeOfLines : Files → Arguments → Outcome → Type 0
 IsOutcomeOfLines files arguments found = (said : Result Refuted Refusal)
-    × IsSaidOf (texts_at files arguments) (files arguments.paths.judged.now) said × IsOutcomeOfRefutation said found
+    × (plain : Outcome) × IsSaidOf (texts_at files arguments) (files arguments.paths.judged.now) said
+    × IsOutcomeOfRefutation said plain × IsOutcomeIn arguments.format plain found
 
 -- the outcome is that of what is said of the versions
 abbrev pub IsOutcomeOfVersions : CompareArguments → Outcome → Type 0
@@ -72,11 +80,17 @@ abbrev pub IsOutcomeOfPlanTaken : Files → Arguments → Outcome → Type 0
 IsOutcomeOfPlanTaken files arguments found = (said : Result Applied ApplyRefusal)
     × IsSaidOfApplied (texts_at files arguments) (files arguments.paths.judged.now) said × IsOutcomeOfApplied said found
 
+-- the outcome is that of what is said of all of the request, or of as much of it as can be
+abbrev pub IsOutcomeOfExtent : Files → Arguments → ℕ → Extent → Outcome → Type 0
+IsOutcomeOfExtent files arguments limit reach.Whole found = IsOutcomeOfRequest files arguments limit found
+IsOutcomeOfExtent files arguments limit (reach.Possible output) found =
+    IsOutcomeOfPossible files arguments limit (option_map (λ path. path.now) output) found
+
 -- the outcome is that of what is said in answer to the call
 abbrev pub IsOutcomeOfCall : Files → Call → Outcome → Type 0
 IsOutcomeOfCall files (call.Compare arguments) found = IsOutcomeOfVersions arguments found
 IsOutcomeOfCall files (call.Candidate arguments names) found = IsOutcomeOfNames files arguments (texts_by names.now) found
-IsOutcomeOfCall files (call.Solve arguments limit) found = IsOutcomeOfRequest files arguments limit found
+IsOutcomeOfCall files (call.Solve arguments limit extent) found = IsOutcomeOfExtent files arguments limit extent found
 IsOutcomeOfCall files (call.CheckPlan arguments) found = IsOutcomeOfPlan files arguments found
 IsOutcomeOfCall files (call.CheckRefutation arguments) found = IsOutcomeOfLines files arguments found
 IsOutcomeOfCall files (call.Apply arguments places) found = IsOutcomeOfPlanTaken files arguments found

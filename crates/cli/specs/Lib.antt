@@ -4,4 +4,5 @@ pub mod Calls
 pub mod Exit
 pub mod Files
 pub mod Outcome
+pub mod Possible
 pub mod Words

@@ -7,6 +7,9 @@ use Rattle.cli.specs.Exit.{code_of, exit_of_candidates, exit_of_comparison, exit
 use Rattle.cli.specs.declared.exit.Exit.TheVariants as exit
 use Rattle.cli.specs.declared.outcome.Outcome.{Outcome}
 use Rattle.cli.specs.declared.outcome.Outcome.TheVariants as outcome
+use Rattle.command_line.specs.declared.call.Format.{Format}
+use Rattle.command_line.specs.declared.call.Format.TheVariants as format
+use Rattle.documents.specs.Document.{IsDocumentOf}
 use Rattle.inputs.specs.declared.refusal.Refusal.{Refusal}
 use Rattle.refutecheck.specs.declared.verdict.Verdict.{Verdict as Refuted}
 use Rattle.rules.specs.declared.step.Verdict.{Verdict}
@@ -46,6 +49,16 @@ abbrev pub IsOutcomeOfCandidates : List (List ℕ) → Result (List (Option Offe
 IsOutcomeOfCandidates names (Ok candidates) found =
     found ≡ outcome.Answer (candidate_lines names candidates) (exit_of_candidates candidates)
 IsOutcomeOfCandidates names (Err refusal) found = IsOutcomeOfRefusal refusal found
+
+-- the text is printed in this format: as it is, or as the line of a JSON object of which it is the member `text`
+abbrev pub IsPrintedAs : Format → List ℕ → List ℕ → Type 0
+IsPrintedAs format.Text text printed = printed ≡ text
+IsPrintedAs format.Json text printed = IsDocumentOf text printed
+
+-- the outcome is this one in the format: an answer is printed in it, with the same exit status, and a complaint is as it was
+abbrev pub IsOutcomeIn : Format → Outcome → Outcome → Type 0
+IsOutcomeIn written (outcome.Answer text ending) found = (printed : List ℕ) × (found ≡ outcome.Answer printed ending) × IsPrintedAs written text printed
+IsOutcomeIn written (outcome.Complaint text ending) found = found ≡ outcome.Complaint text ending
 
 -- the outcome is written, by what standard output held and holds: an answer stands there behind the rest, or the
 -- program ends as where a device fails; of a complaint nothing stands there

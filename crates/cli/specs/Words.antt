@@ -18,9 +18,11 @@ use Rattle.cli.specs.declared.outcome.Outcome.TheVariants as outcome
 use Rattle.cli_engine.specs.declared.comparison.Comparison.{Comparison}
 use Rattle.cli_engine.specs.declared.comparison.Comparison.TheVariants as comparison
 use Rattle.command_line.specs.Asked as ask
-use Rattle.command_line.specs.Asked.{Asked, Given, Request, texts_by}
+use Rattle.command_line.specs.Asked.{Asked, Given, Request, extent_by, texts_by}
 use Rattle.command_line.specs.Joined.{Text, joined}
 use Rattle.command_line.specs.Spelled.{faults_of, spelled}
+use Rattle.command_line.specs.declared.call.Format.{Format}
+use Rattle.command_line.specs.declared.call.Format.TheVariants as form
 use Rattle.command_line.specs.declared.call.Relation.{Relation}
 use Rattle.command_line.specs.declared.call.Relation.TheVariants as relation
 
@@ -46,10 +48,10 @@ goal_lines (ask.goals texts) = lines_of texts
 -- the text of the goals of what is asked for
 abbrev pub goals_of : Asked → Text
 goals_of (ask.compare version word other) = []
-goals_of (ask.candidate given names explains) = []
-goals_of (ask.solve given request limit explains) = goal_lines request
-goals_of (ask.check_plan given request plan explains) = goal_lines request
-goals_of (ask.check_refutation given request refutation explains) = goal_lines request
+goals_of (ask.candidate given names explains written) = []
+goals_of (ask.solve given request limit extent explains written) = goal_lines request
+goals_of (ask.check_plan given request plan explains written) = goal_lines request
+goals_of (ask.check_refutation given request refutation explains written) = goal_lines request
 goals_of (ask.apply given request plan journal output) = goal_lines request
 
 -- the request is there: in the file at its path, or in the text of its goals
@@ -62,8 +64,8 @@ IsAtRequest _ _ = ⊥
 abbrev pub file_path : Text → Text
 file_path path = if bytes_eq path (codes "-") then codes "./-" else path
 
--- the settings and paths are those of the options, with this request and this path of what is judged
-pub record HasGiven (given : Given) (asked : Request) (weighed : Text) (told : Bool) (arguments : Arguments) : Type 0 where
+-- the settings and paths are those of the options, with this request, this path of what is judged, and this way to tell the answer
+pub record HasGiven (given : Given) (asked : Request) (weighed : Text) (told : Bool) (written : Format) (arguments : Arguments) : Type 0 where
   pub arch : arguments.settings.arch.now ≡ given.arch
   pub target : option_map (λ word. word.now) arguments.settings.target ≡ given.target
   pub status : arguments.paths.status.now ≡ file_path given.status
@@ -72,20 +74,22 @@ pub record HasGiven (given : Given) (asked : Request) (weighed : Text) (told : B
   pub request : IsAtRequest asked arguments.paths.request
   pub judged : arguments.paths.judged.now ≡ weighed
   pub explains : arguments.explains ≡ told
+  pub format : arguments.format ≡ written
 
 -- the call is the one that is asked for, by settings and paths
 abbrev pub IsCallOf : Asked → Call → Type 0
 IsCallOf (ask.compare version word other) (call.Compare arguments) = (arguments.version.now ≡ version)
     × (arguments.relation ≡ comparison_of word) × (arguments.other.now ≡ other)
-IsCallOf (ask.candidate given names explains) (call.Candidate arguments named) =
-    HasGiven given (ask.file []) [] explains arguments × (texts_by named.now ≡ names)
-IsCallOf (ask.solve given request limit explains) (call.Solve arguments most) =
-    HasGiven given request [] explains arguments × (most ≡ limit)
-IsCallOf (ask.check_plan given request plan explains) (call.CheckPlan arguments) = HasGiven given request plan explains arguments
-IsCallOf (ask.check_refutation given request refutation explains) (call.CheckRefutation arguments) =
-    HasGiven given request refutation explains arguments
-IsCallOf (ask.apply given request plan journal output) (call.Apply arguments places) = HasGiven given request plan false arguments
-    × (places.journal.now ≡ journal) × (places.output.now ≡ output)
+IsCallOf (ask.candidate given names explains written) (call.Candidate arguments named) =
+    HasGiven given (ask.file []) [] explains written arguments × (texts_by named.now ≡ names)
+IsCallOf (ask.solve given request limit extent explains written) (call.Solve arguments most reach) =
+    HasGiven given request [] explains written arguments × (most ≡ limit) × (extent_by reach ≡ extent)
+IsCallOf (ask.check_plan given request plan explains written) (call.CheckPlan arguments) =
+    HasGiven given request plan explains written arguments
+IsCallOf (ask.check_refutation given request refutation explains written) (call.CheckRefutation arguments) =
+    HasGiven given request refutation explains written arguments
+IsCallOf (ask.apply given request plan journal output) (call.Apply arguments places) =
+    HasGiven given request plan false form.Text arguments × (places.journal.now ≡ journal) × (places.output.now ≡ output)
 IsCallOf _ _ = ⊥
 
 -- what is printed of an error of this kind: help or the version as an answer, and else how the words are wrong

@@ -5,11 +5,11 @@ ghost use Rattle.command_line.specs.Asked.{Request as RequestOf, asked_by, given
 
 use crate::files::{Paths, TextAt};
 use cli_engine::{Comparison, Settings};
-use command_line::{Call as Asked, Options, Relation, Request};
+use command_line::{Call as Asked, Extent, Format, Options, Relation, Request};
 use std::alloc::{AllocError, Global};
 
-/// What an answer is given by: for which architecture texts are read, which release is preferred, where the texts are, and whether
-/// sentences are wanted beside it.
+/// What an answer is given by: for which architecture texts are read, which release is preferred, where the texts are, whether
+/// sentences are wanted beside it, and how it is written.
 #[derive(Clone, Copy)]
 pub(crate) struct Arguments<'a> {
     /// The architecture, and the target release.
@@ -18,6 +18,8 @@ pub(crate) struct Arguments<'a> {
     pub(crate) paths: Paths<'a>,
     /// Whether sentences on the answer are wanted.
     pub(crate) explains: bool,
+    /// How the answer is written.
+    pub(crate) format: Format,
 }
 
 /// What two versions are to be compared as.
@@ -47,8 +49,8 @@ pub(crate) enum Call<'a> {
     Compare(CompareArguments<'a>),
     /// To name the candidate of each of these names, which need not be those of packages.
     Candidate(Arguments<'a>, &'a [&'a str]),
-    /// To solve a request, with at most so many conflicts of the search.
-    Solve(Arguments<'a>, u32),
+    /// To solve a request to this extent, with at most so many conflicts of the search.
+    Solve(Arguments<'a>, u32, Extent<'a>),
     /// To judge a plan.
     CheckPlan(Arguments<'a>),
     /// To judge a refutation.
@@ -76,35 +78,48 @@ pub(crate) fn call_by<'a>(asked: &'a Asked<'a>, goals: &'a [u8]) -> Call<'a>
             options,
             names,
             explains,
+            format,
         } => Call::Candidate(
-            arguments_by(options, TextAt::File(""), "", *explains),
+            arguments_by(options, TextAt::File(""), "", *explains, *format),
             names.as_slice(),
         ),
         Asked::Solve {
             options,
             request,
             limit,
+            extent,
             explains,
+            format,
         } => Call::Solve(
-            arguments_by(options, place_of(request, goals), "", *explains),
+            arguments_by(options, place_of(request, goals), "", *explains, *format),
             *limit,
+            *extent,
         ),
         Asked::CheckPlan {
             options,
             request,
             plan,
             explains,
-        } => Call::CheckPlan(arguments_by(options, place_of(request, goals), *plan, *explains)),
+            format,
+        } => Call::CheckPlan(arguments_by(
+            options,
+            place_of(request, goals),
+            *plan,
+            *explains,
+            *format,
+        )),
         Asked::CheckRefutation {
             options,
             request,
             refutation,
             explains,
+            format,
         } => Call::CheckRefutation(arguments_by(
             options,
             place_of(request, goals),
             *refutation,
             *explains,
+            *format,
         )),
         Asked::Apply {
             options,
@@ -113,7 +128,13 @@ pub(crate) fn call_by<'a>(asked: &'a Asked<'a>, goals: &'a [u8]) -> Call<'a>
             journal,
             output,
         } => Call::Apply(
-            arguments_by(options, place_of(request, goals), *plan, false),
+            arguments_by(
+                options,
+                place_of(request, goals),
+                *plan,
+                false,
+                Format::Text,
+            ),
             Places {
                 journal: *journal,
                 output: *output,
@@ -188,9 +209,10 @@ fn arguments_by<'a>(
     request: TextAt<'a>,
     judged: &'a str,
     explains: bool,
+    format: Format,
 ) -> Arguments<'a>
     ensures { (asked : RequestOf) → IsAtRequest asked request.entry
-        → HasGiven (given_by options.now) asked judged.entry.now explains result }
+        → HasGiven (given_by options.now) asked judged.entry.now explains format result }
 {
     Arguments {
         settings: settings_by(options),
@@ -202,6 +224,7 @@ fn arguments_by<'a>(
             judged,
         },
         explains,
+        format,
     }
 }
 

@@ -11,7 +11,9 @@ mod files;
 mod find;
 mod host;
 mod judge;
+mod members;
 mod outcome;
+mod possible;
 mod print;
 mod program;
 mod solve;
@@ -40,5 +42,6 @@ pub use outcome::{
     Outcome, outcome_of_answer, outcome_of_candidates, outcome_of_comparison,
     outcome_of_refutation, outcome_of_solved,
 };
+pub use possible::solve_possible;
 pub use program::{refuse_for_memory, run};
 pub use solve::solve_request;

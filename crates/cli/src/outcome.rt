@@ -7,7 +7,7 @@ ghost use Rattle.cli.specs.declared.exit.Exit.TheVariants as exit;
 ghost use Rattle.cli.specs.Applied.{IsUnwritten};
 ghost use Rattle.cli.specs.Exit.{exit_of_apply_refusal};
 ghost use Rattle.cli.specs.declared.outcome.Outcome.TheVariants as found;
-ghost use Rattle.cli.specs.Outcome.{IsComplaint, IsOutcomeOf, IsOutcomeOfCandidates, IsOutcomeOfComparison, IsOutcomeOfRefusal, IsOutcomeOfRefutation, IsOutcomeOfSolved};
+ghost use Rattle.cli.specs.Outcome.{IsComplaint, IsOutcomeOf, IsOutcomeIn, IsOutcomeOfCandidates, IsOutcomeOfComparison, IsOutcomeOfRefusal, IsOutcomeOfRefutation, IsOutcomeOfSolved, IsPrintedAs};
 
 use crate::answer::{
     applied_line, candidate_lines, comparison_line, refutation_line, solved_text, verdict_line,
@@ -21,7 +21,8 @@ use apply_engine::{ApplyRefusal, JournalFault};
 use clap::Error;
 use clap::error::ErrorKind;
 use cli_engine::{Answered, Candidate, Refusal, RefutationVerdict};
-use command_line::COMMANDS;
+use command_line::{COMMANDS, Format};
+use documents::{Members, document};
 use journal::{CreateError, OpenError};
 use rules::{Items, Verdict};
 use std::alloc::{AllocError, Global};
@@ -119,6 +120,39 @@ pub fn outcome_of_candidates(
             Ok(Outcome::Answer(lines, exit))
         }
         Err(refusal) => outcome_of_refusal(alloc, refusal),
+    }
+}
+
+/// What is printed of this outcome in the format, which is a document with these members where it is JSON. Memory alone can fail.
+pub(crate) fn outcome_in(
+    alloc: Global,
+    format: Format,
+    outcome: Outcome,
+    members: Members,
+) -> Result<Outcome, AllocError>
+    ensures { IfOk result (IsOutcomeIn format outcome) }
+{
+    match outcome {
+        Outcome::Answer(text, exit) => {
+            let printed = printed_as(alloc, format, text, members)?;
+            Ok(Outcome::Answer(printed, exit))
+        }
+        Outcome::Complaint(text, exit) => Ok(Outcome::Complaint(text, exit)),
+    }
+}
+
+// The text in the format.
+fn printed_as(
+    alloc: Global,
+    format: Format,
+    text: Items<u8>,
+    members: Members,
+) -> Result<Items<u8>, AllocError>
+    ensures { IfOk result (IsPrintedAs format text) }
+{
+    match format {
+        Format::Text => Ok(text),
+        Format::Json => Ok(Items::new(document(alloc, members, text.as_slice())?)),
     }
 }
 

@@ -1,7 +1,7 @@
 // The whole program over a host.
 ghost use Rattle.std.specs.Prelude.{◌≡◌, ◌⊎◌, IfOk, Some, map};
 ghost use Rattle.cli.specs.Applied.{IsOutcomeOfDone, IsOutcomeOfSteps, IsSaidOfApplied};
-ghost use Rattle.cli.specs.Calls.{IsOutcomeOfCall, IsOutcomeOfLines, IsOutcomeOfNames, IsOutcomeOfPlan, IsOutcomeOfPlanTaken, IsOutcomeOfRequest, IsOutcomeOfVersions, IsSaidOfVersions, texts_at};
+ghost use Rattle.cli.specs.Calls.{IsOutcomeOfCall, IsOutcomeOfExtent, IsOutcomeOfLines, IsOutcomeOfNames, IsOutcomeOfPlan, IsOutcomeOfPlanTaken, IsOutcomeOfRequest, IsOutcomeOfVersions, IsSaidOfVersions, texts_at};
 ghost use Rattle.cli.specs.Files.{Files};
 ghost use Rattle.cli.specs.Outcome.{IsWritten};
 ghost use Rattle.cli.specs.Words.{IsOutcomeOfAsked, IsOutcomeOfMemory, IsOutcomeOfWords};
@@ -15,23 +15,27 @@ use crate::files::{HostShelf, Seen};
 use crate::find::find_candidates;
 use crate::host::{Host, PutError};
 use crate::judge::{check_plan, check_refutation};
+use crate::members::{members_of_names, members_of_plan, members_of_refutation, members_of_solved};
 use crate::outcome::{
-    Outcome, outcome_of_answer, outcome_of_apply_refusal, outcome_of_candidates,
+    Outcome, outcome_in, outcome_of_answer, outcome_of_apply_refusal, outcome_of_candidates,
     outcome_of_comparison, outcome_of_refutation, outcome_of_solved, outcome_of_steps,
     outcome_of_unwritten, outcome_of_usage,
 };
+use crate::possible::outcome_of_possible;
 use crate::print::{complain, print};
 use crate::solve::solve_request;
 use crate::told::{tell_refusal, tell_undecided, tell_unfinished};
 use apply_engine::{Applied, ApplyRefusal, CarriedOut};
 use cli_engine::{Refusal, Sentences, compare};
-use command_line::{Call as Asked, call_of, joined, mistake, texts_of};
+use command_line::{Call as Asked, Extent, Format, call_of, joined, mistake, texts_of};
+use documents::Members;
 use std::alloc::{AllocError, Global};
 use std::io::Write;
 
 /// Runs the program on the words of its command line, of which the first is its own name, and gives its exit status.
-/// It opens each file once, at its turn, and none behind a refusal. It writes nothing but its answer or one refusal, and where the
-/// words ask for them, sentences behind that on standard error.
+/// It opens each file once, at its turn, and none behind a refusal; the sources and the indices of a plan that is written as JSON a
+/// second time, behind the answer. It writes nothing but its answer or one refusal, and where the words ask for them, sentences behind
+/// that on standard error.
 pub fn run<H: Host, W: Write, E: Write>(
     alloc: Global,
     words: &[Vec<u8>],
@@ -59,7 +63,7 @@ fn run_telling<H: Host, W: Write, E: Write>(
         ⊎ IsOutcomeOfMemory found) × IsWritten found (W.contents out.old) (W.contents out.new) result }
 {
     match outcome_of_words(alloc, words, host, told) {
-        Ok(outcome) => print(&outcome, told.text.as_slice(), out, err),
+        Ok(outcome) => print(&outcome, told.shown_text(), out, err),
         Err(AllocError) => refuse_for_memory(err),
     }
 }
@@ -116,15 +120,47 @@ fn outcome_of_call<H: Host>(
     match call {
         Call::Compare(arguments) => outcome_of_versions(alloc, arguments),
         Call::Candidate(arguments, names) => outcome_of_names(alloc, host, arguments, names, told),
-        Call::Solve(arguments, limit) => outcome_of_request(alloc, host, arguments, *limit, told),
+        Call::Solve(arguments, limit, extent) => {
+            outcome_of_extent(alloc, host, arguments, *limit, extent, told)
+        }
         Call::CheckPlan(arguments) => outcome_of_plan(alloc, host, arguments, told),
         Call::CheckRefutation(arguments) => outcome_of_lines(alloc, host, arguments, told),
         Call::Apply(arguments, places) => outcome_of_applied(alloc, host, arguments, places),
     }
 }
 
-// What is remembered of the texts, where sentences are wanted.
-fn seen_if(alloc: Global, explains: bool) -> Option<Seen> {
+// What is printed of the answer to so much of the request.
+fn outcome_of_extent<H: Host>(
+    alloc: Global,
+    host: &mut H,
+    arguments: &Arguments<'_>,
+    limit: u32,
+    extent: &Extent<'_>,
+    told: &mut Sentences,
+) -> Result<Outcome, AllocError>
+    ensures { (at : Files) → H.files host.old ≡ Some at
+        → IfOk result (λ outcome. IsOutcomeOfExtent at arguments.now limit extent.now outcome) }
+{
+    match extent {
+        Extent::Whole => outcome_of_request(alloc, host, arguments, limit, told),
+        Extent::Possible(output) => {
+            outcome_of_possible(alloc, host, arguments, limit, *output, told)
+        }
+    }
+}
+
+/// Notes what is wanted beside the answer.
+pub(crate) fn ask(alloc: Global, arguments: &Arguments<'_>, told: &mut Sentences) {
+    told.shown = arguments.explains;
+    told.wanted = arguments.explains;
+    if let Format::Json = arguments.format {
+        told.wanted = true;
+        told.members = Some(Members::new(alloc));
+    }
+}
+
+/// What is remembered of the texts, where sentences are wanted.
+pub(crate) fn seen_if(alloc: Global, explains: bool) -> Option<Seen> {
     if explains {
         Some(Seen::new(alloc))
     } else {
@@ -143,17 +179,20 @@ fn outcome_of_names<H: Host>(
     ensures { (at : Files) → H.files host.old ≡ Some at → IfOk result (λ outcome.
         IsOutcomeOfNames at arguments.now (map (λ name. name.now) names.now) outcome) }
 {
-    told.wanted = arguments.explains;
+    ask(alloc, arguments, told);
     let Arguments {
         settings,
         paths,
         explains,
+        format,
     } = *arguments;
     let seen = seen_if(alloc, explains);
     let mut shelf = HostShelf { host, paths, seen };
     let answer = find_candidates(alloc, &mut shelf, &settings, names, told);
     tell_refusal(alloc, &answer, &paths, shelf.seen.as_ref(), told)?;
-    outcome_of_candidates(alloc, names, &answer)
+    let members = members_of_names(alloc, names, &answer, told)?;
+    let plain = outcome_of_candidates(alloc, names, &answer)?;
+    outcome_in(alloc, format, plain, members)
 }
 
 // What is printed of the answer to the request.
@@ -166,18 +205,21 @@ fn outcome_of_request<H: Host>(
 ) -> Result<Outcome, AllocError>
     ensures { (at : Files) → H.files host.old ≡ Some at → IfOk result (λ outcome. IsOutcomeOfRequest at arguments.now limit outcome) }
 {
-    told.wanted = arguments.explains;
+    ask(alloc, arguments, told);
     let Arguments {
         settings,
         paths,
         explains,
+        format,
     } = *arguments;
     let seen = seen_if(alloc, explains);
     let mut shelf = HostShelf { host, paths, seen };
     let answer = solve_request(alloc, &mut shelf, &settings, limit, told);
     tell_refusal(alloc, &answer, &paths, shelf.seen.as_ref(), told)?;
     tell_undecided(&answer, told)?;
-    outcome_of_solved(alloc, &answer)
+    let members = members_of_solved(alloc, &mut shelf, &settings, &answer, told)?;
+    let plain = outcome_of_solved(alloc, &answer)?;
+    outcome_in(alloc, format, plain, members)
 }
 
 // What is printed of the answer to the plan.
@@ -189,18 +231,21 @@ fn outcome_of_plan<H: Host>(
 ) -> Result<Outcome, AllocError>
     ensures { (at : Files) → H.files host.old ≡ Some at → IfOk result (λ outcome. IsOutcomeOfPlan at arguments.now outcome) }
 {
-    told.wanted = arguments.explains;
+    ask(alloc, arguments, told);
     let Arguments {
         settings,
         paths,
         explains,
+        format,
     } = *arguments;
     let seen = seen_if(alloc, explains);
     let mut shelf = HostShelf { host, paths, seen };
     let answer = check_plan(alloc, &mut shelf, &settings, told);
     tell_refusal(alloc, &answer, &paths, shelf.seen.as_ref(), told)?;
     tell_unfinished(&answer, told)?;
-    outcome_of_answer(alloc, &answer)
+    let members = members_of_plan(alloc, &mut shelf, &settings, &answer, told)?;
+    let plain = outcome_of_answer(alloc, &answer)?;
+    outcome_in(alloc, format, plain, members)
 }
 
 // What is printed of the answer to the lines of the refutation.
@@ -212,17 +257,20 @@ fn outcome_of_lines<H: Host>(
 ) -> Result<Outcome, AllocError>
     ensures { (at : Files) → H.files host.old ≡ Some at → IfOk result (λ outcome. IsOutcomeOfLines at arguments.now outcome) }
 {
-    told.wanted = arguments.explains;
+    ask(alloc, arguments, told);
     let Arguments {
         settings,
         paths,
         explains,
+        format,
     } = *arguments;
     let seen = seen_if(alloc, explains);
     let mut shelf = HostShelf { host, paths, seen };
     let answer = check_refutation(alloc, &mut shelf, &settings, told);
     tell_refusal(alloc, &answer, &paths, shelf.seen.as_ref(), told)?;
-    outcome_of_refutation(alloc, &answer)
+    let members = members_of_refutation(alloc, &answer, told)?;
+    let plain = outcome_of_refutation(alloc, &answer)?;
+    outcome_in(alloc, format, plain, members)
 }
 
 // What is printed of the plan that is to be carried out.

@@ -208,11 +208,16 @@ pub(crate) fn tell_undecided(
     told: &mut Sentences,
 ) -> Result<(), AllocError> {
     match answer {
-        Ok(found) => match &found.solved {
-            Solved::Undecided(why) => told.add(why_undecided(why)),
-            _ => Ok(()),
-        },
+        Ok(found) => tell_unsolved(&found.solved, told),
         Err(_) => Ok(()),
+    }
+}
+
+/// Tells why this answer is undecided, where it is and that is asked for. Memory alone can fail.
+pub(crate) fn tell_unsolved(solved: &Solved, told: &mut Sentences) -> Result<(), AllocError> {
+    match solved {
+        Solved::Undecided(why) => told.add(why_undecided(why)),
+        Solved::Plan(_) | Solved::Refuted(_) => Ok(()),
     }
 }
 

@@ -1,4 +1,5 @@
 pub mod AnswerLemmas
+pub mod GoodLemmas
 pub mod NameLemmas
 pub mod ReadingLemmas
 pub mod RefutedLemmas

@@ -10,7 +10,9 @@ ghost use Rattle.inputs.specs.Texts.{Shelved, texts_of};
 ghost use Rattle.status_text.specs.Slot.{slot_records};
 ghost use Rattle.cli_engine.specs.Answer.{AreCandidateAnswers, AreCandidatesOf, IsCandidateAnswer};
 
+use crate::nameless::tell_nameless;
 use crate::offered::Candidate;
+use crate::requested::tell_idle_inputs;
 use crate::sentences::Sentences;
 use candidates::candidate;
 use index::Index;
@@ -84,6 +86,15 @@ pub fn candidates_from<S: Shelf>(
     let indices = lend_indices(alloc, kept.as_slice(), releases)?;
     let prefs = read_preferences(alloc, shelf, settings)?;
     let found = candidates_over(alloc, &status_file, indices.as_slice(), &prefs, names)?;
+    tell_idle_inputs(alloc, &status_file, indices.as_slice(), &prefs, told)?;
+    tell_nameless(
+        alloc,
+        &status_file,
+        indices.as_slice(),
+        names,
+        found.as_slice(),
+        told,
+    )?;
     Ok(Items::new(found))
 }
 

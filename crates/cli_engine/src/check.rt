@@ -9,12 +9,14 @@ ghost use Rattle.rules.specs.Verdict.{IsBuiltOn, IsVerdict};
 ghost use Rattle.status_text.specs.Slot.{slot_records};
 ghost use Rattle.cli_engine.specs.Answer.{IsAnswer, IsFirstRefusal};
 
+use crate::judged::judge_telling;
 use crate::plan::read_steps;
+use crate::requested::read_asked;
 use crate::sentences::Sentences;
 use index::KeptIndex;
 use inputs::{
-    Inputs, MemoryShelf, Refusal, Settings, Shelf, lend_indices, read_listed, read_preferences,
-    read_status, read_status_file, read_universe,
+    Inputs, MemoryShelf, Refusal, Requested, Settings, Shelf, lend_indices, read_listed,
+    read_preferences, read_status, read_status_file,
 };
 use plancheck::check_plan;
 use plancheck_state::{parse_packages, view};
@@ -63,16 +65,18 @@ fn check_over<'k, 'a: 'k, S: Shelf>(
 {
     let indices = lend_indices(alloc, kept, releases)?;
     let prefs = read_preferences(alloc, shelf, settings)?;
-    let universe = read_universe(
+    let Requested { universe, .. } = read_asked(
         alloc,
         shelf,
         settings,
         status_file,
         indices.as_slice(),
         &prefs,
+        told,
     )?;
     let steps = read_steps(alloc, shelf)?;
-    let verdict = judge(alloc, status_file, &universe, steps.as_slice())?;
+    let verdict = judge_telling(alloc, status_file, &universe, steps.as_slice(), told)?;
+    told.keep_steps(steps);
     Ok(verdict)
 }
 

@@ -16,12 +16,12 @@ ghost use Rattle.cli_engine.specs.Refuted.{AreRefuted, IsFirstRefutationRefusal,
 
 use crate::laws::yes_refutes;
 use crate::refuted::tell_accepted;
+use crate::requested::read_asked;
 use crate::sentences::Sentences;
 use index::KeptIndex;
 use inputs::{
     Fault, Input, Inputs, MemoryShelf, Part, Refusal, Requested, Settings, Shelf, lend_indices,
-    read_listed, read_part, read_preferences, read_requested, read_status, read_status_file,
-    refused_at,
+    read_listed, read_part, read_preferences, read_status, read_status_file, refused_at,
 };
 use refutation::Refutation;
 use refutation_text::{RefutationError, read_refutation};
@@ -84,13 +84,14 @@ fn check_over<'k, 'a: 'k, S: Shelf>(
     let Requested {
         universe,
         asks_all_versions,
-    } = read_requested(
+    } = read_asked(
         alloc,
         shelf,
         settings,
         status_file,
         indices.as_slice(),
         &prefs,
+        told,
     )?;
     let refutation = read_lines(alloc, shelf)?;
     let found = check_refutation(alloc, &universe, &refutation)?;

@@ -8,10 +8,13 @@ mod candidate;
 mod check;
 mod check_refutation;
 mod comparison;
+mod judged;
 mod laws;
+mod nameless;
 mod offered;
 mod plan;
 mod refuted;
+mod requested;
 mod sentences;
 mod solve;
 
@@ -28,7 +31,9 @@ pub use laws::{
 pub use offered::Candidate;
 pub use plan::read_steps;
 pub use refutecheck::Verdict as RefutationVerdict;
+pub use refuted::tell_solved;
+pub use requested::{tell_idle_inputs, tell_unknown};
 pub use rules::{Reason, Rule, Verdict};
 pub use sentences::Sentences;
-pub use solve::{Answered, solve_bytes, solve_from};
+pub use solve::{Answered, solve_bytes, solve_from, solve_over};
 pub use solver::{Solved, Undecided};

@@ -1,17 +1,52 @@
-//! The reasons of a refutation, told where they are asked for.
+//! The reasons of a refutation and the changes of a plan, told where they are asked for.
 ghost use Rattle.std.specs.Prelude.{◌≡◌, ◌^◌, ◌<◌, false, length};
+ghost use Rattle.rules.specs.Verdict.{IsBuiltOn};
+ghost use Rattle.status_text.specs.Slot.{slot_records};
 ghost use Rattle.universe.specs.Universe.{HaveDistinctNames};
+ghost use Rattle.cli_engine.specs.Good.{IsGoodIfPlan};
 
+use crate::judged::tell_judged;
 use crate::sentences::Sentences;
+use documents::put_lines;
 use index::Index;
 use reasons::{core, sentences};
 use refutation::Refutation;
-use refutecheck::Verdict;
+use refutecheck::Verdict as RefutationVerdict;
+use rules::Verdict;
 use solver::Solved;
+use status_text::StatusFile;
 use std::alloc::{AllocError, Global};
 use universe::Universe;
 
-// Tells a sentence for each premise of a core of the refutation, where sentences are asked for. Memory alone can fail.
+// Puts the lines of the refutation among the members of a document, where there is to be one. Memory alone can fail.
+fn add_lines(
+    alloc: Global,
+    universe: &Universe<'_, '_>,
+    refutation: &Refutation,
+    told: &mut Sentences,
+) -> Result<(), AllocError> {
+    match &mut told.members {
+        None => Ok(()),
+        Some(members) => put_lines(alloc, members, universe, refutation),
+    }
+}
+
+// Puts the lines of a refutation that isn't accepted among the members of a document, where one is asked for. Memory alone can fail.
+fn tell_lines(
+    alloc: Global,
+    universe: &Universe<'_, '_>,
+    refutation: &Refutation,
+    told: &mut Sentences,
+) -> Result<(), AllocError>
+    ensures unasked { told.old.wanted ≡ false → told.new ≡ told.old }
+{
+    if !told.wanted {
+        return Ok(());
+    }
+    add_lines(alloc, universe, refutation, told)
+}
+
+// Tells a sentence for each premise of a core of the refutation, and its lines, where that is asked for. Memory alone can fail.
 fn tell_refuted(
     alloc: Global,
     universe: &Universe<'_, '_>,
@@ -27,18 +62,20 @@ fn tell_refuted(
     if !told.wanted {
         return Ok(());
     }
+    add_lines(alloc, universe, refutation, told)?;
     let shorter = core(alloc, universe, refutation)?;
     let text = sentences(alloc, universe, indices, &shorter, asks_all_versions)?;
     told.add(text.as_slice())
 }
 
-/// Tells the reasons of a refutation with this verdict, if it is accepted, where sentences are asked for. Memory alone can fail.
+/// Tells the reasons of a refutation with this verdict, if it is accepted, and its lines, where that is asked for. Memory alone can
+/// fail.
 pub(crate) fn tell_accepted(
     alloc: Global,
     universe: &Universe<'_, '_>,
     indices: &[Index<'_>],
     refutation: &Refutation,
-    verdict: Verdict,
+    verdict: RefutationVerdict,
     asks_all_versions: bool,
     told: &mut Sentences,
 ) -> Result<(), AllocError>
@@ -47,7 +84,7 @@ pub(crate) fn tell_accepted(
     ensures unasked { told.old.wanted ≡ false → told.new ≡ told.old }
 {
     match verdict {
-        Verdict::Yes => tell_refuted(
+        RefutationVerdict::Yes => tell_refuted(
             alloc,
             universe,
             indices,
@@ -55,14 +92,16 @@ pub(crate) fn tell_accepted(
             asks_all_versions,
             told,
         ),
-        Verdict::No(_) => Ok(()),
+        RefutationVerdict::No(_) => tell_lines(alloc, universe, refutation, told),
     }
 }
 
-/// Tells the reasons of an answer to a request, if it is a refutation, where sentences are asked for. Memory alone can fail.
-pub(crate) fn tell_solved(
+/// Tells the reasons of an answer to a request, if it is a refutation, with its lines, and what it changes, if it is a plan, where that
+/// is asked for. Memory alone can fail.
+pub fn tell_solved<'a>(
     alloc: Global,
-    universe: &Universe<'_, '_>,
+    status_file: &StatusFile<'a>,
+    universe: &Universe<'_, 'a>,
     indices: &[Index<'_>],
     solved: &Solved,
     asks_all_versions: bool,
@@ -70,6 +109,8 @@ pub(crate) fn tell_solved(
 ) -> Result<(), AllocError>
     requires few { length universe.now.pairs < 2 ^ 32 }
     requires distinct { HaveDistinctNames universe.now.starts }
+    requires built { IsBuiltOn (slot_records status_file.now.slots) universe.now }
+    requires good { IsGoodIfPlan universe.now (slot_records status_file.now.slots) solved.now }
     ensures unasked { told.old.wanted ≡ false → told.new ≡ told.old }
 {
     match solved {
@@ -83,6 +124,14 @@ pub(crate) fn tell_solved(
                 told,
             )
         }
-        Solved::Plan(_) | Solved::Undecided(_) => Ok(()),
+        Solved::Plan(steps) => tell_judged(
+            alloc,
+            status_file,
+            universe,
+            steps.as_slice(),
+            &Verdict::Yes,
+            told,
+        ),
+        Solved::Undecided(_) => Ok(()),
     }
 }

@@ -13,12 +13,13 @@ ghost use Rattle.status_text.specs.Slot.{slot_records};
 ghost use Rattle.cli_engine.specs.Solution.{IsSolution};
 
 use crate::refuted::tell_solved;
+use crate::requested::read_asked;
 use crate::sentences::Sentences;
 use fixed_order::{has_names, has_pair_names};
 use index::KeptIndex;
 use inputs::{
     Inputs, MemoryShelf, Refusal, Requested, Settings, Shelf, lend_indices, read_listed,
-    read_preferences, read_requested, read_status, read_status_file,
+    read_preferences, read_status, read_status_file,
 };
 use plancheck_state::{parse_packages, view};
 use rules::Release;
@@ -36,9 +37,10 @@ pub struct Answered {
     pub asks_all_versions: bool,
 }
 
-// Solves the request of the universe from this status file on. What is read has package names alone, and of a shelf that doesn't
-// say what is found on it no contract says so: names are looked at once more, and one that is none is as want of memory.
-fn solve_over<'a>(
+/// Solves the request of the universe from this status file on. What is read has package names alone, and of a shelf that doesn't
+/// say what is found on it no contract says so: names are looked at once more, and one that is none is as want of memory. Costs what
+/// `solver::solve` costs. Memory alone can fail.
+pub fn solve_over<'a>(
     alloc: Global,
     status_file: &StatusFile<'a>,
     universe: &Universe<'_, 'a>,
@@ -85,17 +87,19 @@ fn solve_by<'k, 'a: 'k, S: Shelf>(
     let Requested {
         universe,
         asks_all_versions,
-    } = read_requested(
+    } = read_asked(
         alloc,
         shelf,
         settings,
         status_file,
         indices.as_slice(),
         &prefs,
+        told,
     )?;
     let solved = solve_over(alloc, status_file, &universe, limit)?;
     tell_solved(
         alloc,
+        status_file,
         &universe,
         indices.as_slice(),
         &solved,

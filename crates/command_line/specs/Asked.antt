@@ -4,6 +4,9 @@ use Rattle.std.specs.Borrow.{Bor}
 use Rattle.command_line.specs.Joined.{Text}
 use Rattle.command_line.specs.declared.call.Call.{Call}
 use Rattle.command_line.specs.declared.call.Call.TheVariants as call
+use Rattle.command_line.specs.declared.call.Extent.{Extent as ExtentHeld}
+use Rattle.command_line.specs.declared.call.Extent.TheVariants as reach
+use Rattle.command_line.specs.declared.call.Format.{Format}
 use Rattle.command_line.specs.declared.call.Options.{Options}
 use Rattle.command_line.specs.declared.call.Relation.{Relation}
 use Rattle.command_line.specs.declared.call.Request.{Request as RequestHeld}
@@ -24,18 +27,25 @@ pub data Request : Type 0 where
   -- its goals, in their order
   goals : List Text → Request
 
--- one of the calls of the program; the last of a call that may explain is whether it does
+-- how much of a request has to be fulfilled
+pub data Extent : Type 0 where
+  -- all of it
+  whole : Extent
+  -- as much as can be, with the path of what is left of it, if there is one
+  possible : Option Text → Extent
+
+-- one of the calls of the program; the last two of one whose answer may be told in another way are whether it explains, and the format
 pub data Asked : Type 0 where
   -- the version, its relation, and the other version
   compare : Text → Relation → Text → Asked
   -- the names
-  candidate : Given → List Text → Bool → Asked
-  -- the request, and the limit
-  solve : Given → Request → ℕ → Bool → Asked
+  candidate : Given → List Text → Bool → Format → Asked
+  -- the request, the limit, and how much of the request has to be fulfilled
+  solve : Given → Request → ℕ → Extent → Bool → Format → Asked
   -- the request, and the plan
-  check_plan : Given → Request → Text → Bool → Asked
+  check_plan : Given → Request → Text → Bool → Format → Asked
   -- the request, and the refutation
-  check_refutation : Given → Request → Text → Bool → Asked
+  check_refutation : Given → Request → Text → Bool → Format → Asked
   -- the request, the plan, the journal, and the output
   apply : Given → Request → Text → Text → Text → Asked
 
@@ -47,6 +57,11 @@ texts_by words = map (λ word. word.now) words
 abbrev pub request_by : RequestHeld → Request
 request_by (held.File path) = file path.now
 request_by (held.Goals words) = goals (texts_by words.items)
+
+-- how much of a request has to be fulfilled, in texts
+abbrev pub extent_by : ExtentHeld → Extent
+extent_by reach.Whole = whole
+extent_by (reach.Possible path) = possible (option_map (λ word. word.now) path)
 
 -- the options, in texts
 abbrev pub given_by : Options → Given
@@ -61,10 +76,11 @@ given_by options = record {
 -- the call, in texts
 abbrev pub asked_by : Call → Asked
 asked_by (call.Compare version relation other) = compare version.now relation other.now
-asked_by (call.Candidate options names explains) = candidate (given_by options) (texts_by names.items) explains
-asked_by (call.Solve options request limit explains) = solve (given_by options) (request_by request) limit explains
-asked_by (call.CheckPlan options request plan explains) = check_plan (given_by options) (request_by request) plan.now explains
-asked_by (call.CheckRefutation options request refutation explains) =
-    check_refutation (given_by options) (request_by request) refutation.now explains
+asked_by (call.Candidate options names explains format) = candidate (given_by options) (texts_by names.items) explains format
+asked_by (call.Solve options request limit extent explains format) =
+    solve (given_by options) (request_by request) limit (extent_by extent) explains format
+asked_by (call.CheckPlan options request plan explains format) = check_plan (given_by options) (request_by request) plan.now explains format
+asked_by (call.CheckRefutation options request refutation explains format) =
+    check_refutation (given_by options) (request_by request) refutation.now explains format
 asked_by (call.Apply options request plan journal output) =
     apply (given_by options) (request_by request) plan.now journal.now output.now

@@ -20,6 +20,10 @@ optional_options = codes "--preferences" ∷ codes "--target" ∷ []
 abbrev pub request_options : List Text
 request_options = codes "--request" ∷ codes "--goal" ∷ []
 
+-- the options that say where what is left of a request is written, and how the answer is
+abbrev pub answer_options : List Text
+answer_options = codes "--request-out" ∷ codes "--format" ∷ []
+
 -- the options that some of these commands have beside them
 abbrev pub own_options : List Text
 own_options = codes "--limit" ∷ codes "--journal" ∷ codes "--output" ∷ []
@@ -28,9 +32,10 @@ own_options = codes "--limit" ∷ codes "--journal" ∷ codes "--output" ∷ []
 abbrev pub is_among : List Text → Text → Bool
 is_among options word = list_any (λ option. bytes_eq option word) options
 
--- the word is an option that takes a value, as all do but `--explain` and those for help and the version
+-- the word is an option that takes a value, as all do but `--explain`, `--keep-back` and those for help and the version
 unfoldable pub takes_value : Text → Bool
-takes_value word = is_among needed_options word || is_among optional_options word || is_among request_options word || is_among own_options word
+takes_value word = is_among needed_options word || is_among optional_options word || is_among request_options word
+    || is_among answer_options word || is_among own_options word
 
 -- the word ends the options: each word behind it stands for itself
 abbrev pub ends_options : Text → Bool

@@ -49,23 +49,32 @@ compare_command = command (codes "compare") (word (codes "version") ∷ word (co
 abbrev pub request_options : List Rule
 request_options = optional (option (codes "request")) ∷ repeated (optional (option (codes "goal"))) ∷ []
 
--- debplan candidate OPTIONS [--explain] NAME..
-abbrev pub candidate_command : Shape
-candidate_command = command (codes "candidate") (options ++ flag (codes "explain") ∷ repeated (word (codes "name")) ∷ [])
+-- the options that say how much of a request has to be fulfilled
+abbrev pub extent_options : List Rule
+extent_options = flag (codes "keep-back") ∷ optional (option (codes "request-out")) ∷ []
 
--- debplan solve OPTIONS REQUEST [--limit N] [--explain], where REQUEST is --request FILE, or --goal TEXT once or more
+-- the options that say how an answer is told
+abbrev pub telling_options : List Rule
+telling_options = flag (codes "explain") ∷ optional (option (codes "format")) ∷ []
+
+-- debplan candidate OPTIONS [--explain] [--format FORMAT] NAME..
+abbrev pub candidate_command : Shape
+candidate_command = command (codes "candidate") (options ++ telling_options ++ repeated (word (codes "name")) ∷ [])
+
+-- debplan solve OPTIONS REQUEST [--limit N] [--keep-back [--request-out FILE]] [--explain] [--format FORMAT], where REQUEST is
+-- --request FILE, or --goal TEXT once or more
 abbrev pub solve_command : Shape
 solve_command = command (codes "solve")
-    (options ++ request_options ++ number (optional (option (codes "limit"))) ∷ flag (codes "explain") ∷ [])
+    (options ++ request_options ++ number (optional (option (codes "limit"))) ∷ extent_options ++ telling_options)
 
--- debplan check-plan OPTIONS REQUEST [--explain] PLAN
+-- debplan check-plan OPTIONS REQUEST [--explain] [--format FORMAT] PLAN
 abbrev pub check_plan_command : Shape
-check_plan_command = command (codes "check-plan") (options ++ request_options ++ flag (codes "explain") ∷ word (codes "plan") ∷ [])
+check_plan_command = command (codes "check-plan") (options ++ request_options ++ telling_options ++ word (codes "plan") ∷ [])
 
--- debplan check-refutation OPTIONS REQUEST [--explain] REFUTATION
+-- debplan check-refutation OPTIONS REQUEST [--explain] [--format FORMAT] REFUTATION
 abbrev pub check_refutation_command : Shape
 check_refutation_command = command (codes "check-refutation")
-    (options ++ request_options ++ flag (codes "explain") ∷ word (codes "refutation") ∷ [])
+    (options ++ request_options ++ telling_options ++ word (codes "refutation") ∷ [])
 
 -- debplan apply OPTIONS REQUEST --journal FILE --output FILE PLAN
 abbrev pub apply_command : Shape

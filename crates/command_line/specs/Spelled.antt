@@ -7,64 +7,19 @@ use Rattle.clap.specs.Simple.{subcommand_of}
 use Rattle.clap.specs.Walk.{Row, all_of, first_of, is_empty}
 use Rattle.clap.specs.declared.error.Error.{Error}
 use Rattle.clap.specs.declared.error.kind.ErrorKind.TheVariants.{ValueValidation}
-use Rattle.command_line.specs.Asked.{Asked, Given, Request, asked_by, file, goals}
+use Rattle.command_line.specs.Asked.{Asked, Extent, Given, Request, asked_by, file, goals}
 use Rattle.command_line.specs.Asked as ask
 use Rattle.command_line.specs.Joined.{Text}
 use Rattle.command_line.specs.Number.{limit_of}
 use Rattle.command_line.specs.Program.{debplan_app}
+use Rattle.command_line.specs.Values.{explains_in, extent_in, format_in, given_in, relation_of, request_in}
 use Rattle.command_line.specs.declared.call.Call.{Call}
-use Rattle.command_line.specs.declared.call.Relation.{Relation}
-use Rattle.command_line.specs.declared.call.Relation.TheVariants as relation
-
--- the relation that a word of deb-version(7) names, if it does
-abbrev pub relation_of : Text → Option Relation
-relation_of word = if bytes_eq word (codes "lt") then Some relation.Earlier
-    else if bytes_eq word (codes "le") then Some relation.EarlierOrEqual
-    else if bytes_eq word (codes "eq") then Some relation.Equal
-    else if bytes_eq word (codes "ne") then Some relation.NotEqual
-    else if bytes_eq word (codes "ge") then Some relation.LaterOrEqual
-    else if bytes_eq word (codes "gt") then Some relation.Later
-    else None
-
--- the options, where none that is required is missing
-abbrev pub given_of : Option Text → Option Text → Option Text → Option Text → Option Text → Option Given
-given_of (Some arch) (Some status) (Some sources) preferences target = Some (record {
-  arch = arch;
-  status = status;
-  sources = sources;
-  preferences = preferences;
-  target = target;
-})
-given_of _ _ _ _ _ = None
-
--- the options among the values of a command
-abbrev pub given_in : List Row → Option Given
-given_in rows = given_of (first_of (codes "arch") rows) (first_of (codes "status") rows) (first_of (codes "sources") rows)
-    (first_of (codes "preferences") rows) (first_of (codes "target") rows)
+use Rattle.command_line.specs.declared.call.Format.{Format}
 
 -- the comparison of these words, where the one between the versions names a relation
 abbrev pub comparison_of : Option Text → Option Text → Option Text → Option Asked
 comparison_of (Some version) (Some word) (Some other) = option_map (λ relation. ask.compare version relation other) (relation_of word)
 comparison_of _ _ _ = None
-
--- the request of a file or of goals, where one of them is given and not both
-abbrev pub request_of : Option Text → Option (List Text) → Option Request
-request_of (Some path) None = Some (file path)
-request_of None (Some texts) = Some (goals texts)
-request_of _ _ = None
-
--- the request among the values of a command
-abbrev pub request_in : List Row → Option Request
-request_in rows = request_of (first_of (codes "request") rows) (all_of (codes "goal") rows)
-
--- the value of a flag says that it stands among the words
-abbrev pub is_set : Option Text → Bool
-is_set (Some word) = bytes_eq word (codes "true")
-is_set None = false
-
--- the command is to explain
-abbrev pub explains_in : List Row → Bool
-explains_in rows = is_set (first_of (codes "explain") rows)
 
 -- the path is that of standard input
 abbrev pub is_standard_input : Text → Bool
@@ -81,20 +36,22 @@ judged_beside request (Some path) = if is_read_twice request path then None else
 judged_beside request None = None
 
 -- the question for the candidates of names
-abbrev pub candidate_of : Option Given → Option (List Text) → Bool → Option Asked
-candidate_of (Some given) (Some names) explains = Some (ask.candidate given names explains)
-candidate_of _ _ explains = None
+abbrev pub candidate_of : Option Given → Option (List Text) → Bool → Option Format → Option Asked
+candidate_of (Some given) (Some names) explains (Some format) = Some (ask.candidate given names explains format)
+candidate_of _ _ explains _ = None
 
 -- the request that is to be solved
-abbrev pub solve_of : Option Given → Option Request → Option ℕ → Bool → Option Asked
-solve_of (Some given) (Some request) (Some limit) explains = Some (ask.solve given request limit explains)
-solve_of _ _ _ explains = None
+abbrev pub solve_of : Option Given → Option Request → Option ℕ → Option Extent → Bool → Option Format → Option Asked
+solve_of (Some given) (Some request) (Some limit) (Some extent) explains (Some format) =
+    Some (ask.solve given request limit extent explains format)
+solve_of _ _ _ _ explains _ = None
 
 -- the text that is to be judged beside a request
-abbrev pub judged_of : (Given → Request → Text → Bool → Asked) → Option Given → Option Request → Option Text → Bool → Option Asked
-judged_of asks (Some given) (Some request) judged explains =
-    option_map (λ path. asks given request path explains) (judged_beside request judged)
-judged_of asks _ _ _ explains = None
+abbrev pub judged_of : (Given → Request → Text → Bool → Format → Asked) → Option Given → Option Request → Option Text → Bool
+    → Option Format → Option Asked
+judged_of asks (Some given) (Some request) judged explains (Some format) =
+    option_map (λ path. asks given request path explains format) (judged_beside request judged)
+judged_of asks _ _ _ explains _ = None
 
 -- the plan that is to be carried out, with the paths of the journal and of the output
 abbrev pub taken_of : Given → Request → Option Text → Option Text → Option Text → Option Asked
@@ -112,13 +69,15 @@ asked_in name rows =
     if bytes_eq name (codes "compare")
     then comparison_of (first_of (codes "version") rows) (first_of (codes "relation") rows) (first_of (codes "other") rows)
     else if bytes_eq name (codes "candidate")
-    then candidate_of (given_in rows) (all_of (codes "name") rows) (explains_in rows)
+    then candidate_of (given_in rows) (all_of (codes "name") rows) (explains_in rows) (format_in rows)
     else if bytes_eq name (codes "solve")
-    then solve_of (given_in rows) (request_in rows) (limit_of (first_of (codes "limit") rows)) (explains_in rows)
+    then solve_of (given_in rows) (request_in rows) (limit_of (first_of (codes "limit") rows)) (extent_in rows) (explains_in rows)
+    (format_in rows)
     else if bytes_eq name (codes "check-plan")
-    then judged_of ask.check_plan (given_in rows) (request_in rows) (first_of (codes "plan") rows) (explains_in rows)
+    then judged_of ask.check_plan (given_in rows) (request_in rows) (first_of (codes "plan") rows) (explains_in rows) (format_in rows)
     else if bytes_eq name (codes "check-refutation")
     then judged_of ask.check_refutation (given_in rows) (request_in rows) (first_of (codes "refutation") rows) (explains_in rows)
+    (format_in rows)
     else if bytes_eq name (codes "apply")
     then apply_of (given_in rows) (request_in rows) (first_of (codes "plan") rows) (first_of (codes "journal") rows)
     (first_of (codes "output") rows)

@@ -1,17 +1,17 @@
 // The words of a command line as a call.
-ghost use Rattle.std.specs.Prelude.{◌≡◌, ◌∷◌, IfOk, [], codes, map, option_map, string_bytes, true};
-ghost use Rattle.std.specs.List.{list_all};
-ghost use Rattle.std.specs.Char.{is_ascii_digit};
+ghost use Rattle.std.specs.Prelude.{◌≡◌, ◌∷◌, IfOk, [], codes, map, option_map, string_bytes};
 ghost use Rattle.clap.specs.Kinds.{HasKind};
 ghost use Rattle.clap.specs.Walk.{all_of, first_of, rows_of};
 ghost use Rattle.clap.specs.Words.{found_of, kind_of, subcommand_rows_of};
-ghost use Rattle.command_line.specs.Asked.{asked_by, given_by, request_by, texts_by};
-ghost use Rattle.command_line.specs.Number.{limit_of, number_of, is_number};
+ghost use Rattle.command_line.specs.Asked.{asked_by, extent_by, given_by, request_by, texts_by};
+ghost use Rattle.command_line.specs.Number.{limit_of};
 ghost use Rattle.command_line.specs.Spelled as spell;
+ghost use Rattle.command_line.specs.Values as value;
 ghost use Rattle.command_line.specs.Asked as ask;
 
-use crate::call::{Call, Options, Relation, Request};
+use crate::call::{Call, Extent, Format, Options, Relation, Request};
 use crate::declare::program;
+use crate::number::limit_of;
 use clap::error::ErrorKind;
 use clap::{ArgMatches, Error};
 use std::alloc::{AllocError, Global};
@@ -58,7 +58,7 @@ fn call_named<'a>(
     request: Option<Request<'a>>,
     names: Option<Vec<&'a str>>,
 ) -> Option<Call<'a>>
-    requires request { option_map request_by request ≡ spell.request_in (rows_of (found_of values.now)) }
+    requires request { option_map request_by request ≡ value.request_in (rows_of (found_of values.now)) }
     requires names { option_map (λ names. texts_by names.items) names ≡ all_of (codes "name") (rows_of (found_of values.now)) }
     ensures { option_map asked_by result ≡ spell.asked_in command.now (rows_of (found_of values.now)) }
 {
@@ -76,9 +76,20 @@ fn call_named<'a>(
 // What is wrong with words that `clap` takes.
 fn mistake_in(matches: &ArgMatches<'_>) -> &'static str {
     match matches.subcommand() {
-        Some(named) if named.0 != "compare" => mistake_of_request(named.1),
+        Some(named) if named.0 != "compare" => mistake_of_values(named.1),
         _ => "REL is one of lt, le, eq, ne, ge and gt",
     }
+}
+
+// What is wrong with these values of a command over files.
+fn mistake_of_values(values: &ArgMatches<'_>) -> &'static str {
+    if format_in(values).is_none() {
+        return "FORMAT is text or json";
+    }
+    if extent_in(values).is_none() {
+        return "--request-out FILE is given without --keep-back";
+    }
+    mistake_of_request(values)
 }
 
 // What is wrong with these values of a command with a request.
@@ -113,13 +124,64 @@ fn texts_in<'a>(
     }
 }
 
-// Whether the flag stands among the words that asks for sentences: `clap` gives each flag a value.
-fn explains_in(values: &ArgMatches<'_>) -> bool
-    ensures { result ≡ spell.explains_in (rows_of (found_of values.now)) }
+// Whether the flag of this name stands among the words: `clap` gives each flag a value.
+fn is_set(values: &ArgMatches<'_>, name: &str) -> bool
+    ensures { result ≡ value.is_set (first_of name.now (rows_of (found_of values.now))) }
 {
-    match text_in(values, "explain") {
+    match text_in(values, name) {
         Some(word) => word == "true",
         None => false,
+    }
+}
+
+// Whether sentences are asked for.
+fn explains_in(values: &ArgMatches<'_>) -> bool
+    ensures { result ≡ value.explains_in (rows_of (found_of values.now)) }
+{
+    is_set(values, "explain")
+}
+
+// How the answer is written, unless the word for it is none of a format.
+fn format_in(values: &ArgMatches<'_>) -> Option<Format>
+    ensures { result ≡ value.format_in (rows_of (found_of values.now)) }
+{
+    format_of(text_in(values, "format"))
+}
+
+fn format_of(word: Option<&str>) -> Option<Format>
+    ensures { result ≡ value.format_of (option_map (λ word. word.now) word.entry) }
+{
+    match word {
+        None => Some(Format::Text),
+        Some(word) => format_named(word),
+    }
+}
+
+// The format that the word names.
+fn format_named(word: &str) -> Option<Format>
+    ensures { result ≡ value.format_named word.now }
+{
+    match word {
+        "text" => Some(Format::Text),
+        "json" => Some(Format::Json),
+        _ => None,
+    }
+}
+
+// How much of the request has to be fulfilled, unless a path is given for what is left where all of it has to be.
+fn extent_in<'a>(values: &ArgMatches<'a>) -> Option<Extent<'a>>
+    ensures { option_map extent_by result ≡ value.extent_in (rows_of (found_of values.now)) }
+{
+    extent_of(is_set(values, "keep-back"), text_in(values, "request-out"))
+}
+
+fn extent_of<'a>(keeps_back: bool, path: Option<&'a str>) -> Option<Extent<'a>>
+    ensures { option_map extent_by result ≡ value.extent_of keeps_back (option_map (λ word. word.now) path.entry) }
+{
+    match (keeps_back, path) {
+        (true, path) => Some(Extent::Possible(path)),
+        (false, None) => Some(Extent::Whole),
+        (false, Some(_)) => None,
     }
 }
 
@@ -139,7 +201,7 @@ fn comparison_in<'a>(values: &ArgMatches<'a>) -> Option<Call<'a>>
 
 // The relation that the word names (deb-version(7)).
 fn relation_of(word: &str) -> Option<Relation>
-    ensures { result ≡ spell.relation_of word.now }
+    ensures { result ≡ value.relation_of word.now }
 {
     match word {
         "lt" => Some(Relation::Earlier),
@@ -154,7 +216,7 @@ fn relation_of(word: &str) -> Option<Relation>
 
 // The options, unless one that is required is missing.
 fn options_in<'a>(values: &ArgMatches<'a>) -> Option<Options<'a>>
-    ensures { option_map given_by result ≡ spell.given_in (rows_of (found_of values.now)) }
+    ensures { option_map given_by result ≡ value.given_in (rows_of (found_of values.now)) }
 {
     let arch = text_in(values, "arch")?;
     let status = text_in(values, "status")?;
@@ -172,7 +234,7 @@ fn options_in<'a>(values: &ArgMatches<'a>) -> Option<Options<'a>>
 
 // The request, unless it's missing or given in both ways. Memory alone can fail.
 fn request_in<'a>(alloc: Global, values: &ArgMatches<'a>) -> Result<Option<Request<'a>>, AllocError>
-    ensures { IfOk result (λ request. option_map request_by request ≡ spell.request_in (rows_of (found_of values.now))) }
+    ensures { IfOk result (λ request. option_map request_by request ≡ value.request_in (rows_of (found_of values.now))) }
 {
     let goals = texts_in(alloc, values, "goal")?;
     Ok(request_of(text_in(values, "request"), goals))
@@ -180,7 +242,7 @@ fn request_in<'a>(alloc: Global, values: &ArgMatches<'a>) -> Result<Option<Reque
 
 fn request_of<'a>(path: Option<&'a str>, goals: Option<Vec<&'a str>>) -> Option<Request<'a>>
     ensures { option_map request_by result
-        ≡ spell.request_of (option_map (λ word. word.now) path.entry) (option_map (λ texts. texts_by texts.items) goals.entry) }
+        ≡ value.request_of (option_map (λ word. word.now) path.entry) (option_map (λ texts. texts_by texts.items) goals.entry) }
 {
     match (path, goals) {
         (Some(path), None) => Some(Request::File(path)),
@@ -212,40 +274,49 @@ fn is_read_twice(request: &Request<'_>, judged: &str) -> bool
 
 fn candidate_in<'a>(values: &ArgMatches<'a>, names: Option<Vec<&'a str>>) -> Option<Call<'a>>
     ensures { let rows = rows_of (found_of values.now) in option_map asked_by result ≡ spell.candidate_of
-        (spell.given_in rows) (option_map (λ names. texts_by names.items) names.entry) (spell.explains_in rows) }
+        (value.given_in rows) (option_map (λ names. texts_by names.items) names.entry) (value.explains_in rows) (value.format_in rows) }
 {
     let options = options_in(values)?;
     let names = names?;
+    let format = format_in(values)?;
     let explains = explains_in(values);
     Some(Call::Candidate {
         options,
         names,
         explains,
+        format,
     })
 }
 
 fn solve_in<'a>(values: &ArgMatches<'a>, request: Option<Request<'a>>) -> Option<Call<'a>>
     ensures { let rows = rows_of (found_of values.now) in option_map asked_by result ≡ spell.solve_of
-        (spell.given_in rows) (option_map request_by request.entry) (limit_of (first_of (codes "limit") rows)) (spell.explains_in rows) }
+        (value.given_in rows) (option_map request_by request.entry) (limit_of (first_of (codes "limit") rows)) (value.extent_in rows)
+        (value.explains_in rows) (value.format_in rows) }
 {
     let options = options_in(values)?;
     let request = request?;
     let limit = limit_of(text_in(values, "limit"))?;
+    let extent = extent_in(values)?;
+    let format = format_in(values)?;
     let explains = explains_in(values);
     Some(Call::Solve {
         options,
         request,
         limit,
+        extent,
         explains,
+        format,
     })
 }
 
 fn plan_in<'a>(values: &ArgMatches<'a>, request: Option<Request<'a>>) -> Option<Call<'a>>
     ensures { let rows = rows_of (found_of values.now) in option_map asked_by result ≡ spell.judged_of ask.check_plan
-        (spell.given_in rows) (option_map request_by request.entry) (first_of (codes "plan") rows) (spell.explains_in rows) }
+        (value.given_in rows) (option_map request_by request.entry) (first_of (codes "plan") rows) (value.explains_in rows)
+        (value.format_in rows) }
 {
     let options = options_in(values)?;
     let request = request?;
+    let format = format_in(values)?;
     let plan = judged_in(values, "plan", &request)?;
     let explains = explains_in(values);
     Some(Call::CheckPlan {
@@ -253,15 +324,18 @@ fn plan_in<'a>(values: &ArgMatches<'a>, request: Option<Request<'a>>) -> Option<
         request,
         plan,
         explains,
+        format,
     })
 }
 
 fn refutation_in<'a>(values: &ArgMatches<'a>, request: Option<Request<'a>>) -> Option<Call<'a>>
     ensures { let rows = rows_of (found_of values.now) in option_map asked_by result ≡ spell.judged_of ask.check_refutation
-        (spell.given_in rows) (option_map request_by request.entry) (first_of (codes "refutation") rows) (spell.explains_in rows) }
+        (value.given_in rows) (option_map request_by request.entry) (first_of (codes "refutation") rows) (value.explains_in rows)
+        (value.format_in rows) }
 {
     let options = options_in(values)?;
     let request = request?;
+    let format = format_in(values)?;
     let refutation = judged_in(values, "refutation", &request)?;
     let explains = explains_in(values);
     Some(Call::CheckRefutation {
@@ -269,12 +343,13 @@ fn refutation_in<'a>(values: &ArgMatches<'a>, request: Option<Request<'a>>) -> O
         request,
         refutation,
         explains,
+        format,
     })
 }
 
 fn apply_in<'a>(values: &ArgMatches<'a>, request: Option<Request<'a>>) -> Option<Call<'a>>
     ensures { let rows = rows_of (found_of values.now) in option_map asked_by result ≡ spell.apply_of
-        (spell.given_in rows) (option_map request_by request.entry) (first_of (codes "plan") rows) (first_of (codes "journal") rows)
+        (value.given_in rows) (option_map request_by request.entry) (first_of (codes "plan") rows) (first_of (codes "journal") rows)
         (first_of (codes "output") rows) }
 {
     let options = options_in(values)?;
@@ -289,66 +364,6 @@ fn apply_in<'a>(values: &ArgMatches<'a>, request: Option<Request<'a>>) -> Option
         journal,
         output,
     })
-}
-
-/// After how many conflicts a search gives up where nothing else is said.
-const DEFAULT_LIMIT: u32 = 100_000;
-
-// The limit that this value writes, or that there is without one.
-fn limit_of(word: Option<&str>) -> Option<u32>
-    ensures { result ≡ limit_of (option_map (λ word. word.now) word.entry) }
-{
-    match word {
-        None => Some(DEFAULT_LIMIT),
-        Some(word) => number_of(word),
-    }
-}
-
-// The number of 32 bits that the word writes.
-fn number_of(word: &str) -> Option<u32>
-    ensures { result ≡ number_of word.now }
-{
-    if is_number(word.as_bytes()) {
-        parsed(word)
-    } else {
-        None
-    }
-}
-
-// The number that this numeral writes, if it fits.
-fn parsed(word: &str) -> Option<u32>
-    requires { is_number word.now ≡ true }
-    ensures { result ≡ number_of word.now }
-{
-    word.parse::<u32>().ok()
-}
-
-// Whether these are the digits of a number, as in each text: without a sign, and with no zero before others.
-fn is_number(word: &[u8]) -> bool
-    ensures { result ≡ is_number word.now }
-{
-    match word.split_first() {
-        None => false,
-        Some((digit, rest)) => are_number(*digit, rest),
-    }
-}
-
-fn are_number(digit: u8, rest: &[u8]) -> bool
-    ensures { result ≡ is_number (digit ∷ rest.now) }
-{
-    if digit == b'0' {
-        return rest.is_empty();
-    }
-    if digit.is_ascii_digit() {
-        return are_digits(rest);
-    }
-    false
-}
-
-fn are_digits(word: &[u8]) -> bool
-    ensures { result ≡ list_all is_ascii_digit word.now }
-{
-    word.iter().all(|byte| byte.is_ascii_digit())
 }
 
 /// What is to be said of words that are wrong as this text says.

@@ -41,6 +41,24 @@ pub enum Request<'a> {
     Goals(Vec<&'a str>),
 }
 
+/// How much of a request has to be fulfilled.
+#[derive(Clone, Copy)]
+pub enum Extent<'a> {
+    /// All of it.
+    Whole,
+    /// As much as can be; what is left of the request is written at this path, if there is one.
+    Possible(Option<&'a str>),
+}
+
+/// How an answer is written.
+#[derive(Clone, Copy)]
+pub enum Format {
+    /// In the lines of each command.
+    Text,
+    /// As a JSON text (RFC 8259).
+    Json,
+}
+
 /// What a command line asks for. Each text is a word of it, or what stands in a word behind `--NAME=`. Where a call explains, its
 /// answer is to be told in sentences too.
 #[derive(Drop)]
@@ -62,6 +80,8 @@ pub enum Call<'a> {
         names: Vec<&'a str>,
         /// Whether the call explains.
         explains: bool,
+        /// How the answer is written.
+        format: Format,
     },
     /// To solve a request.
     Solve {
@@ -71,8 +91,12 @@ pub enum Call<'a> {
         request: Request<'a>,
         /// The conflicts after which the search gives up.
         limit: u32,
+        /// How much of the request has to be fulfilled.
+        extent: Extent<'a>,
         /// Whether the call explains.
         explains: bool,
+        /// How the answer is written.
+        format: Format,
     },
     /// To judge a plan.
     CheckPlan {
@@ -84,6 +108,8 @@ pub enum Call<'a> {
         plan: &'a str,
         /// Whether the call explains.
         explains: bool,
+        /// How the answer is written.
+        format: Format,
     },
     /// To judge a refutation.
     CheckRefutation {
@@ -95,6 +121,8 @@ pub enum Call<'a> {
         refutation: &'a str,
         /// Whether the call explains.
         explains: bool,
+        /// How the answer is written.
+        format: Format,
     },
     /// To carry a plan out.
     Apply {

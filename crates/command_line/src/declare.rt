@@ -4,93 +4,12 @@ ghost use Rattle.clap.specs.Walk.{Rule, Text};
 ghost use Rattle.clap.specs.Words.{app_of};
 ghost use Rattle.command_line.specs.Program as app;
 
+use crate::help::{
+    ANSWERS, APPLY_USAGE, CHECK_PLAN_USAGE, CHECK_REFUTATION_USAGE, GUIDE, KEEP_BACK_HELP,
+    RELATION_HELP, SOLVE_USAGE, VERSION, VERSION_AND_TOOLCHAIN,
+};
 use clap::{Arg, ArgAction, Command, value_parser};
 use std::alloc::{AllocError, Global};
-
-/// The version of the program.
-const VERSION: &str = "0.1.0";
-
-/// The version of the program, and the toolchain that proves it (`rt version`).
-const VERSION_AND_TOOLCHAIN: &str = "0.1.0\ntoolchain: rattle-kit-13f logic dac8208d650f15bf";
-
-/// Of which versions an answer speaks, and what each exit status means, as it stands below the help of each command.
-const ANSWERS: &str =
-    "A refutation shows that no choice among the admitted versions fulfils the request.
-Admitted are, of each package, the installed version, the candidate, and each version that a goal
-names, as in install hello (= 2.10-3); where the request has a line all-versions, each version that
-may become the candidate; of a held package, the installed version alone.
-The goals, the form of the sources file and examples: debplan --help
-
-Exit status:
-  0  yes, a plan, a candidate of each name, a plan carried out, or help
-  1  no, a refutation, or a name without a candidate
-  2  undecided: the search gave up, or no order of steps was found
-  3  an input is malformed, or the journal is another plan's: standard error names the file, the fault and its place
-  4  the command line is wrong
-  5  a file can't be read, memory is exhausted, or the answer, the journal or the output can't be written";
-
-/// What a request and a sources file are, with examples, as it stands below the help of the program.
-const GUIDE: &str =
-    "A request is a file with a goal on each line, or the goals of --goal, each a line of its own.
-
-Goals:
-  install NAME [(REL VERSION)]  it is installed, in a version that stands so to VERSION
-  remove NAME                   it is not installed
-  purge NAME                    the same, and its configuration files are gone
-  upgrade NAME                  its candidate is installed
-  upgrade-all                   each installed package has its candidate, but for held ones
-  no-remove                     each installed package stays installed, in some version
-REL is <<, <=, =, >= or >>, as in install hello (>= 2.10).
-install X is content with an X that stands. upgrade X brings the candidate, and installs it where X
-is missing. Recommends, autoremove and auto marks aren't known.
-
-A refutation shows that no choice among the admitted versions fulfils the request: it is about these
-alone. Admitted are, of each package, the installed version, the candidate, and each version that a
-goal names, as in install hello (= 2.10-3); where the request has a line all-versions, which is no
-goal, each version that may become the candidate; of a held package, the installed version alone.
-
-A sources file has a stanza for each index, and an empty line between two:
-  File: index-1.Packages
-  Suite: stable
-  Codename: bookworm
-  Component: main
-  Origin: Debian
-  Host: deb.debian.org
-File is the path of an uncompressed Packages file. The other fields are what pins and --target match.
-
-Two examples, over the packages of this machine:
-  debplan solve --arch amd64 --status /var/lib/dpkg/status --sources sources --goal 'install hello'
-  debplan candidate --arch amd64 --status /var/lib/dpkg/status --sources sources hello bash
-The request, the plan and the refutation are read from standard input where their path is -.
-
-Exit status:
-  0  yes, a plan, a candidate of each name, a plan carried out, or help
-  1  no, a refutation, or a name without a candidate
-  2  undecided: the search gave up, or no order of steps was found
-  3  an input is malformed, or the journal is another plan's: standard error names the file, the fault and its place
-  4  the command line is wrong
-  5  a file can't be read, memory is exhausted, or the answer, the journal or the output can't be written";
-
-/// What is said of a command that there is none of, behind what is wrong with it.
-pub const COMMANDS: &str =
-    "Commands: compare, candidate, solve, check-plan, check-refutation, apply, help\n";
-
-/// What the word for the relation of a comparison is, of which `clap` takes any.
-const RELATION_HELP: &str =
-    "How V is to compare to W, as for dpkg --compare-versions [possible values: lt, le, eq, ne, ge, gt]";
-
-/// The usage of each command with a request, of which there are two kinds of options.
-const SOLVE_USAGE: &str =
-    "debplan solve [OPTIONS] --arch <ARCH> --status <FILE> --sources <FILE> <--request <FILE>|--goal <TEXT>...>";
-
-const CHECK_PLAN_USAGE: &str =
-    "debplan check-plan [OPTIONS] --arch <ARCH> --status <FILE> --sources <FILE> <--request <FILE>|--goal <TEXT>...> <PLAN>";
-
-const CHECK_REFUTATION_USAGE: &str =
-    "debplan check-refutation [OPTIONS] --arch <ARCH> --status <FILE> --sources <FILE> <--request <FILE>|--goal <TEXT>...> <REFUTATION>";
-
-const APPLY_USAGE: &str =
-    "debplan apply [OPTIONS] --arch <ARCH> --status <FILE> --sources <FILE> <--request <FILE>|--goal <TEXT>...> --journal <FILE> --output <FILE> <PLAN>";
 
 /// The command line of the program. Memory alone can fail.
 pub fn program<'a>(alloc: Global) -> Result<Command<'a>, AllocError>
@@ -143,11 +62,10 @@ fn candidate<'a>(alloc: Global) -> Result<Command<'a>, AllocError>
         "Show the candidate version of each package and its priority",
         ANSWERS,
     );
-    let explain = explain(alloc);
     let name = repeated(word(alloc, "name", "NAME", "The name of a package, or several"));
     let optioned = with_options(alloc, start)?;
-    let with_explain = optioned.arg(explain)?;
-    let whole = with_explain.arg(name)?;
+    let with_telling = with_telling(alloc, optioned)?;
+    let whole = with_telling.arg(name)?;
     Ok(whole)
 }
 
@@ -162,12 +80,11 @@ fn solve<'a>(alloc: Global) -> Result<Command<'a>, AllocError>
     )
     .override_usage(SOLVE_USAGE);
     let limit = limit(alloc);
-    let explain = explain(alloc);
     let optioned = with_options(alloc, start)?;
     let with_goals = with_request(alloc, optioned)?;
     let with_limit = with_goals.arg(limit)?;
-    let whole = with_limit.arg(explain)?;
-    Ok(whole)
+    let with_extent = with_extent(alloc, with_limit)?;
+    with_telling(alloc, with_extent)
 }
 
 fn check_plan<'a>(alloc: Global) -> Result<Command<'a>, AllocError>
@@ -180,12 +97,11 @@ fn check_plan<'a>(alloc: Global) -> Result<Command<'a>, AllocError>
         ANSWERS,
     )
     .override_usage(CHECK_PLAN_USAGE);
-    let explain = explain(alloc);
     let judged = plan(alloc);
     let optioned = with_options(alloc, start)?;
     let with_goals = with_request(alloc, optioned)?;
-    let with_explain = with_goals.arg(explain)?;
-    let whole = with_explain.arg(judged)?;
+    let with_telling = with_telling(alloc, with_goals)?;
+    let whole = with_telling.arg(judged)?;
     Ok(whole)
 }
 
@@ -199,7 +115,6 @@ fn check_refutation<'a>(alloc: Global) -> Result<Command<'a>, AllocError>
         ANSWERS,
     )
     .override_usage(CHECK_REFUTATION_USAGE);
-    let explain = explain(alloc);
     let judged = word(
         alloc,
         "refutation",
@@ -208,8 +123,8 @@ fn check_refutation<'a>(alloc: Global) -> Result<Command<'a>, AllocError>
     );
     let optioned = with_options(alloc, start)?;
     let with_goals = with_request(alloc, optioned)?;
-    let with_explain = with_goals.arg(explain)?;
-    let whole = with_explain.arg(judged)?;
+    let with_telling = with_telling(alloc, with_goals)?;
+    let whole = with_telling.arg(judged)?;
     Ok(whole)
 }
 
@@ -266,13 +181,43 @@ fn with_request<'a>(alloc: Global, start: Command<'a>) -> Result<Command<'a>, Al
     Ok(whole)
 }
 
-fn explain<'a>(alloc: Global) -> Arg<'a>
-    ensures { app.Takes (app.flag (codes "explain")) result }
+// The command with the options that say how much of a request has to be fulfilled, of which `call_of` takes the second beside the
+// first alone.
+fn with_extent<'a>(alloc: Global, start: Command<'a>) -> Result<Command<'a>, AllocError>
+    ensures { (name : Text) (rules : List Rule) → app.Declares (app.command name rules) start.entry
+        → IfOk result (app.Declares (app.command name (rules ++ app.extent_options))) }
 {
-    Arg::new(alloc, "explain")
-        .long("explain")
-        .action(ArgAction::SetTrue)
-        .help("Write sentences on the answer to standard error too")
+    let keep_back = flag(alloc, "keep-back", KEEP_BACK_HELP);
+    let output = optional(
+        alloc,
+        "request-out",
+        "FILE",
+        "With --keep-back, where the request that is left is written",
+    );
+    let with_flag = start.arg(keep_back)?;
+    let whole = with_flag.arg(output)?;
+    Ok(whole)
+}
+
+// The command with the options that say how an answer is told.
+fn with_telling<'a>(alloc: Global, start: Command<'a>) -> Result<Command<'a>, AllocError>
+    ensures { (name : Text) (rules : List Rule) → app.Declares (app.command name rules) start.entry
+        → IfOk result (app.Declares (app.command name (rules ++ app.telling_options))) }
+{
+    let explain = flag(
+        alloc,
+        "explain",
+        "Write sentences on the answer to standard error too",
+    );
+    let format = optional(
+        alloc,
+        "format",
+        "FORMAT",
+        "How the answer is written, text if not given [possible values: text, json]",
+    );
+    let with_explain = start.arg(explain)?;
+    let whole = with_explain.arg(format)?;
+    Ok(whole)
 }
 
 fn plan<'a>(alloc: Global) -> Arg<'a>
@@ -337,6 +282,16 @@ fn repeated<'a>(argument: Arg<'a>) -> Arg<'a>
     ensures { (rule : Rule) → app.Takes rule argument.entry → app.Takes (app.repeated rule) result }
 {
     argument.action(ArgAction::Append)
+}
+
+// An option without a value.
+fn flag<'a>(alloc: Global, name: &'a str, help: &'a str) -> Arg<'a>
+    ensures { app.Takes (app.flag name.entry.now) result }
+{
+    Arg::new(alloc, name)
+        .long(name)
+        .action(ArgAction::SetTrue)
+        .help(help)
 }
 
 // A word behind its option, which may be left out.

@@ -1,6 +1,6 @@
 // Each option that takes a value joined to the word behind it.
 ghost use Rattle.std.specs.Prelude.{◌≡◌, ◌++◌, ◌∷◌, [], IfOk, List, None, OnOk, false, map, string_bytes};
-ghost use Rattle.command_line.specs.Joined.{Text, is_among, joined, joined_behind, needed_options, optional_options, own_options, request_options, takes_value, with_value};
+ghost use Rattle.command_line.specs.Joined.{Text, answer_options, is_among, joined, joined_behind, needed_options, optional_options, own_options, request_options, takes_value, with_value};
 ghost use Rattle.command_line.specs.Place.{left, place_behind};
 ghost use Rattle.command_line.specs.declared.join.Place.TheVariants.{Behind, Free, Operands};
 
@@ -157,7 +157,11 @@ fn next_of<'a>(word: &str) -> Place<'a>
 fn takes_value(word: &str) -> bool
     ensures { result ≡ takes_value word.now }
 {
-    is_needed(word) || is_optional(word) || is_of_request(word) || is_own(word)
+    is_needed(word)
+        || is_optional(word)
+        || is_of_request(word)
+        || is_of_answer(word)
+        || is_own(word)
 }
 
 fn is_needed(word: &str) -> bool
@@ -187,6 +191,16 @@ fn is_of_request(word: &str) -> bool
     match word {
         "--request" => true,
         "--goal" => true,
+        _ => false,
+    }
+}
+
+fn is_of_answer(word: &str) -> bool
+    ensures { result ≡ is_among answer_options word.now }
+{
+    match word {
+        "--request-out" => true,
+        "--format" => true,
         _ => false,
     }
 }

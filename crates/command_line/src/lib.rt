@@ -5,11 +5,14 @@
 mod arguments;
 mod call;
 mod declare;
+mod help;
 mod join;
+mod number;
 mod texts;
 
 pub use arguments::{call_of, mistake};
-pub use call::{Call, Options, Relation, Request};
-pub use declare::{COMMANDS, program};
+pub use call::{Call, Extent, Format, Options, Relation, Request};
+pub use declare::program;
+pub use help::COMMANDS;
 pub use join::joined;
 pub use texts::texts_of;

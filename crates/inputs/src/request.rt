@@ -110,8 +110,9 @@ fn universe_in<'p, 'a>(
     })
 }
 
-// The universe that the request with this text is answered from, over what the texts before it are read as.
-fn universe_over<'p, 'a>(
+/// The universe that the request with this text is answered from, over what the texts before it are read as, and whether it asks for
+/// all versions. Linear in the text, and at the cost of `universe_build::build`.
+pub fn requested_in<'p, 'a>(
     alloc: Global,
     settings: &Settings<'_>,
     status_file: &StatusFile<'a>,
@@ -175,7 +176,7 @@ pub fn read_requested<'p, 'a, S: Shelf>(
     ensures count { CountsRead result (S.faults shelf.old) (S.faults shelf.new) }
 {
     let text = read_part(alloc, shelf, Part::Request, Input::Request)?;
-    universe_over(
+    requested_in(
         alloc,
         settings,
         status_file,

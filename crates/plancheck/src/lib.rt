@@ -16,7 +16,9 @@ pub use check::check_plan;
 pub use held::{is_not_held, stands_as};
 pub use quiet::is_quiet;
 pub use remove::is_met_without;
+pub use stanzas::{stanza_at, stanzas_for};
 pub use step::{apply, legal};
 pub use table::{
     configure_failing, deconfigure_failing, purge_failing, remove_failing, unpack_failing,
 };
+pub use unpack::is_satisfied;

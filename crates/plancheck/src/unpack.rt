@@ -77,8 +77,10 @@ fn is_atom_satisfied(db: &Records<'_, '_>, name: &[u8], atom: &Atom<'_>) -> bool
     some_other_satisfies(db.holders(atom.name()), name, atom)
 }
 
+/// Whether a package of another name satisfies an atom of the clause. For each atom linear in the records that have or
+/// provide its name, and in what they provide.
 #[tactic(auto, unfolding(rules::specs::Unpack::IsSatisfied))]
-fn is_satisfied(db: &Records<'_, '_>, name: &[u8], clause: &Clause<'_>) -> bool
+pub fn is_satisfied(db: &Records<'_, '_>, name: &[u8], clause: &Clause<'_>) -> bool
     ensures { IsTrue result ↔ IsSatisfied db.now name.now clause.now }
 {
     clause

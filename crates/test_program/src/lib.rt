@@ -9,6 +9,8 @@ mod applying;
 #[cfg(test)]
 mod comparing;
 #[cfg(test)]
+mod formats;
+#[cfg(test)]
 mod judging;
 #[cfg(test)]
 mod memory;

@@ -5,7 +5,7 @@ pub returns-in-Candidate : goal.returns-in-Candidate
 returns-in-Candidate g c at known = rw c.in-Candidate.is (c.outcome_of_names.ensures at known)
 
 pub returns-in-Solve : goal.returns-in-Solve
-returns-in-Solve g c at known = rw c.in-Solve.is (c.outcome_of_request.ensures at known)
+returns-in-Solve g c at known = rw c.in-Solve.is (c.outcome_of_extent.ensures at known)
 
 pub returns-in-CheckPlan : goal.returns-in-CheckPlan
 returns-in-CheckPlan g c at known = rw c.in-CheckPlan.is (c.outcome_of_plan.ensures at known)

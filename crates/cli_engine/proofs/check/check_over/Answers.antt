@@ -30,22 +30,22 @@ returns-in_err-steps-clause-refused g c = λ at known started indexed.
     let listed = lent_listed (texts_of c.args.settings.now at) (slot_records c.args.status_file.now.slots) c.args.releases.items
     c.args.kept.now c.in_ok-indices.indices.items c.as_slice.result.now started indexed c.in_ok-indices.ensures c.as_slice.ensures.value in
     let read = c.in_ok-prefs.ensures.ok at (slot_records c.args.status_file.now.slots) (indices_of c.as_slice.result.now) known listed in
-    let denoted = c.in_ok-universe.ensures.ok at (c.in_ok-prefs.ensures.same ∙ known) read in
+    let denoted = (c.in_ok-universe.ensures.ok at (c.in_ok-prefs.ensures.same ∙ known) read).denoted in
     let p = err_from_is_err_and c.from_residual-in_err-steps.result c.from_residual-in_err-steps.ensures.1 in
-    rw (p.1, p.2) (c.in_err-steps.ensures.refused at (texts_of c.args.settings.now at) c.in_ok-universe.universe (slot_records c.args.status_file.now.slots) (c.in_ok-universe.ensures.same ∙ (c.in_ok-prefs.ensures.same ∙ known)) denoted)
+    rw (p.1, p.2) (c.in_err-steps.ensures.refused at (texts_of c.args.settings.now at) c.in_ok-universe.field-0.universe (slot_records c.args.status_file.now.slots) (c.in_ok-universe.ensures.same ∙ (c.in_ok-prefs.ensures.same ∙ known)) denoted)
 
 pub returns-clause-answer : goal.returns-clause-answer
 returns-clause-answer g c = λ at known started indexed.
     let listed = lent_listed (texts_of c.args.settings.now at) (slot_records c.args.status_file.now.slots) c.args.releases.items
     c.args.kept.now c.in_ok-indices.indices.items c.as_slice.result.now started indexed c.in_ok-indices.ensures c.as_slice.ensures.value in
     let read = c.in_ok-prefs.ensures.ok at (slot_records c.args.status_file.now.slots) (indices_of c.as_slice.result.now) known listed in
-    let denoted = c.in_ok-universe.ensures.ok at (c.in_ok-prefs.ensures.same ∙ known) read in
+    let denoted = (c.in_ok-universe.ensures.ok at (c.in_ok-prefs.ensures.same ∙ known) read).denoted in
     record {
-      universe = c.in_ok-universe.universe;
+      universe = c.in_ok-universe.field-0.universe;
       start = slot_records c.args.status_file.now.slots;
       steps = c.in_ok-steps.steps.items;
       denoted = denoted;
       read = c.in_ok-steps.ensures.ok at (c.in_ok-universe.ensures.same ∙ (c.in_ok-prefs.ensures.same ∙ known));
-      holds = subst (λ (ss : List Step). IsVerdict c.in_ok-universe.universe (slot_records c.args.status_file.now.slots) ss c.in_ok-verdict.verdict)
-          c.as_slice-2.ensures.value c.in_ok-verdict.ensures;
+      holds = subst (λ (ss : List Step). IsVerdict c.in_ok-universe.field-0.universe (slot_records c.args.status_file.now.slots) ss c.in_ok-verdict.verdict)
+          c.as_slice-2.ensures.value c.in_ok-verdict.ensures.holds;
     }

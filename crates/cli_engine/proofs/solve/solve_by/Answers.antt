@@ -6,6 +6,7 @@ use Rattle.plain.proofs.MemberLemmas.{universe_is_counted}
 use Rattle.refutation.proofs.NeededLemmas.{universe_has_needed_pairs}
 use Rattle.status_text.specs.Slot.{slot_records}
 use Rattle.inputs.specs.Texts.{texts_of}
+use Rattle.cli_engine.proofs.GoodLemmas.{good_if_plan}
 use Rattle.cli_engine.proofs.ReadingLemmas.{lent_listed}
 use Rattle.cli_engine.proofs.solve.solve_by.Goals as goal
 use mathlib.Core.Logic.{inl}
@@ -53,3 +54,7 @@ solve_over-requires g c = λ starts pairs.
       start_names = starts;
       pair_names = pairs;
     }
+
+pub tell_solved-requires-clause-good : goal.tell_solved-requires-clause-good
+tell_solved-requires-clause-good g c = good_if_plan c.in_ok-universe.field-0.universe (slot_records c.args.status_file.now.slots)
+    c.args.limit c.in_ok-solved.solved c.in_ok-solved.ensures

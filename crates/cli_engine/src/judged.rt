@@ -1,0 +1,69 @@
+//! What a verdict on a plan is about, told where sentences are asked for.
+ghost use Rattle.std.specs.Prelude.{◌≡◌, IfOk, false};
+ghost use Rattle.rules.specs.Verdict.{IsBuiltOn, IsVerdict};
+ghost use Rattle.status_text.specs.Slot.{slot_records};
+
+use crate::check::judge;
+use crate::sentences::Sentences;
+use plan_sentences::verdict_sentences;
+use plancheck_state::{parse_packages, view};
+use rules::{Step, Verdict};
+use status_text::StatusFile;
+use std::alloc::{AllocError, Global};
+use universe::Universe;
+
+// The sentences on the verdict of these steps from this status file on.
+fn sentences_on<'a>(
+    alloc: Global,
+    status_file: &StatusFile<'a>,
+    universe: &Universe<'_, 'a>,
+    steps: &[Step],
+    verdict: &Verdict,
+) -> Result<Vec<u8>, AllocError>
+    requires built { IsBuiltOn (slot_records status_file.now.slots) universe.now }
+    requires verdict { IsVerdict universe.now (slot_records status_file.now.slots) steps.now verdict.now }
+{
+    let records = status_file.records(alloc)?;
+    let packages = parse_packages(alloc, records.as_slice())?;
+    let start = view(alloc, records.as_slice(), packages.as_slice())?;
+    let text = verdict_sentences(alloc, &start, universe, steps, verdict)?;
+    Ok(text)
+}
+
+/// Tells what stands against the plan, if its verdict is a no, and what it changes, if it is yes, where sentences are asked for.
+/// The packages of the status file are parsed once more for it. Memory alone can fail.
+pub(crate) fn tell_judged<'a>(
+    alloc: Global,
+    status_file: &StatusFile<'a>,
+    universe: &Universe<'_, 'a>,
+    steps: &[Step],
+    verdict: &Verdict,
+    told: &mut Sentences,
+) -> Result<(), AllocError>
+    requires built { IsBuiltOn (slot_records status_file.now.slots) universe.now }
+    requires verdict { IsVerdict universe.now (slot_records status_file.now.slots) steps.now verdict.now }
+    ensures unasked { told.old.wanted ≡ false → told.new ≡ told.old }
+{
+    if !told.wanted {
+        return Ok(());
+    }
+    let text = sentences_on(alloc, status_file, universe, steps, verdict)?;
+    told.add(text.as_slice())
+}
+
+/// Judges the steps from this status file on, and tells what the verdict is about, where sentences are asked for.
+pub(crate) fn judge_telling<'a>(
+    alloc: Global,
+    status_file: &StatusFile<'a>,
+    universe: &Universe<'_, 'a>,
+    steps: &[Step],
+    told: &mut Sentences,
+) -> Result<Verdict, AllocError>
+    requires { IsBuiltOn (slot_records status_file.now.slots) universe.now }
+    ensures holds { IfOk result (λ verdict. IsVerdict universe.now (slot_records status_file.now.slots) steps.now verdict) }
+    ensures unasked { told.old.wanted ≡ false → told.new ≡ told.old }
+{
+    let verdict = judge(alloc, status_file, universe, steps)?;
+    tell_judged(alloc, status_file, universe, steps, &verdict, told)?;
+    Ok(verdict)
+}

@@ -1,0 +1,53 @@
+-- The universe of the request is built on the records of the status file, is no larger than is kept, and its facts are about
+-- distinct names.
+use Rattle.std.proofs.Common.{◌≡◌, Some, map, subst, sym}
+use Rattle.rules.specs.FileRecord.{records_of}
+use Rattle.rules.specs.Universe.{IsUniverse}
+use Rattle.candidates.specs.Inputs.{indices_of, inputs_of}
+use Rattle.status_text.specs.Slot.{entries_of, slot_records}
+use Rattle.universe.specs.Universe.{HaveDistinctNames}
+use Rattle.universe_build.proofs.StartsApart.{starts_apart}
+use Rattle.inputs.specs.Meaning.{IsRequested, asked_of}
+use Rattle.inputs.specs.Texts.{Found}
+use Rattle.inputs.proofs.DenoteLemmas.{built_on}
+use Rattle.inputs.proofs.request.requested_in.Goals as goal
+
+pub returns-in-Ok-clause-built : goal.returns-in-Ok-clause-built
+returns-in-Ok-clause-built c =
+    built_on c.universe_is_built.ensures _ _ c.in-Ok.found.universe
+    (map (λ r. r.now) c.as_slice.result.now) (entries_of c.args.status_file.now.slots) (indices_of c.args.indices.now) c.args.prefs.now
+    (rw c.as_slice.ensures.value c.in_ok-records.ensures.records) c.in_ok-records.ensures.distinct (c.in-Ok.ensures.ok.0, c.in-Ok.ensures.ok.1)
+
+pub returns-in-Ok-clause-distinct : goal.returns-in-Ok-clause-distinct
+returns-in-Ok-clause-distinct c =
+    let built = returns-in-Ok-clause-built c in
+    subst HaveDistinctNames (sym built.starts) (starts_apart _ built.distinct)
+
+pub returns-in-Ok-clause-universe : goal.returns-in-Ok-clause-universe
+returns-in-Ok-clause-universe c =
+    let same : map (λ r. r.now) c.as_slice.result.now ≡ entries_of c.args.status_file.now.slots = rw c.as_slice.ensures.value c.in_ok-records.ensures.records in (
+      asked_of c.in-Ok.ensures.ok.0,
+      subst (λ es. IsUniverse (inputs_of (records_of es) (indices_of c.args.indices.now) c.args.prefs.now (asked_of c.in-Ok.ensures.ok.0)) c.in-Ok.found.universe)
+          same c.in-Ok.ensures.ok.1.built.universe,
+    )
+
+pub returns-in-Ok-clause-ok : goal.returns-in-Ok-clause-ok
+returns-in-Ok-clause-ok c at there read =
+    let same : map (λ r. r.now) c.as_slice.result.now ≡ entries_of c.args.status_file.now.slots = rw c.as_slice.ensures.value c.in_ok-records.ensures.records in
+    let arch = c.args.settings.now.arch.now in
+    let indices = indices_of c.args.indices.now in
+    let prefs = c.args.prefs.now in
+    let asked = c.in-Ok.ensures.ok.0 in
+    let u = c.in-Ok.found.universe in
+    let requested : IsRequested arch (Some c.args.text.now) (slot_records c.args.status_file.now.slots) indices prefs asked u =
+    subst (λ es. IsRequested arch (Some c.args.text.now) (records_of es) indices prefs asked u) same c.in-Ok.ensures.ok.1 in
+    record {
+      denoted = record {
+        indices = indices;
+        prefs = prefs;
+        asked = asked;
+        read = read;
+        requested = subst (λ (r : Found). IsRequested arch r (slot_records c.args.status_file.now.slots) indices prefs asked u) (sym there) requested;
+      };
+      asks = c.in-Ok.ensures.ok.2;
+    }

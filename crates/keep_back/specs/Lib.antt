@@ -1,0 +1,4 @@
+pub mod Before
+pub mod Further
+pub mod KeptBack
+pub mod Reason

@@ -1,0 +1,71 @@
+// What is told of a goal that is left out.
+
+use itoa::Buffer;
+use rules::Goal;
+use std::alloc::AllocError;
+use wishes::Wish;
+
+fn push_count(text: &mut Vec<u8>, count: usize) -> Result<(), AllocError> {
+    let mut buffer = Buffer::new();
+    text.extend_from_slice(buffer.format(count).as_bytes())
+}
+
+// The lines but for the last one.
+fn without_last_line(text: &[u8]) -> &[u8] {
+    let Some((_, lines)) = text.split_last() else {
+        return text;
+    };
+    match lines.iter().rposition(|byte| *byte == b'\n') {
+        None => &[],
+        Some(at) => text.split_at(at + 1).0,
+    }
+}
+
+// Writes the lines, each behind two spaces.
+fn push_indented(text: &mut Vec<u8>, lines: &[u8]) -> Result<(), AllocError> {
+    let mut is_first = true;
+    for byte in lines {
+        if is_first {
+            text.extend_from_slice(b"  ")?;
+        }
+        text.push(*byte)?;
+        is_first = *byte == b'\n';
+    }
+    Ok(())
+}
+
+/// Writes that the wish is kept back, and behind it what these sentences say but for their closing line. Memory alone can fail.
+pub(crate) fn push_note(
+    text: &mut Vec<u8>,
+    wish: &Wish,
+    sentences: &[u8],
+) -> Result<(), AllocError> {
+    text.extend_from_slice(b"Kept back: ")?;
+    text.extend_from_slice(wish.text.as_bytes())?;
+    text.extend_from_slice(b" (line ")?;
+    push_count(text, wish.line)?;
+    text.extend_from_slice(b"), since:\n")?;
+    push_indented(text, without_last_line(sentences))
+}
+
+// Whether the wish may be left out.
+fn is_goal(wish: &Wish) -> bool {
+    match wish.goal() {
+        None | Some(Goal::NoRemove) => false,
+        Some(_) => true,
+    }
+}
+
+/// How many of the wishes may be left out: those that are goals, but for `no-remove`.
+pub(crate) fn count_goals(wishes: &[Wish]) -> usize {
+    wishes.iter().filter(|wish| is_goal(wish)).count()
+}
+
+/// Writes how many goals are left of all. Memory alone can fail.
+pub(crate) fn push_counts(text: &mut Vec<u8>, left: usize, all: usize) -> Result<(), AllocError> {
+    text.extend_from_slice(b"Goals that are left: ")?;
+    push_count(text, left)?;
+    text.extend_from_slice(b" of ")?;
+    push_count(text, all)?;
+    text.extend_from_slice(b".\n")
+}

@@ -1,0 +1,57 @@
+// What the database knows of a name, in words.
+
+use crate::words::{push, push_record};
+use plancheck_state::{Records, StateRecord, is_same};
+use relation::{Clause, Pkg};
+use std::alloc::AllocError;
+
+/// The record of the name, if there is one.
+pub(crate) fn record_of<'v, 'p, 'a>(
+    db: &'v Records<'p, 'a>,
+    name: &[u8],
+) -> Option<&'v StateRecord<'p, 'a>> {
+    for found in db.holders(name) {
+        if is_same(found.name(), name) {
+            return Some(found);
+        }
+    }
+    None
+}
+
+/// The package of the name, if it is present.
+pub(crate) fn pkg_of<'p, 'a>(db: &Records<'p, 'a>, name: &[u8]) -> Option<&'p Pkg<'a>> {
+    record_of(db, name)?.present_pkg()
+}
+
+/// Writes in which state the name is: `foo 1 is installed`, or `foo is not installed`.
+pub(crate) fn push_named(
+    text: &mut Vec<u8>,
+    db: &Records<'_, '_>,
+    name: &[u8],
+) -> Result<(), AllocError> {
+    match record_of(db, name) {
+        None => push(text, &[name, b" is not installed"]),
+        Some(found) => push_record(text, found),
+    }
+}
+
+/// Writes in which state the present packages are that have a name of the clause: ` (foo 1 is unpacked)`.
+pub(crate) fn push_there(
+    text: &mut Vec<u8>,
+    db: &Records<'_, '_>,
+    clause: &Clause<'_>,
+) -> Result<(), AllocError> {
+    let mut count: usize = 0;
+    for atom in clause.as_slice() {
+        if pkg_of(db, atom.name()).is_some() {
+            let before: &[u8] = if count == 0 { b" (" } else { b", " };
+            text.extend_from_slice(before)?;
+            push_named(text, db, atom.name())?;
+            count = count.saturating_add(1);
+        }
+    }
+    if count > 0 {
+        text.push(b')')?;
+    }
+    Ok(())
+}

@@ -1,0 +1,37 @@
+// Two packages that conflict at the start, in words.
+
+use crate::against::push_against;
+use crate::named::record_of;
+use plancheck_state::{Records, StateRecord};
+use std::alloc::AllocError;
+use witness::own_conflict;
+
+// Writes that the package of the record conflicts with another, and whether it does.
+fn push_conflicting(
+    text: &mut Vec<u8>,
+    db: &Records<'_, '_>,
+    found: &StateRecord<'_, '_>,
+) -> Result<bool, AllocError> {
+    let Some(pkg) = found.present_pkg() else {
+        return Ok(false);
+    };
+    let Some(name) = own_conflict(db, pkg) else {
+        return Ok(false);
+    };
+    let Some(other) = record_of(db, name) else {
+        return Ok(false);
+    };
+    push_against(text, b" conflicts with ", pkg, pkg.conflicts(), other)?;
+    Ok(true)
+}
+
+/// Writes the first two packages that conflict at the start.
+pub(crate) fn push_start(text: &mut Vec<u8>, db: &Records<'_, '_>) -> Result<(), AllocError> {
+    text.extend_from_slice(b"Two packages conflict at the start (F0 StartConflict): ")?;
+    for found in db.as_slice() {
+        if push_conflicting(text, db, found)? {
+            return text.extend_from_slice(b".\n");
+        }
+    }
+    text.extend_from_slice(b".\n")
+}

@@ -1,0 +1,8 @@
+-- The wishes to upgrade the names so far stand behind the others.
+use Rattle.std.proofs.Common.{◌≡◌, ◌++◌, map, take}
+use Rattle.wishes.specs.Spelled.{lines_in, upgrade_line}
+use Rattle.wishes.proofs.spelled.push_upgrades.Given as goal
+
+abbrev pub invariant-loop-name : goal.invariant-loop-name
+invariant-loop-name l = lines_in l.wishes.items
+    ≡ lines_in l.fn.wishes.items ++ map upgrade_line (map (λ name. name.now) (take l.name-index l.names))

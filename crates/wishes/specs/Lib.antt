@@ -1,0 +1,3 @@
+pub mod Goals
+pub mod Spelled
+pub mod Upgraded

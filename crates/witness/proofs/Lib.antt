@@ -1,0 +1,3 @@
+pub mod ClauseLemmas
+pub mod StopLemmas
+pub mod TurnLemmas

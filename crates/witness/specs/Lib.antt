@@ -1,0 +1,4 @@
+pub mod Found
+pub mod Needed
+pub mod Turn
+pub mod Witness

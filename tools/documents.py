@@ -1,0 +1,116 @@
+"""What is wrong with an answer of debplan that is written by `--format json`, beside the same answer in lines: `faults(kind, judged,
+plain, document)`. The document is read by Python's `json`, and its objects are compared with the lines that they stand for."""
+import json
+
+ACTIONS = ("unpack", "deconfigure", "configure", "remove", "purge")
+ARCHIVE = ("filename", "size", "sha256")
+# The numbers of a premise, in the order of its line; of a goal the pair may be missing.
+NUMBERS = {"same": ("pair", "other"), "predepends": ("pair", "clause"), "depends": ("pair", "clause"), "conflicts": ("pair", "other"),
+           "breaks": ("pair", "other"), "goal": ("goal", "pair"), "hold": ("pair",), "essential": ("name",), "keep": ("name",)}
+
+
+def step_line(step):
+    """The line of a plan that the object of a step stands for."""
+    if step["action"] == "unpack":
+        return f"unpack {step['name']} {step['version']}"
+    return " ".join([step["action"], *(step["names"] if step["action"] == "configure" else [step["name"]])])
+
+
+def number_of(value):
+    """The number of a pair, or what stands for itself."""
+    return str(value["number"] if isinstance(value, dict) else value)
+
+
+def refutation_line(line):
+    """The line of a refutation that an object stands for."""
+    if "premise" in line:
+        kind = line["premise"]
+        return " ".join([kind, *(number_of(line[key]) for key in NUMBERS[kind] if key in line)])
+    literals = [("" if literal["selected"] else "-") + str(literal["number"]) for literal in line["literals"]]
+    return " ".join(["derive", *literals, ":", *map(str, line["hints"])])
+
+
+def verdict_line(found):
+    """The line of the verdict on a plan that the members stand for."""
+    if found["answer"] == "yes":
+        return "yes\n"
+    rule = f"{found['rule']['code']} {found['rule']['name']}"
+    if found["place"] == "end":
+        reason = found["reason"]
+        return f"no end F11 {reason['kind']} {reason.get('name', reason.get('goal'))}\n"
+    return f"no start {rule}\n" if found["place"] == "start" else f"no step {found['step']} {rule}\n"
+
+
+def candidate_line(found):
+    """The line of the candidate of a name that an object stands for."""
+    return f"{found['name']} none\n" if found["version"] is None else f"{found['name']} {found['version']} {found['priority']}\n"
+
+
+def lines_of(text):
+    """The lines of a plan or a refutation behind its first one, but for the last of a plan of version 2, which counts its steps."""
+    return [line for line in text.decode("utf-8", "replace").splitlines()[1:] if not line.startswith("end ")]
+
+
+def of_steps(found, plan):
+    """What is wrong with the steps of this plan, and with their counts."""
+    if [step_line(step) for step in found["steps"]] != lines_of(plan):
+        yield "the steps aren't those of the plan"
+    if any(set(ARCHIVE) - set(step) for step in found["steps"] if step["action"] == "unpack"):
+        yield "a step that unpacks lacks a member"
+    if found["counts"] != {action: sum(step["action"] == action for step in found["steps"]) for action in ACTIONS}:
+        yield "the counts aren't those of the steps"
+
+
+def of_lines(found, refutation):
+    """What is wrong with the lines of this refutation, and with their counts."""
+    if [refutation_line(line) for line in found["lines"]] != lines_of(refutation):
+        yield "the lines aren't those of the refutation"
+    if [line["line"] for line in found["lines"]] != list(range(1, len(found["lines"]) + 1)):
+        yield "the lines aren't numbered"
+    premises = sum("premise" in line for line in found["lines"])
+    if found["counts"] != {"premises": premises, "derived": len(found["lines"]) - premises}:
+        yield "the counts aren't those of the lines"
+
+
+def of_answer(kind, judged, text, found):
+    """What is wrong with the members of an answer of this kind beside its text."""
+    if kind == "candidate":
+        if "".join(map(candidate_line, found["candidates"])) != text.decode():
+            yield "the candidates aren't those of the lines"
+    elif kind == "check-plan":
+        yield from of_steps(found, judged)
+        if verdict_line(found) != text.decode():
+            yield "the verdict isn't that of the line"
+    elif kind == "check-refutation":
+        yield from of_lines(found, judged)
+        if (f"no line {found['line']}\n" if found["answer"] == "no" else "yes\n") != text.decode():
+            yield "the verdict isn't that of the line"
+    elif found["answer"] == "undecided":
+        if not text.decode().startswith(f"undecided {found['why']}"):
+            yield "the reason isn't that of the line"
+    else:
+        yield from of_steps(found, text) if found["answer"] == "plan" else of_lines(found, text)
+
+
+def faults(kind, judged, plain, document):
+    """What is wrong with what a command of this kind printed as a document, by its exit status, standard output and standard error,
+    beside what it printed in lines. What it judges is this text."""
+    if (document[0], document[2]) != (plain[0], plain[2]):
+        yield "the exit status or standard error is another one"
+    if not plain[1]:
+        if document[1]:
+            yield "a document stands beside no answer"
+        return
+    try:
+        found = json.loads(document[1])
+    except ValueError as error:
+        yield f"it is no JSON: {error}"
+        return
+    if (json.dumps(found, ensure_ascii=False, separators=(",", ":"), sort_keys=True) + "\n").encode() != document[1]:
+        yield "it isn't one line, has spaces or another order of members, or a member twice"
+    if found.get("text") != plain[1].decode("utf-8", "replace"):
+        yield "its text isn't what is printed in lines"
+    try:
+        yield from of_answer(kind, judged, plain[1], found)
+    except (KeyError, TypeError) as error:
+        yield f"a member is missing or of another kind: {error}"
