@@ -60,13 +60,13 @@ def base_of(label, scenario, command):
 @functools.lru_cache(maxsize=None)
 def scenario_bases():
     """The calls of all scenarios, in the order of their files, but for those whose request is no file, that read standard input, or
-    that ask for sentences."""
+    that have sentences beside their answer."""
     found = []
     for path in sorted((TOP / "scenarios").glob("*.txt")):
         for scenario in scenarios_of(path.read_text(encoding="utf-8")):
             if scenario.goals is None and not scenario.input:
                 found += [base_of(f"{path.name}:{command.line}", scenario, command) for command in scenario.commands
-                          if "--explain" not in command.words(scenario)]
+                          if not {"--explain", "--keep-back"} & set(command.words(scenario))]
     return found
 
 

@@ -68,6 +68,12 @@ pub trait Host {
     fn put(&mut self, alloc: Global, path: &[u8], text: &[u8]) -> Result<(), PutError>
         ensures put { (at : Files) → files self.old ≡ Some at → Puts path.now text.now at result (files self.new) }
         ensures count { faults self.new ≡ faults self.old };
+
+    /// Why the file at the path can't be read, in the words of the system, or nothing where it can be or that isn't known. It is for a
+    /// person to read, and nothing is promised of it.
+    fn trouble(&self, _path: &[u8]) -> &'static str {
+        ""
+    }
 }
 
 /// A host that is lent.
@@ -102,5 +108,9 @@ impl<H: Host> Host for &mut H {
 
     fn put(&mut self, alloc: Global, path: &[u8], text: &[u8]) -> Result<(), PutError> {
         Host::put(&mut **self, alloc, path, text)
+    }
+
+    fn trouble(&self, path: &[u8]) -> &'static str {
+        Host::trouble(&**self, path)
     }
 }

@@ -16,7 +16,7 @@ use crate::members::{members_in, tell_members_of_kept};
 use crate::outcome::{Outcome, outcome_in, outcome_of_solved};
 use crate::program::{ask, seen_if};
 use crate::told::{tell_refusal, tell_unsolved};
-use cli_engine::{Refusal, Sentences, Settings};
+use cli_engine::{Input, Refusal, Sentences, Settings};
 use keep_back::{KeptBack, solve_possible_from};
 use rules::Items;
 use std::alloc::{AllocError, Global};
@@ -39,11 +39,16 @@ pub fn solve_possible<H: Host>(
     solve_possible_from(alloc, shelf, settings, limit, told)
 }
 
-// Tells why what is left is undecided, where it is and that is asked for.
+// Tells why what is left is undecided, where it is and that is asked for. Where memory was wanting no answer is told.
 fn tell_left(answer: &Result<KeptBack, Refusal>, told: &mut Sentences) -> Result<(), AllocError> {
     match answer {
         Ok(kept) => tell_unsolved(&kept.answered.solved, told),
-        Err(_) => Ok(()),
+        Err(refusal) => {
+            if let Input::Memory = refusal.place {
+                told.text.clear();
+            }
+            Ok(())
+        }
     }
 }
 
@@ -67,7 +72,7 @@ fn answer_of_possible<H: Host>(
     let seen = seen_if(alloc, explains);
     let mut shelf = HostShelf { host, paths, seen };
     let answer = solve_possible(alloc, &mut shelf, &settings, limit, told);
-    tell_refusal(alloc, &answer, &paths, shelf.seen.as_ref(), told)?;
+    tell_refusal(alloc, &answer, &shelf, told)?;
     tell_left(&answer, told)?;
     tell_members_of_kept(alloc, &mut shelf, &settings, &answer, told)?;
     Ok(answer)

@@ -189,7 +189,7 @@ fn outcome_of_names<H: Host>(
     let seen = seen_if(alloc, explains);
     let mut shelf = HostShelf { host, paths, seen };
     let answer = find_candidates(alloc, &mut shelf, &settings, names, told);
-    tell_refusal(alloc, &answer, &paths, shelf.seen.as_ref(), told)?;
+    tell_refusal(alloc, &answer, &shelf, told)?;
     let members = members_of_names(alloc, names, &answer, told)?;
     let plain = outcome_of_candidates(alloc, names, &answer)?;
     outcome_in(alloc, format, plain, members)
@@ -215,7 +215,7 @@ fn outcome_of_request<H: Host>(
     let seen = seen_if(alloc, explains);
     let mut shelf = HostShelf { host, paths, seen };
     let answer = solve_request(alloc, &mut shelf, &settings, limit, told);
-    tell_refusal(alloc, &answer, &paths, shelf.seen.as_ref(), told)?;
+    tell_refusal(alloc, &answer, &shelf, told)?;
     tell_undecided(&answer, told)?;
     let members = members_of_solved(alloc, &mut shelf, &settings, &answer, told)?;
     let plain = outcome_of_solved(alloc, &answer)?;
@@ -241,7 +241,7 @@ fn outcome_of_plan<H: Host>(
     let seen = seen_if(alloc, explains);
     let mut shelf = HostShelf { host, paths, seen };
     let answer = check_plan(alloc, &mut shelf, &settings, told);
-    tell_refusal(alloc, &answer, &paths, shelf.seen.as_ref(), told)?;
+    tell_refusal(alloc, &answer, &shelf, told)?;
     tell_unfinished(&answer, told)?;
     let members = members_of_plan(alloc, &mut shelf, &settings, &answer, told)?;
     let plain = outcome_of_answer(alloc, &answer)?;
@@ -267,7 +267,7 @@ fn outcome_of_lines<H: Host>(
     let seen = seen_if(alloc, explains);
     let mut shelf = HostShelf { host, paths, seen };
     let answer = check_refutation(alloc, &mut shelf, &settings, told);
-    tell_refusal(alloc, &answer, &paths, shelf.seen.as_ref(), told)?;
+    tell_refusal(alloc, &answer, &shelf, told)?;
     let members = members_of_refutation(alloc, &answer, told)?;
     let plain = outcome_of_refutation(alloc, &answer)?;
     outcome_in(alloc, format, plain, members)

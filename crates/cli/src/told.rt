@@ -1,7 +1,8 @@
 // Sentences on a refusal and on an answer that gives none of its own, for a person to read. Their words aren't promised.
 ghost use Rattle.std.specs.Prelude.{◌≡◌};
 
-use crate::files::{Paths, Seen, TextAt};
+use crate::files::{HostShelf, Paths, Seen, TextAt};
+use crate::host::Host;
 use cli_engine::{Answered, Fault, Input, Refusal, Sentences, Solved, Undecided};
 use index::IndexFault;
 use inputs::StatusRefusal;
@@ -10,21 +11,59 @@ use stanza::StanzaError;
 use std::alloc::{AllocError, Global};
 use universe_request::RequestFault;
 
-/// Tells where the text is that is refused, and what may help, where the answer is a refusal and that is asked for. Memory alone can
-/// fail.
-pub(crate) fn tell_refusal<T>(
+/// Tells where the text is that is refused, why it can't be read, and what may help, where the answer is a refusal and that is asked for.
+/// Memory alone can fail.
+pub(crate) fn tell_refusal<T, H: Host>(
     alloc: Global,
     answer: &Result<T, Refusal>,
-    paths: &Paths<'_>,
-    seen: Option<&Seen>,
+    shelf: &HostShelf<'_, H>,
     told: &mut Sentences,
 ) -> Result<(), AllocError> {
-    match (answer, seen) {
+    match (answer, &shelf.seen) {
         (Err(refusal), Some(seen)) => {
-            tell_place(alloc, refusal.place, paths, seen, told)?;
-            tell_fault(alloc, &refusal.fault, paths, seen, told)
+            tell_place(alloc, refusal.place, &shelf.paths, seen, told)?;
+            tell_trouble(alloc, refusal, shelf, seen, told)?;
+            tell_fault(alloc, &refusal.fault, &shelf.paths, seen, told)
         }
         _ => Ok(()),
+    }
+}
+
+// Tells why the file can't be read, where it is refused for that, in the words of the system.
+fn tell_trouble<H: Host>(
+    alloc: Global,
+    refusal: &Refusal,
+    shelf: &HostShelf<'_, H>,
+    seen: &Seen,
+    told: &mut Sentences,
+) -> Result<(), AllocError> {
+    match (&refusal.fault, path_at(refusal.place, &shelf.paths, seen)) {
+        (Fault::Read, Some(path)) => tell_words(alloc, shelf.host.trouble(path), told),
+        _ => Ok(()),
+    }
+}
+
+// Tells the words of the system, if there are any.
+fn tell_words(alloc: Global, words: &str, told: &mut Sentences) -> Result<(), AllocError> {
+    if words.is_empty() {
+        return Ok(());
+    }
+    told.add(format!(in alloc; "It can't be read: {words}.\n")?.as_bytes())
+}
+
+// The path of the text, if it is a file.
+fn path_at<'a>(place: Input, paths: &Paths<'a>, seen: &'a Seen) -> Option<&'a [u8]> {
+    match place {
+        Input::Status => Some(paths.status.as_bytes()),
+        Input::Sources => Some(paths.sources.as_bytes()),
+        Input::Preferences => Some(paths.preferences?.as_bytes()),
+        Input::Request => match paths.request {
+            TextAt::File(path) => Some(path.as_bytes()),
+            TextAt::Given(_) => None,
+        },
+        Input::Plan | Input::Refutation => Some(paths.judged.as_bytes()),
+        Input::Index(_) => Some(seen.index.as_slice()),
+        Input::Version(_) | Input::Memory => None,
     }
 }
 

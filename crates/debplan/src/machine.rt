@@ -131,6 +131,13 @@ impl<'a> Host for Machine<'a> {
     fn put(&mut self, alloc: Global, path: &[u8], text: &[u8]) -> Result<(), PutError> {
         put_text(self.rt, alloc, path, text)
     }
+
+    fn trouble(&self, path: &[u8]) -> &'static str {
+        match first_error(self.rt, path) {
+            Some(kind) => words_of(kind),
+            None => "",
+        }
+    }
 }
 
 fn standard_input(rt: &HostRuntime) -> Opened<Stdin> {
@@ -145,6 +152,36 @@ fn open_file(rt: &HostRuntime, path: &[u8]) -> Result<File, ErrorKind> {
     match str::from_utf8(path) {
         Ok(path) => File::open(rt, path).map_err(|error| error.kind()),
         Err(_) => Err(ErrorKind::InvalidInput),
+    }
+}
+
+// Why the first byte of the file at the path can't be read, if it can't.
+fn first_error(rt: &HostRuntime, path: &[u8]) -> Option<ErrorKind> {
+    match open_file(rt, path) {
+        Ok(file) => reading_error(file),
+        Err(kind) => Some(kind),
+    }
+}
+
+fn reading_error(file: File) -> Option<ErrorKind> {
+    let mut file = file;
+    let mut block = [0u8; 1];
+    match file.read(&mut block) {
+        Ok(_) => None,
+        Err(error) => Some(error.kind()),
+    }
+}
+
+// The words for what is in the way.
+fn words_of(kind: ErrorKind) -> &'static str {
+    match kind {
+        ErrorKind::NotFound => "no such file or directory",
+        ErrorKind::PermissionDenied => "permission denied",
+        ErrorKind::IsADirectory => "it is a directory",
+        ErrorKind::NotADirectory => "a part of its path is no directory",
+        ErrorKind::FilesystemLoop => "too many symbolic links",
+        ErrorKind::InvalidInput => "no file can have this path",
+        _ => "reading it fails",
     }
 }
 
