@@ -142,7 +142,7 @@ RUNS = [
     Run("solve --explain, a refutation", AGAINST, "solve", ["--explain"], None, "told"),
     Run("solve --format json, a plan", NEEDED, "solve", ["--format", "json"], None, "told"),
     Run("solve --format json, a refutation", AGAINST, "solve", ["--format", "json"], None, "told"),
-    Run("solve --keep-back", AGAINST, "solve", ["--keep-back", "--format", "json"], None, "told"),
+    Run("solve --keep-back", AGAINST, "solve", ["--keep-back", "--explain", "--format", "json"], None, "told"),
     Run("check-plan --explain, a no", NEEDED, "check-plan", ["--explain"], NO_STEP, "told"),
     Run("check-plan --explain, a yes", BROKEN, "check-plan", ["--explain", "--format", "json"], BROKEN_PLAN, "told"),
     Run("candidate --explain", NEEDED, "candidate", ["nobody", "--explain"], None, "told"),
