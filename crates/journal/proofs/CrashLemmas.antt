@@ -6,7 +6,7 @@ use Rattle.disk.specs.RunLaws.{started, weaker}
 use Rattle.rules.specs.declared.limits.TheConstants.{TEXT_BYTES}
 use Rattle.std.specs.Prelude.{Ok}
 use Rattle.status_text.specs.Slot.{FileSlot}
-use Rattle.status_text.specs.Status.{read_status}
+use Rattle.status.specs.Stored.{read_stored}
 use Rattle.journal.specs.declared.ledger.Ledger.{Ledger}
 use Rattle.journal.specs.Commit.{HasFront, IsBetween}
 use Rattle.journal.specs.File.{Entry, HeaderFits, framed, front, header}
@@ -146,7 +146,7 @@ opened arch file l d read done = record {
 }
 
 -- a journal that was created
-pub created : (arch start image : List ℕ) (slots : List FileSlot) (l : Ledger) (d : DiskFacts) → length start ≤ TEXT_BYTES → length arch < 2 ^ 16 → read_status arch start ≡ Ok slots
+pub created : (arch start image : List ℕ) (slots : List FileSlot) (l : Ledger) (d : DiskFacts) → length start ≤ TEXT_BYTES → length arch < 2 ^ 16 → read_stored arch start ≡ Ok slots
     → image ≡ header (Some arch) start ++ 0 ∷ [] → l.start.now ≡ start → l.steps.items ≡ [] → l.database.arch ≡ arch → l.database.slots ≡ slots
     → l.gate ≡ length image - 1 → l.broken ≡ false → Synced image d → IsSettled l d
 created arch start image slots l d short named begins is starts none archs slotss gate whole synced =

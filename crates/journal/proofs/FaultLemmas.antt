@@ -3,7 +3,7 @@ use Rattle.std.proofs.Common.{◌≡◌, inl, inr, ℕ, Some, None, Option, List
 use Rattle.std.specs.Int.{w16, w64, to_be_bytes}
 use Rattle.std.specs.Prelude.{Result, Ok, Err, IfErr, IfOk}
 use Rattle.status_text.specs.Slot.{FileSlot}
-use Rattle.status_text.specs.Status.{read_status}
+use Rattle.status.specs.Stored.{read_stored}
 use Rattle.journal.specs.declared.error.OpenError.{OpenError}
 use Rattle.journal.specs.declared.error.OpenError.TheVariants as error
 use Rattle.journal.specs.declared.ledger.Ledger.{Ledger}
@@ -49,7 +49,7 @@ start_fault arch file named start rest (error.Damaged at) marked has for_it faul
     fault.0,
     λ n s r other.
         let one = header_once n named s start r rest other.0 has.0 (sym other.1 ∙ has.1) in
-        (subst (λ (m : Option (List ℕ)). IsFor arch m) (sym one.named) for_it, λ slots read. fault.1 slots (ap (λ (t : List ℕ). read_status arch t) (sym one.starts) ∙ read)),
+        (subst (λ (m : Option (List ℕ)). IsFor arch m) (sym one.named) for_it, λ slots read. fault.1 slots (ap (λ (t : List ℕ). read_stored arch t) (sym one.starts) ∙ read)),
   );
 }
 start_fault arch file named start rest error.Disk marked has for_it fault = absurd fault

@@ -4,7 +4,7 @@ use Rattle.std.specs.Int.{w32, to_be_bytes}
 use Rattle.std.specs.Prelude.{Ok}
 use Rattle.std.proofs.lemmas.List.{append-nil}
 use Rattle.status_text.specs.Slot.{FileSlot}
-use Rattle.status_text.specs.Status.{read_status}
+use Rattle.status.specs.Stored.{read_stored}
 use Rattle.journal.specs.declared.error.OpenError.{OpenError}
 use Rattle.journal.specs.declared.error.OpenError.TheVariants as error
 use Rattle.journal.specs.declared.ledger.Ledger.{Ledger}
@@ -93,7 +93,7 @@ push_fault arch file l rest error.OtherArchitecture is reaches fault = absurd fa
 
 -- a journal of which the header was read, and no record
 pub begun_reaches : (file : List ℕ) (l : Ledger) (named : Option (List ℕ)) (arch start records : List ℕ) (slots : List FileSlot) → HeaderFits named start → IsFor arch named
-    → read_status arch start ≡ Ok slots → file ≡ header named start ++ records → l.start.now ≡ start → l.steps.items ≡ [] → l.database.arch ≡ arch → l.database.slots ≡ slots
+    → read_stored arch start ≡ Ok slots → file ≡ header named start ++ records → l.start.now ≡ start → l.steps.items ≡ [] → l.database.arch ≡ arch → l.database.slots ≡ slots
     → l.gate ≡ length file - length records → Reaches file (history_of l) l.gate records
 begun_reaches file l named arch start records slots fits for_it begins is starts none archs slotss gate = record {
   named = named;
@@ -103,7 +103,7 @@ begun_reaches file l named arch start records slots fits for_it begins is starts
     for_it = subst (λ (a : List ℕ). IsFor a named) (sym archs) for_it;
     records = subst (λ (rs : List Recorded). AreRecords [] rs) (sym none) tt;
     first = slots;
-    begins = ap (λ (a : List ℕ). read_status a l.start.now) archs ∙ ap (λ (s : List ℕ). read_status arch s) starts ∙ begins;
+    begins = ap (λ (a : List ℕ). read_stored a l.start.now) archs ∙ ap (λ (s : List ℕ). read_stored arch s) starts ∙ begins;
     leads = subst (λ (rs : List Recorded). Leads l.database.arch slots rs l.database.slots) (sym none) slotss;
   };
   is = is ∙ ap (λ (s : List ℕ). header named s ++ records) (sym starts) ∙ ap (λ (l : List ℕ). l ++ records) (sym (append-nil (header named l.start.now)));

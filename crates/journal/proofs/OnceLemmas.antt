@@ -2,7 +2,7 @@
 use Rattle.std.proofs.Common.{◌≡◌, ℕ, ◌<◌, Some, None, Option, List, [], ◌∷◌, ◌++◌, length, drop, get_or, refl, sym, ◌∙◌, ap, subst, arith, append_assoc}
 use Rattle.std.specs.Prelude.{Result, Ok}
 use Rattle.status_text.specs.Slot.{FileSlot}
-use Rattle.status_text.specs.Status.{read_status}
+use Rattle.status.specs.Stored.{read_stored}
 use Rattle.status_text.specs.declared.error.StatusFault.{StatusFault}
 use Rattle.journal.specs.File.{Entry, entries_bytes, framed, front, header}
 use Rattle.journal.specs.History.{AreRecords, History, Leads, Shows, slots_left}
@@ -51,8 +51,8 @@ shows_once file h k a b arch =
     ap (λ (n : Option (List ℕ)). length (header n h.start)) one.named ∙ ap (λ (s : List ℕ). length (header b.named s)) one.starts in
     let rests : x ≡ y = (cut_once (header a.named h.start) (header b.named k.start) x y sizes whole).1 in
     let steps : h.steps ≡ k.steps = records_once a.entries b.entries h.steps k.steps a.tail b.tail a.stands.records b.stands.records rests in
-    let first : a.stands.first ≡ b.stands.first = ok_slots a.stands.first b.stands.first (read_status h.arch h.start) a.stands.begins
-    (ap (λ (l : List ℕ). read_status l h.start) arch ∙ ap (λ (s : List ℕ). read_status k.arch s) one.starts ∙ b.stands.begins) in
+    let first : a.stands.first ≡ b.stands.first = ok_slots a.stands.first b.stands.first (read_stored h.arch h.start) a.stands.begins
+    (ap (λ (l : List ℕ). read_stored l h.start) arch ∙ ap (λ (s : List ℕ). read_stored k.arch s) one.starts ∙ b.stands.begins) in
     let leads : Leads k.arch b.stands.first k.steps h.slots =
     subst (λ (l : List ℕ). Leads l b.stands.first k.steps h.slots) arch
     (subst (λ (f : List FileSlot). Leads h.arch f k.steps h.slots) first

@@ -2,7 +2,7 @@
 use Rattle.std.specs.Prelude.{◌≡◌, ◌⊎◌, ℕ, ◌<◌, ◌≤◌, List, ◌∷◌, ◌++◌, length, Option, Some, Ok, ⊤}
 use Rattle.rules.specs.declared.limits.TheConstants.{TEXT_BYTES}
 use Rattle.status_text.specs.Slot.{FileSlot}
-use Rattle.status_text.specs.Status.{read_status}
+use Rattle.status.specs.Stored.{read_stored}
 use Rattle.journal.specs.File.{HeaderFits, framed, header, magic_of}
 use Rattle.journal.specs.declared.header.Version.{Version}
 use Rattle.journal.specs.History.{History, IsApplicable, IsFor, Reaches}
@@ -32,7 +32,7 @@ pub record IsOfAnother (arch file : List ℕ) : Type 0 where
 -- the file has no header for the architecture whose start is a status text, nor one of another architecture
 abbrev pub IsWithoutStart : List ℕ → List ℕ → Type 0
 IsWithoutStart arch file = (named : Option (List ℕ)) (start rest : List ℕ) → HasHeader file named start rest
-    → IsFor arch named × ((slots : List FileSlot) → ¬ (read_status arch start ≡ Ok slots))
+    → IsFor arch named × ((slots : List FileSlot) → ¬ (read_stored arch start ≡ Ok slots))
 
 -- at a gate there is nothing that can be read: it isn't closed, and no record stands behind it whose step can be taken
 pub record IsStuck (arch : List ℕ) (slots : List FileSlot) (rest : List ℕ) : Type 0 where

@@ -3,9 +3,9 @@
 use Rattle.std.specs.Prelude.{◌≡◌, ◌⊎◌, ℕ, ◌<◌, ◌≤◌, List, [], ◌∷◌, ◌++◌, length, Option, Some, None, Ok, ⊤}
 use Rattle.rules.specs.declared.limits.TheConstants.{TEXT_BYTES}
 use Rattle.status.specs.Applicable.{handed_in, refused_name}
-use Rattle.status.specs.Left.{slots_after}
+use Rattle.status.specs.Left.{stored_after}
 use Rattle.status_text.specs.Slot.{FileSlot, slot_records}
-use Rattle.status_text.specs.Status.{read_status}
+use Rattle.status.specs.Stored.{read_stored}
 use Rattle.journal.specs.File.{Entry, HeaderFits, framed, front}
 use Rattle.journal.specs.Payload.{Recorded, Says}
 
@@ -22,7 +22,7 @@ IsApplicable arch recorded slots = refused_name (handed_in arch recorded.stanza)
 
 -- what the step leaves of the status file
 abbrev pub slots_left : List ℕ → Recorded → List FileSlot → List FileSlot
-slots_left arch recorded slots = slots_after (handed_in arch recorded.stanza) recorded.step slots
+slots_left arch recorded slots = stored_after (handed_in arch recorded.stanza) recorded.step slots
 
 -- the steps lead from one status file to another, and each can be taken in its turn
 abbrev pub Leads : List ℕ → List FileSlot → List Recorded → List FileSlot → Type 0
@@ -53,7 +53,7 @@ pub record StandsFor (named : Option (List ℕ)) (entries : List Entry) (h : His
   pub for_it : IsFor h.arch named
   pub records : AreRecords entries h.steps
   pub first : List FileSlot
-  pub begins : read_status h.arch h.start ≡ Ok first
+  pub begins : read_stored h.arch h.start ≡ Ok first
   pub leads : Leads h.arch first h.steps h.slots
 
 -- behind what stands for the history the file goes on with these bytes, from this offset on

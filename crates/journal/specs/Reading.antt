@@ -2,7 +2,7 @@
 use Rattle.std.specs.Prelude.{◌≡◌, ℕ, ◌+◌, List, ◌∷◌, ◌++◌, length, Option, Some, None, Ok, ⊤}
 use Rattle.rules.specs.declared.limits.TheConstants.{TEXT_BYTES}
 use Rattle.status_text.specs.Slot.{FileSlot, Store}
-use Rattle.status_text.specs.Status.{read_status}
+use Rattle.status.specs.Stored.{read_stored}
 use Rattle.journal.specs.File.{Entry, framed}
 use Rattle.journal.specs.Fault.{IsStuck, IsStuckAt}
 use Rattle.journal.specs.History.{IsApplicable, IsRecord, followed, slots_left}
@@ -52,7 +52,7 @@ IsPushedFault arch file error.OtherArchitecture = ⊥
 -- the start isn't a status text, or memory was refused
 abbrev pub IsStartFault : List ℕ → List ℕ → OpenError → Type 0
 IsStartFault arch start error.OutOfMemory = ⊤
-IsStartFault arch start (error.Damaged at) = (at ≡ 16) × ((slots : List FileSlot) → ¬ (read_status arch start ≡ Ok slots))
+IsStartFault arch start (error.Damaged at) = (at ≡ 16) × ((slots : List FileSlot) → ¬ (read_stored arch start ≡ Ok slots))
 IsStartFault arch start error.Disk = ⊥
 IsStartFault arch start error.NotAJournal = ⊥
 IsStartFault arch start error.OtherArchitecture = ⊥

@@ -29,7 +29,7 @@ pub struct Prepared<'a> {
     bytes: Vec<u8>,
     len: usize,
     recorded: Recorded<'a>,
-    database: Database<'a>,
+    database: Database,
 }
 
 // What counts of the text that is handed in.
@@ -71,16 +71,16 @@ fn record_of(alloc: Global, payload: &[u8]) -> Result<Vec<u8>, AllocError>
 // The database that the step leaves.
 fn left_by<'a, 's>(
     alloc: Global,
-    old: &Database<'a>,
+    old: &Database,
     step: &'s Step,
     text: Option<&'a [u8]>,
-) -> Result<Database<'a>, AppendError<'s>>
+) -> Result<Database, AppendError<'s>>
     ensures left { IfOk result (λ new. IsApplicable old.now.arch (record { step = step.now; stanza = option_copied text.entry }) old.now.slots
         × (new ≡ record old.now { slots = slots_left old.now.arch (record { step = step.now; stanza = option_copied text.entry }) old.now.slots })) }
     ensures fault { IfErr result (IsLeftFault old.now (record { step = step.now; stanza = option_copied text.entry })) }
 {
     let mut database = old.try_copy(alloc)?;
-    match database.apply(step, text) {
+    match database.apply(alloc, step, text) {
         Ok(()) => Ok(database),
         Err(ApplyError::NotApplicable(name)) => Err(AppendError::NotApplicable(name)),
         Err(ApplyError::OutOfMemory) => Err(AppendError::OutOfMemory),
@@ -90,7 +90,7 @@ fn left_by<'a, 's>(
 // All that is to be written and remembered of a step, where it can be taken.
 fn prepare<'a, 's>(
     alloc: Global,
-    old: &Database<'a>,
+    old: &Database,
     step: &'s Step,
     given: Option<&'a [u8]>,
 ) -> Result<Prepared<'a>, AppendError<'s>>

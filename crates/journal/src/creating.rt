@@ -3,7 +3,7 @@ ghost use Rattle.std.specs.Prelude.{◌≡◌, ◌≢◌, ◌↔◌, ◌++◌, �
 ghost use Rattle.disk.specs.Calls.{Counts};
 ghost use Rattle.disk.specs.Facts.{Synced};
 ghost use Rattle.rules.specs.declared.limits.TheConstants.{TEXT_BYTES};
-ghost use Rattle.status_text.specs.Status.{read_status};
+ghost use Rattle.status.specs.Stored.{read_stored};
 ghost use Rattle.journal.specs.Creating.{IsCreateFault, IsCreated, IsUnreadStart};
 ghost use Rattle.journal.specs.File.{header};
 ghost use Rattle.journal.specs.Ledger.{IsSettled};
@@ -51,13 +51,9 @@ fn replace<D: Disk>(disk: &mut D, bytes: &[u8]) -> Result<(), Failed>
 }
 
 // The status file at the start.
-fn read_start<'a>(
-    alloc: Global,
-    start: &'a [u8],
-    arch: &'a [u8],
-) -> Result<Database<'a>, CreateError>
+fn read_start<'a>(alloc: Global, start: &'a [u8], arch: &'a [u8]) -> Result<Database, CreateError>
     ensures arch { IfOk result (λ db. db.arch ≡ arch.now) }
-    ensures ok { IfOk result (λ db. read_status arch.now start.now ≡ Ok db.slots) }
+    ensures ok { IfOk result (λ db. read_stored arch.now start.now ≡ Ok db.slots) }
     ensures err { IfErr result (IsUnreadStart arch.now start.now) }
 {
     match Database::read(alloc, start, arch) {

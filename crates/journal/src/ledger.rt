@@ -48,12 +48,12 @@ impl<'a> Recorded<'a> {
 }
 
 /// A journal in memory: the start, the steps since, the status file that they lead to, and where the next record goes. It
-/// borrows the start and the texts of stanzas.
+/// borrows the start and the texts of stanzas that were handed in; the database owns its own.
 #[derive(Drop)]
 pub struct Ledger<'a> {
     pub(crate) start: &'a [u8],
     pub(crate) steps: Vec<Recorded<'a>>,
-    pub(crate) database: Database<'a>,
+    pub(crate) database: Database,
     /// The offset of the closed gate.
     pub(crate) gate: usize,
     /// A call of the disk failed: what the file holds isn't known.
@@ -67,12 +67,12 @@ impl<'a> Ledger<'a> {
     pub(crate) fn begun(
         alloc: Global,
         start: &'a [u8],
-        database: Database<'a>,
+        database: Database,
         gate: usize,
     ) -> Ledger<'a>
         ensures start { result.start.now ≡ start.now }
         ensures steps { result.steps.items ≡ [] }
-        ensures database { result.database ≡ database.entry }
+        ensures database { result.database ≡ database }
         ensures gate { result.gate ≡ gate }
         ensures whole { result.broken ≡ false }
     {
@@ -100,7 +100,7 @@ impl<'a> Ledger<'a> {
     }
 
     /// The status file that the steps lead to.
-    pub fn database(&self) -> &Database<'a>
+    pub fn database(&self) -> &Database
         ensures arch { result.now.arch ≡ (history_of self.now).arch }
         ensures slots { result.now.slots ≡ (history_of self.now).slots }
     {

@@ -2,7 +2,7 @@
 ghost use Rattle.std.specs.Prelude.{◌≡◌, ◌++◌, ◌∷◌, [], ◌≤◌, ◌<◌, ◌+◌, ◌^◌, List, ℕ, Option, IfErr, IfOk, IsTrue, IsFalse, length, MatchOption};
 ghost use Rattle.std.specs.Option.{option_copied};
 ghost use Rattle.rules.specs.declared.limits.TheConstants.{TEXT_BYTES};
-ghost use Rattle.status_text.specs.Status.{read_status};
+ghost use Rattle.status.specs.Stored.{read_stored};
 ghost use Rattle.std.specs.Prelude.{Ok};
 ghost use Rattle.journal.specs.File.{framed};
 ghost use Rattle.journal.specs.Fault.{IsReadFault, IsStuck};
@@ -56,12 +56,12 @@ fn split_record(rest: &[u8]) -> Option<(u8, &[u8], &[u8])>
 }
 
 // Takes a recorded step again. Answers whether it can be taken.
-fn redo<'a>(database: &mut Database<'a>, recorded: &Recorded<'a>) -> Result<bool, AllocError>
+fn redo(alloc: Global, database: &mut Database, recorded: &Recorded<'_>) -> Result<bool, AllocError>
     ensures taken { IfOk result (λ done. IsTrue done → IsApplicable database.old.arch recorded.now database.old.slots
         × (database.new ≡ record database.old { slots = slots_left database.old.arch recorded.now database.old.slots })) }
     ensures not_taken { IfOk result (λ done. IsFalse done → ¬ IsApplicable database.old.arch recorded.now database.old.slots) }
 {
-    match database.apply(recorded.step(), recorded.stanza()) {
+    match database.apply(alloc, recorded.step(), recorded.stanza()) {
         Ok(()) => Ok(true),
         Err(ApplyError::NotApplicable(_)) => Ok(false),
         Err(ApplyError::OutOfMemory) => Err(AllocError),
@@ -71,7 +71,7 @@ fn redo<'a>(database: &mut Database<'a>, recorded: &Recorded<'a>) -> Result<bool
 // Takes the step of the record behind an open gate, if there is such a record.
 fn take_record<'a>(
     alloc: Global,
-    database: &mut Database<'a>,
+    database: &mut Database,
     rest: &'a [u8],
 ) -> Result<Option<Taken<'a>>, AllocError>
     requires { (tail : List ℕ) → ¬ (rest.now ≡ 0 ∷ tail) }
@@ -84,7 +84,7 @@ fn take_record<'a>(
     let Some(recorded) = read_payload(alloc, payload)? else {
         return Ok(None);
     };
-    if !redo(database, &recorded)? {
+    if !redo(alloc, database, &recorded)? {
         return Ok(None);
     }
     Ok(Some(Taken {
@@ -150,9 +150,9 @@ fn names_another(name: Option<&[u8]>, arch: &[u8]) -> bool
 }
 
 // The status file at the start.
-fn read_start<'a>(alloc: Global, start: &'a [u8], arch: &'a [u8]) -> Result<Database<'a>, OpenError>
+fn read_start(alloc: Global, start: &[u8], arch: &[u8]) -> Result<Database, OpenError>
     ensures arch { IfOk result (λ db. db.arch ≡ arch.now) }
-    ensures ok { IfOk result (λ db. read_status arch.now start.now ≡ Ok db.slots) }
+    ensures ok { IfOk result (λ db. read_stored arch.now start.now ≡ Ok db.slots) }
     ensures err { IfErr result (IsStartFault arch.now start.now) }
 {
     match Database::read(alloc, start, arch) {

@@ -4,7 +4,7 @@ use Rattle.disk.specs.Calls.{Stays}
 use Rattle.disk.specs.Facts.{DiskFacts, LeavesOnly}
 use Rattle.disk.specs.RunLaws.{stays_so, then_runs, weaker}
 use Rattle.status_text.specs.Slot.{FileSlot}
-use Rattle.status_text.specs.Status.{read_status}
+use Rattle.status.specs.Stored.{read_stored}
 use Rattle.journal.specs.History.{History, Leads, Shows, slots_left}
 use Rattle.journal.specs.Creating.{IsCreated}
 use Rattle.journal.specs.Ledger.{history_of, IsSettled, MeansAsBefore}
@@ -33,7 +33,7 @@ leads_on arch slots mid last (r ∷ steps) taken first then = (first.0, leads_on
 -- the start of the history is read as a status file, and the steps lead from it to what it has
 pub record HasStart (h : History) : Type 0 where
   pub first : List FileSlot
-  pub begins : read_status h.arch h.start ≡ Ok first
+  pub begins : read_stored h.arch h.start ≡ Ok first
   pub leads : Leads h.arch first h.steps h.slots
 
 -- so it is of what a file shows, and of a new journal
@@ -43,8 +43,8 @@ shown_start file h shows = record { first = shows.stands.first; begins = shows.s
 new_start : (arch start : List ℕ) (l : Ledger) → IsCreated arch start l → HasStart (history_of l)
 new_start arch start l new = record {
   first = (history_of l).slots;
-  begins = subst (λ (s : List ℕ). read_status (history_of l).arch s ≡ Ok (history_of l).slots) (sym new.start_is)
-      (subst (λ (a : List ℕ). read_status a start ≡ Ok (history_of l).slots) (sym new.for_it) new.read);
+  begins = subst (λ (s : List ℕ). read_stored (history_of l).arch s ≡ Ok (history_of l).slots) (sym new.start_is)
+      (subst (λ (a : List ℕ). read_stored a start ≡ Ok (history_of l).slots) (sym new.for_it) new.read);
   leads = subst (λ (steps : List Recorded). Leads (history_of l).arch (history_of l).slots steps (history_of l).slots) (sym new.no_step) refl;
 }
 
@@ -67,7 +67,7 @@ at_end arch start plan old new for_it has of_plan way = record {
   start_is = way.goes_on.start ∙ of_plan.start_is;
   all = way.all;
   first = has.first;
-  begins = subst (λ (s : List ℕ). read_status arch s ≡ Ok has.first) of_plan.start_is (subst (λ (a : List ℕ). read_status a old.start ≡ Ok has.first) for_it has.begins);
+  begins = subst (λ (s : List ℕ). read_stored arch s ≡ Ok has.first) of_plan.start_is (subst (λ (a : List ℕ). read_stored a old.start ≡ Ok has.first) for_it has.begins);
   leads = subst (λ (a : List ℕ). Leads a has.first plan new.slots) for_it
       (subst (λ (steps : List Recorded). Leads old.arch has.first steps new.slots) (sym way.goes_on.steps ∙ way.all)
       (leads_on old.arch has.first old.slots new.slots old.steps way.taken has.leads way.goes_on.leads));

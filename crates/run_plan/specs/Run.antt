@@ -6,7 +6,7 @@ use Rattle.journal.specs.Ledger.{MeansAsBefore}
 use Rattle.journal.specs.Payload.{Recorded}
 use Rattle.status.specs.Text.{slots_text}
 use Rattle.status_text.specs.Slot.{FileSlot}
-use Rattle.status_text.specs.Status.{read_status}
+use Rattle.status.specs.Stored.{read_stored}
 use Rattle.apply.specs.Planned.{IsOfPlan}
 use Rattle.apply.specs.Progress.{ShowsUpTo}
 
@@ -15,7 +15,7 @@ pub record IsNew (arch start : List ℕ) (h : History) : Type 0 where
   pub for_it : h.arch ≡ arch
   pub start_is : h.start ≡ start
   pub no_step : h.steps ≡ []
-  pub read : read_status arch start ≡ Ok h.slots
+  pub read : read_stored arch start ≡ Ok h.slots
 
 -- for the architecture the history has this start, which is read as a status file, and the steps of the plan, each of which could
 -- be taken in its turn
@@ -24,7 +24,7 @@ pub record IsAtEnd (arch start : List ℕ) (plan : List Recorded) (h : History) 
   pub start_is : h.start ≡ start
   pub all : h.steps ≡ plan
   pub first : List FileSlot
-  pub begins : read_status arch start ≡ Ok first
+  pub begins : read_stored arch start ≡ Ok first
   pub leads : Leads arch first plan h.slots
 
 -- the text is that of the status file at the plan's end

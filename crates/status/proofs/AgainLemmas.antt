@@ -1,33 +1,33 @@
--- The text of faithful slots reads as what they say, and is the text of what is read.
-use Rattle.std.proofs.Common.{◌≡◌, ◌≤◌, ◌<◌, ℕ, false, List, [], ◌∷◌, ◌++◌, map, None, Some, Result, Ok, Err, refl, sym, ap, subst, ◌∙◌, inl, inr, append_assoc, append-nil, length, nat_lt, arith, if◌then◌else◌, bytes_eq}
+-- The text of what is stored reads as it.
+use Rattle.std.proofs.Common.{◌≡◌, ◌≤◌, ℕ, false, List, [], ◌∷◌, ◌++◌, map, Some, Result, Ok, Err, refl, sym, ap, subst, ◌∙◌, inl, append_assoc, length, nat_lt, if◌then◌else◌, bytes_eq}
 use Rattle.std.proofs.lemmas.Bool.{le-ltb}
 use Rattle.std.proofs.lemmas.List.Folds.{list_any-append}
 use Rattle.std.specs.List.{AllByRecursion}
-use Rattle.std.specs.Option.{option_map_or}
 use Rattle.relation.specs.PackageStanza.{read_stanza}
 use Rattle.rules.specs.FileRecord.{FileRecord}
-use Rattle.rules.specs.Stanza.{Field, Stanza}
+use Rattle.rules.specs.Stanza.{Stanza}
 use Rattle.rules.specs.declared.limits.TheConstants.{TEXT_BYTES}
-use Rattle.stanza.specs.declared.form.Form.TheVariants.{Plain}
+use Rattle.stanza.specs.Line.{lines_of}
+use Rattle.stanza.specs.Stanza as Control
 use Rattle.stanza.specs.Stanza.{StanzaText, items_of}
-use Rattle.stanza.specs.declared.lines.TheConstants.{NEWLINE}
-use Rattle.stanza.specs.declared.names.TheConstants.{COLON}
+use Rattle.stanza.specs.declared.form.Form.TheVariants.{Plain}
 use Rattle.status_text.proofs.ReadLemmas.{ReadsAs-all}
-use Rattle.status_text.proofs.ValueLemmas.{without_newline-closed, without_newline-pushed}
 use Rattle.status_text.proofs.WrittenLemmas.{each-one}
-use Rattle.status_text.specs.ReadBack.{IsWritableStanza, ReadsAs, WasRead, WasTouched, as_written}
-use Rattle.status_text.specs.Spelling.{closed, field_text, fields_text, file_text, gap_before, stanza_text}
-use Rattle.status.proofs.NameLemmas.{or-both-false, or-false-left, or-false-right, slots-distinct-from}
-use Rattle.status.specs.Faithful.{IsFaithful, IsFaithfulSlot, ReadsAsSlots, as_read, said}
-use Rattle.status.specs.Places.{AreDistinct}
-use Rattle.status_text.specs.Slot.{FileSlot, names_with, slot_records, stanza_of}
-use Rattle.status.specs.Slots.{names_of}
-use Rattle.status.specs.Text.{slots_text}
+use Rattle.status_text.specs.ReadBack.{IsWritableStanza, ReadsAs, as_written}
 use Rattle.status_text.specs.Record.{is_seen, read_slot}
+use Rattle.status_text.specs.Slot.{FileSlot, names_with, stanza_of}
+use Rattle.status_text.specs.Spelling.{closed}
 use Rattle.status_text.specs.Status.{slot_then, slots_in, with_slots}
 use Rattle.status_text.specs.declared.error.StatusFault.{StatusFault}
 use Rattle.status_text.specs.declared.error.StatusFault.TheVariants as fault
 use Rattle.status_text.specs.declared.slot.Slot.TheVariants.{Recorded, Foreign}
+use Rattle.status.proofs.NameLemmas.{or-both-false, or-false-left, or-false-right}
+use Rattle.status.proofs.StoredLemmas.{closed-again, text-closed}
+use Rattle.status.specs.Faithful.{IsFaithfulSlot, ReadsAsIfShort}
+use Rattle.status.specs.Places.{AreDistinct}
+use Rattle.status.specs.Slots.{names_of}
+use Rattle.status.specs.Stored.{as_stored, stored_of}
+use Rattle.status.specs.Text.{slots_text}
 
 -- the stanzas of faithful slots can be written
 stanzas-writable : (arch : List ℕ) (slots : List FileSlot) → AllByRecursion (IsFaithfulSlot arch) slots → AllByRecursion IsWritableStanza (map stanza_of slots)
@@ -43,13 +43,11 @@ first-unseen (other ∷ seen) name rest distinct =
     (or-false-left (bytes_eq name other) _ (or-false-right _ _ (sym (list_any-append (λ o. bytes_eq o other) seen (name ∷ rest)) ∙ distinct.0)))
     (first-unseen seen name rest distinct.1)
 
--- what is read of stanzas behind records of these names: what the slots say
+-- what is read of stanzas behind records of these names is stored as the slots are
 record Again (arch : List ℕ) (seen : List (List ℕ)) (stanzas : List StanzaText) (slots : List FileSlot) : Type 0 where
   read : List FileSlot
   ok : slots_in arch (map Ok stanzas) seen ≡ Ok read
-  same : map said read ≡ map as_read slots
-  records : slot_records read ≡ slot_records slots
-  shown : map stanza_of read ≡ map as_written (map stanza_of slots)
+  stored : map as_stored read ≡ map as_stored slots
 
 one-again : (arch : List ℕ) (seen names : List (List ℕ)) (stanza : StanzaText) (stanzas : List StanzaText) (slot : FileSlot) (later : List FileSlot)
     → read_slot arch seen stanza ≡ Ok slot → slots_in arch (map Ok stanzas) names ≡ Ok later
@@ -58,9 +56,22 @@ one-again arch seen names stanza stanzas slot later read behind same =
     ap (λ given. slot_then seen given (slots_in arch (map Ok stanzas))) read
     ∙ ap (λ n. with_slots (slot ∷ []) (slots_in arch (map Ok stanzas) n)) (sym same) ∙ ap (with_slots (slot ∷ [])) behind
 
+-- a stanza is stored as its text is
+written-again : (entry : FileRecord) (stanza : Stanza) → IsWritableStanza entry.stanza → stanza ≡ as_written entry.stanza
+    → as_written stanza ≡ as_written entry.stanza
+written-again entry stanza can same =
+    ap as_written same ∙ ap (λ (bytes : List ℕ). record { fields = entry.stanza.fields; bytes = Some bytes }) (text-closed entry.stanza can)
+
+raw-same : (a b : List ℕ) → Some a ≡ Some b → a ≡ b
+raw-same a b e = let h = e in cc
+
+foreign-again : (stanza old : StanzaText) → read_stanza stanza ≡ as_written (read_stanza old) → as_stored (Foreign stanza) ≡ as_stored (Foreign old)
+foreign-again stanza old same =
+    ap (λ (bytes : List ℕ). Foreign (Control.stanza_of Plain 1 (lines_of bytes))) (ap closed (raw-same stanza.raw (closed old.raw) (ap (λ (s : Stanza). s.bytes) same)) ∙ closed-again old.raw)
+
 slots-again : (arch : List ℕ) (seen : List (List ℕ)) (slots : List FileSlot) (stanzas : List StanzaText) → AllByRecursion (IsFaithfulSlot arch) slots
     → AreDistinct (seen ++ names_of slots) → map read_stanza stanzas ≡ map as_written (map stanza_of slots) → Again arch seen stanzas slots
-slots-again arch seen [] [] each distinct same = record { read = []; ok = refl; same = refl; records = refl; shown = refl }
+slots-again arch seen [] [] each distinct same = record { read = []; ok = refl; stored = refl }
 slots-again arch seen [] (stanza ∷ stanzas) each distinct same = absurd (let e = same in cc)
 slots-again arch seen (slot ∷ slots) [] each distinct same = absurd (let e = same in cc)
 slots-again arch seen (Recorded entry ∷ slots) (stanza ∷ stanzas) each distinct same =
@@ -70,12 +81,11 @@ slots-again arch seen (Recorded entry ∷ slots) (stanza ∷ stanzas) each disti
     let read : FileRecord = record { found = entry.found; stanza = read_stanza stanza } in
     let ok = each.0.1 stanza seen (ap (λ (s : Stanza). s.fields) first) (first-unseen seen name (names_of slots) distinct) in
     let later = slots-again arch (seen ++ name ∷ []) slots stanzas each.1 (subst AreDistinct (sym (append_assoc seen (name ∷ []) (names_of slots))) distinct) rest in
+    let itself = written-again entry (read_stanza stanza) each.0.0.stanza first in
     record {
       read = Recorded read ∷ later.read;
       ok = one-again arch seen (seen ++ name ∷ []) stanza stanzas (Recorded read) later.read ok later.ok refl;
-      same = λ i. (record { found = Some entry.found; stanza = first i }) ∷ later.same i;
-      records = ap (λ records. entry.found ∷ records) later.records;
-      shown = λ i. first i ∷ later.shown i;
+      stored = λ i. Recorded (record { found = entry.found; stanza = itself i }) ∷ later.stored i;
     }
 slots-again arch seen (Foreign old ∷ slots) (stanza ∷ stanzas) each distinct same =
     let first : read_stanza stanza ≡ as_written (read_stanza old) = let e = same in cc in
@@ -85,55 +95,17 @@ slots-again arch seen (Foreign old ∷ slots) (stanza ∷ stanzas) each distinct
     record {
       read = Foreign stanza ∷ later.read;
       ok = one-again arch seen seen stanza stanzas (Foreign stanza) later.read ok later.ok refl;
-      same = λ i. (record { found = None; stanza = first i }) ∷ later.same i;
-      records = later.records;
-      shown = λ i. first i ∷ later.shown i;
+      stored = λ i. foreign-again stanza old first i ∷ later.stored i;
     }
-
--- a stanza that can be written is written as it was
-fields-end : (field : Field) (fields : List Field) → (front : List ℕ) × (fields_text (field ∷ fields) ≡ front ++ NEWLINE ∷ [])
-fields-end field [] = (field.name ++ COLON ∷ gap_before field.value ++ field.value, append-nil (field_text field))
-fields-end field (next ∷ fields) =
-    let later = fields-end next fields in (
-      field_text field ++ later.0,
-      ap (λ t. field_text field ++ t) later.1 ∙ sym (append_assoc (field_text field) later.0 (NEWLINE ∷ [])),
-    )
-
-closed-fields : (fields : List Field) → 0 < length fields → closed (fields_text fields) ≡ fields_text fields
-closed-fields [] some = absurd (omega (arith, some))
-closed-fields (field ∷ fields) some =
-    let ends = fields-end field fields in
-    ap closed ends.1 ∙ ap (λ t. t ++ NEWLINE ∷ []) (without_newline-pushed ends.0) ∙ sym ends.1
-
-touched-again : (stanza : Stanza) → WasTouched stanza → closed (stanza_text stanza) ≡ stanza_text stanza
-touched-again stanza was =
-    let text : stanza_text stanza ≡ fields_text stanza.fields = ap (λ bytes. option_map_or closed bytes (fields_text stanza.fields)) was.0 in
-    ap closed text ∙ closed-fields stanza.fields was.1.some ∙ sym text
-
-read-again : (stanza : Stanza) → WasRead stanza → closed (stanza_text stanza) ≡ stanza_text stanza
-read-again stanza was =
-    subst (λ (s : Stanza). closed (stanza_text s) ≡ stanza_text s) (sym was.3) (ap (λ t. t ++ NEWLINE ∷ []) (without_newline-closed was.1.raw))
-
-text-again : (stanzas : List Stanza) → AllByRecursion IsWritableStanza stanzas → file_text (map as_written stanzas) ≡ file_text stanzas
-text-again [] each = refl
-text-again (stanza ∷ stanzas) each =
-    let first : closed (stanza_text stanza) ≡ stanza_text stanza =
-    elim each.0 [ inl was ↦ read-again stanza was | inr was ↦ touched-again stanza was ] in
-    λ i. (first i ++ NEWLINE ∷ []) ++ text-again stanzas each.1 i
 
 within : (text : List ℕ) (read : Result (List FileSlot) StatusFault) → length text ≤ TEXT_BYTES → (if nat_lt TEXT_BYTES (length text) then Err fault.TooLarge else read) ≡ read
 within text read short = let large : nat_lt TEXT_BYTES (length text) ≡ false = le-ltb TEXT_BYTES (length text) short in rw large refl
 
-pub faithful_reads_back : (arch : List ℕ) (slots : List FileSlot) → IsFaithful arch slots → length (slots_text slots) ≤ TEXT_BYTES
-    → ReadsAsSlots arch (slots_text slots) slots
-faithful_reads_back arch slots faithful short =
-    let writable = stanzas-writable arch slots faithful.each in
+pub stored_reads_back : (arch : List ℕ) (slots : List FileSlot) → AllByRecursion (IsFaithfulSlot arch) slots → AreDistinct (names_of slots)
+    → map as_stored slots ≡ slots → ReadsAsIfShort arch (slots_text slots) slots
+stored_reads_back arch slots each distinct stored short =
+    let writable = stanzas-writable arch slots each in
     let spelled : ReadsAs (slots_text slots) (map as_written (map stanza_of slots)) = ReadsAs-all (map stanza_of slots) (each-one (map stanza_of slots) writable) in
-    let again = slots-again arch [] slots spelled.0 faithful.each (slots-distinct-from slots faithful.distinct) spelled.2 in
-    record {
-      read = again.read;
-      ok = within (slots_text slots) (slots_in arch (items_of Plain (slots_text slots)) []) short ∙ ap (λ items. slots_in arch items []) spelled.1 ∙ again.ok;
-      same = again.same;
-      records = again.records;
-      again = ap file_text again.shown ∙ text-again (map stanza_of slots) writable;
-    }
+    let again = slots-again arch [] slots spelled.0 each distinct spelled.2 in
+    ap stored_of (within (slots_text slots) (slots_in arch (items_of Plain (slots_text slots)) []) short ∙ ap (λ items. slots_in arch items []) spelled.1 ∙ again.ok)
+    ∙ ap {A = List FileSlot} Ok (again.stored ∙ stored)

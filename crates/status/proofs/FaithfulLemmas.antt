@@ -20,8 +20,7 @@ use Rattle.status_text.proofs.VersionLemmas.{version-writable}
 use Rattle.status_text.specs.ReadBack.{WasRead}
 use Rattle.status_text.specs.Touched.{IsWritableEntry, IsWritableVersion}
 use Rattle.status.proofs.ForeignLemmas.{foreign-same, foreign-stays}
-use Rattle.status.specs.Faithful.{IsFaithful, IsFaithfulSlot}
-use Rattle.status_text.proofs.DistinctLemmas.{distinct_names}
+use Rattle.status.specs.Faithful.{IsFaithfulSlot}
 use Rattle.status_text.specs.Record.{config_version_at, read_slot}
 use Rattle.status_text.specs.Slot.{FileSlot, names_with}
 use Rattle.status_text.specs.Status.{read_item, read_status, slot_then, slots_in, with_slots}
@@ -63,7 +62,7 @@ entry-faithful arch seen stanza entry was read =
           (config-sound entry.found.state values.version values.config_version says.version_sound says.config_sound));
     }
 
-slot-faithful : (arch : List ℕ) (seen : List (List ℕ)) (stanza : StanzaText) (slot : FileSlot) → WasRead (read_stanza stanza)
+pub slot-faithful : (arch : List ℕ) (seen : List (List ℕ)) (stanza : StanzaText) (slot : FileSlot) → WasRead (read_stanza stanza)
     → read_slot arch seen stanza ≡ Ok slot → IsFaithfulSlot arch slot
 slot-faithful arch seen stanza (Recorded entry) was read = (entry-faithful arch seen stanza entry was read, read_reads_back arch seen stanza entry read)
 slot-faithful arch seen stanza (Foreign other) was read =
@@ -108,10 +107,7 @@ pub short : (large : Bool) (read : Result (List FileSlot) StatusFault) (slots : 
 short true read slots h = absurd (let e = h in cc)
 short false read slots h = h
 
-pub read_is_faithful : (arch text : List ℕ) (slots : List FileSlot) → read_status arch text ≡ Ok slots → IsFaithful arch slots
+pub read_is_faithful : (arch text : List ℕ) (slots : List FileSlot) → read_status arch text ≡ Ok slots → AllByRecursion (IsFaithfulSlot arch) slots
 read_is_faithful arch text slots e =
     let items = items_of Plain text in
-    let read = short (nat_lt TEXT_BYTES (length text)) (slots_in arch items []) slots e in record {
-      each = slots-faithful arch items [] slots (λ stanza within. (text, stanza, within, refl)) read;
-      distinct = distinct_names arch items slots read;
-    }
+    slots-faithful arch items [] slots (λ stanza within. (text, stanza, within, refl)) (short (nat_lt TEXT_BYTES (length text)) (slots_in arch items []) slots e)

@@ -20,14 +20,6 @@ all_of_both p q same (x ∷ xs) = elim (cases_Bool (q x)) [
   | inr fails ↦ rw fails (all_of_both p q same xs)
 ]
 
--- what stands for itself is put together to the same list
-pub each_itself : {X : Type 0} (q : X → Bool) (g : X → List X) → ((x : X) → q x ≡ true → g x ≡ x ∷ []) → (xs : List X) → flat_map g (filter q xs) ≡ filter q xs
-each_itself q g same [] = refl
-each_itself q g same (x ∷ xs) = elim (cases_Bool (q x)) [
-  | inl passes ↦ rw (passes, same x passes) (ap (λ rest. x ∷ rest) (each_itself q g same xs))
-  | inr fails ↦ rw fails (each_itself q g same xs)
-]
-
 -- nothing of what is put together passes a test that no part passes
 pub none_in_parts : {X : Type 0} (p w : X → Bool) (g : X → List X) → ((x : X) → w x ≡ true → filter p (g x) ≡ []) → (xs : List X) → filter p (flat_map g (filter w xs)) ≡ []
 none_in_parts p w g none [] = refl

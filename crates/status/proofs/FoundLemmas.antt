@@ -1,15 +1,12 @@
 -- What the entry that is found of a name says of the tests and changes of that name.
-use Rattle.std.proofs.Common.{◌≡◌, ℕ, Bool, true, false, cond, ◌||◌, ◌&&◌, List, [], ◌∷◌, Some, None, refl, sym, ap, subst, ◌∙◌, bytes_eq, true≢false, Option}
-use Rattle.std.specs.Ordering.{is_eq}
-use Rattle.std.specs.Prelude.{Result, Ok, Err, OnErr}
+use Rattle.std.proofs.Common.{◌≡◌, ℕ, Bool, true, false, cond, ◌||◌, ◌&&◌, List, [], ◌∷◌, Some, None, refl, sym, ap, subst, ◌∙◌, bytes_eq, true≢false}
 use Rattle.rules.specs.Database.{Record}
-use Rattle.rules.specs.FileRecord.{FileRecord, IndexStanza}
+use Rattle.rules.specs.FileRecord.{FileRecord}
 use Rattle.rules.specs.NamedLaws.{bytes_eq-true}
 use Rattle.rules.specs.Step.{is_named}
 use Rattle.status_text.specs.Slot.{FileSlot, slot_records}
 use Rattle.status_text.specs.declared.slot.Slot.TheVariants.{Recorded, Foreign}
-use Rattle.rules.specs.Version.{version_cmp}
-use Rattle.status.specs.Applicable.{has_record, is_indexed_as}
+use Rattle.status.specs.Applicable.{has_record}
 use Rattle.status.specs.Places.{AreDistinct}
 use Rattle.status.specs.Slots.{changed_slots, entry_named, has_name, names_of}
 use Rattle.status.proofs.NameLemmas.{has_name-names, is_in, or-false-left, or-false-right, unnamed-changed}
@@ -31,10 +28,6 @@ ready-none test name slots none = unready test name slots (none-named name slots
 pub or-none : (b : Bool) → (b || false) ≡ b
 or-none true = refl
 or-none false = refl
-
-pub and-none : (b : Bool) → (b && false) ≡ false
-and-none true = refl
-and-none false = refl
 
 -- where no record has the name, none is changed under a test of it
 unnamed-tested : (name : List ℕ) (test : Record → Bool) (change : FileRecord → FileRecord) (slots : List FileSlot) → is_in name (names_of slots) ≡ false
@@ -147,15 +140,3 @@ module _ (name : List ℕ) where
 and-left : (a b : Bool) → (a && b) ≡ true → a ≡ true
 and-left true b h = refl
 and-left false b h = absurd (true≢false (sym h))
-
--- what is handed in under a name is new where the name is
-pub new-indexed : (name version : List ℕ) (given : Option IndexStanza) (indexed : IndexStanza) (slots : List FileSlot) → given ≡ Some indexed
-    → is_indexed_as name version given ≡ true → has_name indexed.listed.pkg.name slots ≡ false → has_name name slots ≡ false
-new-indexed name version given indexed slots is passes fresh =
-    let both : is_indexed_as name version (Some indexed) ≡ true = ap (is_indexed_as name version) (sym is) ∙ passes in
-    let same = bytes_eq-true indexed.listed.pkg.name name (and-left (bytes_eq indexed.listed.pkg.name name) (is_eq (version_cmp indexed.listed.pkg.version version)) both) in
-    ap (λ n. has_name n slots) (sym same) ∙ fresh
-
-pub on-err : {A E P : Type 0} (result : Result A E) → P → OnErr result P
-on-err (Ok done) p = tt
-on-err (Err fault) p = p

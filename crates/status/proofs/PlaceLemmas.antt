@@ -1,6 +1,5 @@
 -- Names found in the map of their numbers, and places filled, written and emptied.
 use Rattle.std.proofs.Common.{◌≡◌, ℕ, zero, suc, ◌+◌, Bool, true, false, true≢false, cond, not, ◌||◌, List, [], ◌∷◌, ◌++◌, map, length, slice_get, slice_set, Option, Some, None, refl, sym, ap, subst, ◌∙◌, bytes_eq, arith}
-use Rattle.std.specs.Borrow.{Bor}
 use Rattle.std.specs.List.{filter}
 use Rattle.std.specs.Map.{keys_of, lookup, remove_entry}
 use Rattle.rules.specs.FileRecord.{FileRecord}
@@ -8,25 +7,30 @@ use Rattle.rules.specs.NamedLaws.{bytes_eq-same, bytes_eq-true}
 use Rattle.rules.specs.Step.{is_named}
 use Rattle.status_text.specs.Slot.{FileSlot}
 use Rattle.status_text.specs.declared.slot.Slot.TheVariants.{Recorded, Foreign}
-use Rattle.status.specs.Places.{AreDistinct, FindsAt, IsAt, lent, numbered, slots_at}
+use Rattle.status.specs.Places.{AreDistinct, FindsAt, IsAt, numbered, slots_at}
 use Rattle.status.specs.Slots.{changed_slots, entry_named, is_slot_named, names_of}
 use Rattle.status.proofs.NameLemmas.{bytes_eq-flip, is_in, unnamed-changed, unnamed-kept}
 
-pub lookup-lent : (name : List ℕ) (es : List (Bor (List ℕ) × ℕ))
-    → lookup (λ key. bytes_eq name key.now) es ≡ lookup (λ other. bytes_eq other name) (map lent es)
-lookup-lent name [] = refl
-lookup-lent name (e ∷ es) = rw (bytes_eq-flip name e.0.now, lookup-lent name es) refl
+-- what is looked up by keys that own their names is looked up by the names
+pub lookup-owned : {K : Type 0} (name_of : K → List ℕ) (name : List ℕ) (es : List (K × ℕ))
+    → lookup (λ key. bytes_eq name (name_of key)) es ≡ lookup (λ other. bytes_eq other name) (map (λ p. (name_of p.0, p.1)) es)
+lookup-owned name_of name [] = refl
+lookup-owned name_of name (e ∷ es) = rw (bytes_eq-flip name (name_of e.0), lookup-owned name_of name es) refl
 
-pub remove-lent : (name : List ℕ) (es : List (Bor (List ℕ) × ℕ))
-    → map lent (remove_entry (λ key. bytes_eq name key.now) es) ≡ remove_entry (λ other. bytes_eq other name) (map lent es)
-remove-lent name [] = refl
-remove-lent name (e ∷ es) = rw (bytes_eq-flip name e.0.now) (by (bytes_eq e.0.now name) (remove-lent name es))
+pub remove-owned : {K : Type 0} (name_of : K → List ℕ) (name : List ℕ) (es : List (K × ℕ))
+    → map {B = List ℕ × ℕ} (λ p. (name_of p.0, p.1)) (remove_entry (λ key. bytes_eq name (name_of key)) es)
+    ≡ remove_entry (λ other. bytes_eq other name) (map (λ p. (name_of p.0, p.1)) es)
+remove-owned name_of name [] = refl
+remove-owned {K} name_of name (e ∷ es) = rw (bytes_eq-flip name (name_of e.0)) (by (bytes_eq (name_of e.0) name) (remove-owned name_of name es))
   where
-    by : (b : Bool) → map lent (remove_entry (λ key. bytes_eq name key.now) es) ≡ remove_entry (λ other. bytes_eq other name) (map lent es)
-        → map lent (cond b es (e ∷ remove_entry (λ key. bytes_eq name key.now) es))
-        ≡ cond b (map lent es) (lent e ∷ remove_entry (λ other. bytes_eq other name) (map lent es))
+    named : K × ℕ → List ℕ × ℕ
+    named p = (name_of p.0, p.1)
+
+    by : (b : Bool) → map named (remove_entry (λ key. bytes_eq name (name_of key)) es) ≡ remove_entry (λ other. bytes_eq other name) (map named es)
+        → map named (cond b es (e ∷ remove_entry (λ key. bytes_eq name (name_of key)) es))
+        ≡ cond b (map named es) (named e ∷ remove_entry (λ other. bytes_eq other name) (map named es))
     by true later = refl
-    by false later = ap (λ rest. lent e ∷ rest) later
+    by false later = ap (λ rest. named e ∷ rest) later
 
 -- the names that are numbered are those of the slots
 pub numbered-names : (number : ℕ) (places : List (Option FileSlot)) → map (λ p. p.0) (numbered number places) ≡ names_of (slots_at places)
@@ -73,10 +77,10 @@ finds-at : (name : List ℕ) (places : List (Option FileSlot)) (at : Option ℕ)
 finds-at name places None h = h
 finds-at name places (Some at) h = let e : h.0 ≡ at = let f = h.1 in omega (arith, f) in subst (IsAt name places) e h.2
 
-pub found-at : (name : List ℕ) (places : List (Option FileSlot)) (es : List (Bor (List ℕ) × ℕ)) → map lent es ≡ numbered 0 places
-    → FindsAt name places (lookup (λ key. bytes_eq name key.now) es)
-found-at name places es numbers =
-    subst (FindsAt name places) (sym (lookup-lent name es ∙ ap (lookup (λ other. bytes_eq other name)) numbers))
+pub found-at : {K : Type 0} (name_of : K → List ℕ) (name : List ℕ) (places : List (Option FileSlot)) (es : List (K × ℕ))
+    → map {B = List ℕ × ℕ} (λ p. (name_of p.0, p.1)) es ≡ numbered 0 places → FindsAt name places (lookup (λ key. bytes_eq name (name_of key)) es)
+found-at name_of name places es numbers =
+    subst (FindsAt name places) (sym (lookup-owned name_of name es ∙ ap (lookup (λ other. bytes_eq other name)) numbers))
     (finds-at name places (lookup (λ other. bytes_eq other name) (numbered 0 places)) (finds name 0 places))
 
 -- a slot of the name of this entry is among those in whose places the entry stands
@@ -193,7 +197,7 @@ numbered-append number (Some (Recorded entry) ∷ places) more =
     ap (λ later. (entry.found.name, number) ∷ later)
     (numbered-append (number + 1) places more ∙ further number places more (numbered (number + 1) places))
 
--- the keys that are lent are the names
-pub lent-names : (es : List (Bor (List ℕ) × ℕ)) → map (λ name. name.now) (keys_of es) ≡ map (λ p. p.0) (map lent es)
-lent-names [] = refl
-lent-names (e ∷ es) = ap (λ names. e.0.now ∷ names) (lent-names es)
+-- the names of keys
+pub key-names : {K : Type 0} (name_of : K → List ℕ) (es : List (K × ℕ)) → map name_of (keys_of es) ≡ map (λ p. p.0) (map {B = List ℕ × ℕ} (λ p. (name_of p.0, p.1)) es)
+key-names name_of [] = refl
+key-names name_of (e ∷ es) = ap (λ names. name_of e.0 ∷ names) (key-names name_of es)

@@ -1,52 +1,39 @@
--- What a step leaves of faithful slots is faithful.
-use Rattle.std.proofs.Common.{◌≡◌, ℕ, Bool, true, false, true≢false, cond, not, ◌&&◌, ◌||◌, List, [], ◌∷◌, ◌++◌, Option, None, Some, refl, sym, ap, subst, ◌∙◌, if◌then◌else◌}
+-- What an action leaves of an entry that can be written and reads back does so too.
+use Rattle.std.proofs.Common.{◌≡◌, ℕ, Bool, true, false, ◌&&◌, ◌||◌, List, [], ◌∷◌, Option, None, Some, refl, sym, subst, if◌then◌else◌}
 use Rattle.std.specs.List.{AllByRecursion}
-use Rattle.std.specs.Option.{option_map}
-use Rattle.rules.proofs.EntryLemmas.{written_as_left}
-use Rattle.rules.proofs.QuietLemmas.{distinct_names_kept}
-use Rattle.rules.specs.Database.{HasDistinctNames, Record}
-use Rattle.rules.specs.FileRecord.{FileRecord, IndexStanza, new_entry, records_of, touched_entry, unpacked_entry}
+use Rattle.std.specs.Option.{option_map_or}
+use Rattle.rules.specs.Database.{Record}
+use Rattle.rules.specs.FileRecord.{FileRecord, IndexStanza, new_entry, touched_entry, unpacked_entry}
 use Rattle.rules.specs.NamedLaws.{bytes_eq-same}
 use Rattle.rules.specs.State.{is_installed_state, is_present_state, is_sound_flag, is_unconfigured_state}
-use Rattle.rules.specs.Step.{configured, deconfigured, is_among, is_named, removed, result_of}
+use Rattle.rules.specs.Stanza.{status_field, unpacked_fields}
+use Rattle.rules.specs.Step.{configured, deconfigured, is_named, kept_config_version, removed}
+use Rattle.rules.specs.declared.status.Flag.TheVariants as flags
+use Rattle.rules.specs.declared.status.Want.TheVariants as wants
 use Rattle.rules.specs.declared.status.State.{State}
 use Rattle.rules.specs.declared.status.State.TheVariants.{NotInstalled, ConfigFiles, HalfInstalled, Unpacked, HalfConfigured, TriggersAwaited, TriggersPending, Installed}
-use Rattle.rules.specs.declared.step.Step.{Step}
 use Rattle.rules.specs.declared.step.Step.TheVariants as step
-use Rattle.status.proofs.ReadBackLemmas.{touched_reads_back}
-use Rattle.status.specs.ReadBack.{ReadsBack}
-use Rattle.status_text.proofs.DistinctFieldLemmas.{all-append, all-filter}
 use Rattle.status_text.proofs.EntryLemmas.{stay-writable}
+use Rattle.status_text.specs.Slot.{FileSlot}
 use Rattle.status_text.specs.Touched.{IsWritableEntry}
-use Rattle.status.proofs.HandedLemmas.{CanUnpack, can-unpack}
-use Rattle.status.proofs.FoundLemmas.{changed-tested, ready-none, ready-some}
-use Rattle.status.proofs.GroupLemmas.{group-whole, is_due}
-use Rattle.status.proofs.LeftLemmas.{entries_are_written}
-use Rattle.status.proofs.NameLemmas.{slots-distinct-from}
-use Rattle.status.specs.Applicable.{first_unready, handed_in, has_record, is_configurable, is_deconfigurable, is_removable, refused_name}
-use Rattle.status.specs.Faithful.{IsFaithful, IsFaithfulSlot}
-use Rattle.status.specs.Left.{slots_after, slots_after_unpack}
-use Rattle.status.specs.Places.{AreDistinct}
-use Rattle.status_text.specs.Slot.{FileSlot, entries_of, slot_records}
-use Rattle.status.specs.Slots.{changed_slots, entry_named, has_name, is_slot_named, names_of}
 use Rattle.status_text.specs.declared.slot.Slot.TheVariants.{Recorded, Foreign}
+use Rattle.status.proofs.HandedLemmas.{CanUnpack}
+use Rattle.status.proofs.ReadBackLemmas.{touched_reads_back}
+use Rattle.status.proofs.StoredLemmas.{faithful-stored}
+use Rattle.status.specs.Action.{left_of, starts_from}
+use Rattle.status.specs.Change.{IsTextOf}
+use Rattle.status.specs.Faithful.{IsFaithfulSlot}
+use Rattle.status.specs.ReadBack.{ReadsBack}
+use Rattle.status.specs.Slots.{entry_named}
+use Rattle.status.specs.Stored.{written}
+use Rattle.status.specs.Written.{entry_over, fields_in}
+use Rattle.status.specs.declared.action.Action.{Action}
+use Rattle.status.specs.declared.action.Action.TheVariants.{Configure, Deconfigure, Remove}
+use Rattle.status_text.specs.Spelling.{fields_text, stanza_text}
 
 -- an entry that can be written and reads back
-abbrev IsGood : List ℕ → FileRecord → Type 0
+abbrev pub IsGood : List ℕ → FileRecord → Type 0
 IsGood arch entry = IsWritableEntry entry × ReadsBack arch entry
-
--- slots of which some are changed
-changed-faithful : (arch : List ℕ) (test : Record → Bool) (change : FileRecord → FileRecord) (slots : List FileSlot)
-    → ((entry : FileRecord) → test entry.found ≡ true → IsGood arch entry → IsGood arch (change entry))
-    → AllByRecursion (IsFaithfulSlot arch) slots → AllByRecursion (IsFaithfulSlot arch) (changed_slots test change slots)
-changed-faithful arch test change [] keeps each = tt
-changed-faithful arch test change (Foreign stanza ∷ slots) keeps each = (each.0, changed-faithful arch test change slots keeps each.1)
-changed-faithful arch test change (Recorded entry ∷ slots) keeps each =
-    (by (test entry.found) refl, changed-faithful arch test change slots keeps each.1)
-  where
-    by : (b : Bool) → test entry.found ≡ b → IsGood arch (cond b (change entry) entry)
-    by true e = keeps entry e each.0
-    by false e = each.0
 
 -- an action on a present record
 name-itself : (entry : FileRecord) → is_named entry.found.name entry.found ≡ true
@@ -85,31 +72,9 @@ unpacked-good arch indexed entry can named good = (
 new-good : (arch : List ℕ) (indexed : IndexStanza) → CanUnpack arch indexed → IsGood arch (new_entry indexed)
 new-good arch indexed can = ((stay-writable (Some indexed) (step.Unpack [] []) [] can.writable tt).0, can.alone)
 
--- of distinct names the record of a ready name passes the test
-tested : (test : Record → Bool) (name : List ℕ) (change : FileRecord → FileRecord) (slots : List FileSlot) → AreDistinct (names_of slots)
-    → has_record test name (slot_records slots) ≡ true
-    → changed_slots (is_named name) change slots ≡ changed_slots (λ found. is_named name found && test found) change slots
-tested test name change slots distinct ready = by (entry_named name slots) refl
-  where
-    by : (found : Option FileRecord) → entry_named name slots ≡ found
-        → changed_slots (is_named name) change slots ≡ changed_slots (λ found. is_named name found && test found) change slots
-    by None e = absurd (true≢false (sym ready ∙ ready-none test name slots e))
-    by (Some entry) e = changed-tested name test change slots entry distinct e (sym (ready-some name test slots entry distinct e) ∙ ready)
-
-ready-one : (test : Record → Bool) (name : List ℕ) (db : List Record) → first_unready test (name ∷ []) db ≡ None → has_record test name db ≡ true
-ready-one test name db none = by (has_record test name db) none
-  where
-    by : (b : Bool) → cond (not b) (Some name) None ≡ None → b ≡ true
-    by true h = refl
-    by false h = absurd (let e = h in cc)
-
 and-left : (a b : Bool) → (a && b) ≡ true → a ≡ true
 and-left true b h = refl
 and-left false b h = h
-
-and-right : (a b : Bool) → (a && b) ≡ true → b ≡ true
-and-right true b h = h
-and-right false b h = absurd (true≢false (sym h))
 
 installed-present : (state : State) → is_installed_state state ≡ true → is_present_state state ≡ true
 installed-present NotInstalled h = h
@@ -131,57 +96,53 @@ unconfigured-present TriggersAwaited h = refl
 unconfigured-present TriggersPending h = refl
 unconfigured-present Installed h = refl
 
--- what a change leaves of the slots, where each record that is changed was tested
-named-faithful : (arch : List ℕ) (test : Record → Bool) (name : List ℕ) (change : FileRecord → FileRecord) (slots : List FileSlot) → IsFaithful arch slots
-    → first_unready test (name ∷ []) (slot_records slots) ≡ None
-    → ((entry : FileRecord) → test entry.found ≡ true → IsGood arch entry → IsGood arch (change entry))
-    → AllByRecursion (IsFaithfulSlot arch) (changed_slots (is_named name) change slots)
-named-faithful arch test name change slots faithful none keeps =
-    subst (AllByRecursion (IsFaithfulSlot arch))
-    (sym (tested test name change slots (slots-distinct-from slots faithful.distinct) (ready-one test name (slot_records slots) none)))
-    (changed-faithful arch (λ found. is_named name found && test found) change slots
-    (λ entry passes. keeps entry (and-right (is_named name entry.found) (test entry.found) passes)) faithful.each)
+-- an action starts from present records alone
+pub starts-present : (action : Action) (found : Record) → starts_from action found ≡ true → is_present_state found.state ≡ true
+starts-present Deconfigure found starts = installed-present found.state starts
+starts-present Configure found starts = unconfigured-present found.state (and-left (is_unconfigured_state found.state) (is_sound_flag found.flag) starts)
+starts-present Remove found starts = and-left (is_present_state found.state) (is_sound_flag found.flag) starts
 
-group-faithful : (arch : List ℕ) (names : List (List ℕ)) (slots : List FileSlot) → IsFaithful arch slots
-    → first_unready is_configurable names (slot_records slots) ≡ None
-    → AllByRecursion (IsFaithfulSlot arch) (changed_slots (is_among names) (touched_entry configured) slots)
-group-faithful arch names slots faithful none =
-    subst (AllByRecursion (IsFaithfulSlot arch)) (group-whole names slots (slots-distinct-from slots faithful.distinct) none)
-    (changed-faithful arch (is_due names) (touched_entry configured) slots
-    (λ entry due. configured-good arch entry
-    (unconfigured-present entry.found.state (and-left _ (is_sound_flag entry.found.flag) (and-right (is_among names entry.found) (is_configurable entry.found) due))))
-    faithful.each)
-
-unpacked-faithful : (arch : List ℕ) (indexed : IndexStanza) (slots : List FileSlot) → CanUnpack arch indexed → AllByRecursion (IsFaithfulSlot arch) slots
-    → AllByRecursion (IsFaithfulSlot arch) (slots_after_unpack indexed slots)
-unpacked-faithful arch indexed slots can each = by (has_name indexed.listed.pkg.name slots)
+-- the entry of a name among slots that are good
+pub named-good : (arch name : List ℕ) (slots : List FileSlot) (entry : FileRecord) → AllByRecursion (IsFaithfulSlot arch) slots
+    → entry_named name slots ≡ Some entry → IsGood arch entry
+named-good arch name [] entry each found = absurd (let e = found in cc)
+named-good arch name (Foreign stanza ∷ slots) entry each found = named-good arch name slots entry each.1 found
+named-good arch name (Recorded first ∷ slots) entry each found = by (is_named name first.found) found (named-good arch name slots entry each.1)
   where
-    by : (b : Bool) → AllByRecursion (IsFaithfulSlot arch)
-        (if b then changed_slots (is_named indexed.listed.pkg.name) (unpacked_entry indexed) slots else slots ++ Recorded (new_entry indexed) ∷ [])
-    by true = changed-faithful arch (is_named indexed.listed.pkg.name) (unpacked_entry indexed) slots (λ entry named good. unpacked-good arch indexed entry can named good) each
-    by false = all-append (IsFaithfulSlot arch) slots (Recorded (new_entry indexed) ∷ []) each (new-good arch indexed can, tt)
+    by : (b : Bool) → (if b then Some first else entry_named name slots) ≡ Some entry → (entry_named name slots ≡ Some entry → IsGood arch entry) → IsGood arch entry
+    by true h later = let same : first ≡ entry = let e = h in cc in subst (IsGood arch) same each.0
+    by false h later = later h
 
-step-faithful : (arch : List ℕ) (indexed : Option IndexStanza) (taken : Step) (slots : List FileSlot) → ((found : IndexStanza) → indexed ≡ Some found → CanUnpack arch found)
-    → IsFaithful arch slots → refused_name indexed taken (slot_records slots) ≡ None → AllByRecursion (IsFaithfulSlot arch) (slots_after indexed taken slots)
-step-faithful arch None (step.Unpack name version) slots can faithful none = faithful.each
-step-faithful arch (Some found) (step.Unpack name version) slots can faithful none = unpacked-faithful arch found slots (can found refl) faithful.each
-step-faithful arch indexed (step.Deconfigure name) slots can faithful none =
-    named-faithful arch is_deconfigurable name (touched_entry deconfigured) slots faithful none
-    (λ entry passes. deconfigured-good arch entry (installed-present entry.found.state passes))
-step-faithful arch indexed (step.Configure names) slots can faithful none = group-faithful arch names slots faithful none
-step-faithful arch indexed (step.Remove name) slots can faithful none =
-    named-faithful arch is_removable name (touched_entry removed) slots faithful none
-    (λ entry passes. removed-good arch entry (and-left (is_present_state entry.found.state) (is_sound_flag entry.found.flag) passes))
-step-faithful arch indexed (step.Purge name) slots can faithful none =
-    all-filter (IsFaithfulSlot arch) (λ slot. not (is_slot_named name slot)) slots faithful.each
+after-good : (arch : List ℕ) (action : Action) (entry : FileRecord) → starts_from action entry.found ≡ true → IsGood arch entry
+    → IsGood arch (touched_entry (left_of action) entry)
+after-good arch Deconfigure entry starts good = deconfigured-good arch entry (starts-present Deconfigure entry.found starts) good
+after-good arch Configure entry starts good = configured-good arch entry (starts-present Configure entry.found starts) good
+after-good arch Remove entry starts good = removed-good arch entry (starts-present Remove entry.found starts) good
 
-pub step_keeps_faithful : (arch : List ℕ) (given : Option (List ℕ)) (taken : Step) (slots : List FileSlot) → IsFaithful arch slots
-    → refused_name (handed_in arch given) taken (slot_records slots) ≡ None → IsFaithful arch (slots_after (handed_in arch given) taken slots)
-step_keeps_faithful arch given taken slots faithful none =
-    let indexed = handed_in arch given in
-    let left : slot_records (slots_after indexed taken slots) ≡ result_of (option_map (λ stanza. stanza.listed) indexed) taken (slot_records slots) =
-    ap records_of (entries_are_written indexed taken slots) ∙ written_as_left indexed taken (entries_of slots) in
-    record {
-      each = step-faithful arch indexed taken slots (can-unpack arch given) faithful none;
-      distinct = subst HasDistinctNames (sym left) (distinct_names_kept (option_map (λ stanza. stanza.listed) indexed) taken (slot_records slots) faithful.distinct);
-    }
+-- the text of what an action leaves
+pub after-text : (arch text : List ℕ) (action : Action) (entry : FileRecord) → starts_from action entry.found ≡ true → IsGood arch entry
+    → text ≡ stanza_text (touched_entry (left_of action) entry).stanza → IsTextOf arch text (written (touched_entry (left_of action) entry))
+after-text arch text action entry starts good is =
+    subst (λ t. IsTextOf arch t (written (touched_entry (left_of action) entry))) (sym is)
+    (faithful-stored arch (Recorded (touched_entry (left_of action) entry)) (after-good arch action entry starts good))
+
+-- the text of what is unpacked, over the entry of its name if there is one
+over-good : (arch : List ℕ) (indexed : IndexStanza) (old : Option FileRecord) → CanUnpack arch indexed
+    → ((entry : FileRecord) → old ≡ Some entry → (is_named indexed.listed.pkg.name entry.found ≡ true) × IsGood arch entry)
+    → IsGood arch (entry_over indexed old)
+over-good arch indexed None can good = new-good arch indexed can
+over-good arch indexed (Some entry) can good = unpacked-good arch indexed entry can (good entry refl).0 (good entry refl).1
+
+pub unpacked-text : (arch text : List ℕ) (indexed : IndexStanza) (old : Option FileRecord) → CanUnpack arch indexed
+    → ((entry : FileRecord) → old ≡ Some entry → (is_named indexed.listed.pkg.name entry.found ≡ true) × IsGood arch entry)
+    → text ≡ stanza_text (entry_over indexed old).stanza → IsTextOf arch text (written (entry_over indexed old))
+unpacked-text arch text indexed old can good is =
+    subst (λ t. IsTextOf arch t (written (entry_over indexed old))) (sym is)
+    (faithful-stored arch (Recorded (entry_over indexed old)) (over-good arch indexed old can good))
+
+-- what an unpacking writes
+pub over-text : (indexed : IndexStanza) (old : Option FileRecord)
+    → fields_text (unpacked_fields (status_field wants.Install flags.Ok Unpacked) (option_map_or (λ (entry : FileRecord). kept_config_version entry.found) old None)
+    indexed.fields (fields_in old)) ≡ stanza_text (entry_over indexed old).stanza
+over-text indexed None = refl
+over-text indexed (Some entry) = refl

@@ -1,21 +1,19 @@
 -- A table that is written to is a table, and its slots are those that the write says.
-use Rattle.std.proofs.Common.{◌≡◌, ℕ, suc, ◌+◌, Bool, true, false, true≢false, cond, not, ◌||◌, List, [], ◌∷◌, ◌++◌, map, length, slice_set, Option, Some, None, refl, sym, ap, subst, ◌∙◌, bytes_eq, append-nil, arith, ◌<◌, get_or, take, drop, IfSome}
-use Rattle.std.specs.Borrow.{Bor}
+use Rattle.std.proofs.Common.{◌≡◌, ℕ, ◌+◌, Bool, true, false, true≢false, cond, not, ◌||◌, List, [], ◌∷◌, ◌++◌, map, length, slice_set, Option, Some, None, refl, sym, ap, subst, ◌∙◌, bytes_eq, append-nil, arith}
 use Rattle.std.specs.List.{filter}
 use Rattle.std.specs.Map.{lookup, remove_entry}
 use Rattle.std.specs.Option.{option_to_list}
 use Rattle.std.proofs.lemmas.List.Concat.{flat_map-append}
 use Rattle.std.proofs.lemmas.List.{map-append}
 use Rattle.rules.specs.FileRecord.{FileRecord}
-use Rattle.rules.specs.RunStepLaws.{split-at_place}
 use Rattle.rules.specs.Step.{is_named}
 use Rattle.stanza.specs.Stanza.{StanzaText}
 use Rattle.status_text.specs.Slot.{FileSlot, entries_of, entry_in}
 use Rattle.status_text.specs.declared.slot.Slot.TheVariants.{Recorded, Foreign}
-use Rattle.status.specs.Places.{AreDistinct, FindsAt, IsAt, IsTable, lent, numbered, slots_at}
-use Rattle.status.specs.Slots.{IsNew, changed_slots, entry_named, is_slot_named, names_of}
-use Rattle.status.proofs.NameLemmas.{distinct-behind, distinct-without, is-new, is_in, without}
-use Rattle.status.proofs.PlaceLemmas.{found-at, is_in-there, numbered-append, numbered-emptied, numbered-names, numbered-written, remove-lent, slots-emptied, slots-written}
+use Rattle.status.specs.Places.{AreDistinct, FindsAt, IsAt, IsTable, numbered, slots_at}
+use Rattle.status.specs.Slots.{changed_slots, entry_named, is_slot_named, names_of}
+use Rattle.status.proofs.NameLemmas.{distinct-behind, distinct-without, is_in, without}
+use Rattle.status.proofs.PlaceLemmas.{found-at, is_in-there, numbered-append, numbered-emptied, numbered-names, numbered-written, slots-emptied, slots-written}
 
 -- a name without an entry is none of the names
 pub none-named : (name : List ℕ) (slots : List FileSlot) → entry_named name slots ≡ None → is_in name (names_of slots) ≡ false
@@ -28,7 +26,7 @@ none-named name (Recorded entry ∷ slots) h = by (bytes_eq entry.found.name nam
     by true e later = absurd (let f = e in cc)
     by false e later = later e
 
-module _ (name : List ℕ) (es : List (Bor (List ℕ) × ℕ)) (places : List (Option FileSlot)) (table : IsTable es places) where
+module _ (name : List ℕ) (es : List (List ℕ × ℕ)) (places : List (Option FileSlot)) (table : IsTable es places) where
   -- an entry written over that of its name
   module _ (place : ℕ) (at : IsAt name places place) (new : FileRecord) (same : new.found.name ≡ name) where
     named-alike : new.found.name ≡ at.entry.found.name
@@ -54,9 +52,9 @@ module _ (name : List ℕ) (es : List (Bor (List ℕ) × ℕ)) (places : List (O
     numbers-emptied = numbered-emptied 0 places place at.entry at.there table.1
         ∙ ap (λ n. remove_entry (λ other. bytes_eq other n) (numbered 0 places)) at.named
 
-    pub table-emptied : IsTable (remove_entry (λ key. bytes_eq name key.now) es) (slice_set places place None)
+    pub table-emptied : IsTable (remove_entry (λ other. bytes_eq other name) es) (slice_set places place None)
     table-emptied = (
-      remove-lent name es ∙ ap (remove_entry (λ other. bytes_eq other name)) table.0 ∙ sym numbers-emptied,
+      ap (remove_entry (λ other. bytes_eq other name)) table.0 ∙ sym numbers-emptied,
       subst AreDistinct (sym (sym (numbered-names 0 (slice_set places place None)) ∙ ap (map (λ p. p.0)) numbers-emptied
           ∙ firsts-without (λ other. bytes_eq other name) (numbered 0 places) ∙ ap (without (λ other. bytes_eq other name)) (numbered-names 0 places)))
           (distinct-without (λ other. bytes_eq other name) (names_of (slots_at places)) table.1),
@@ -74,14 +72,16 @@ module _ (name : List ℕ) (es : List (Bor (List ℕ) × ℕ)) (places : List (O
     pub emptied : slots_at (slice_set places place None) ≡ filter (λ slot. not (is_slot_named name slot)) (slots_at places)
     emptied = slots-emptied places place at.entry at.there table.1 ∙ ap (λ n. filter (λ slot. not (is_slot_named n slot)) (slots_at places)) at.named
 
-  -- a name that no record has is not numbered
-  pub not-numbered : is_in name (names_of (slots_at places)) ≡ false → lookup (λ key. bytes_eq name key.now) es ≡ None
-  not-numbered fresh = by (lookup (λ key. bytes_eq name key.now) es) (found-at name places es table.0)
-    where
-      by : (r : Option ℕ) → FindsAt name places r → r ≡ None
-      by None h = refl
-      by (Some place) h = absurd (true≢false (sym (is_in-there places place h.entry h.there)
-          ∙ ap (λ n. is_in n (names_of (slots_at places))) h.named ∙ fresh))
+-- a name that no record has is not numbered
+pub not-numbered : {K : Type 0} (name_of : K → List ℕ) (name : List ℕ) (es : List (K × ℕ)) (places : List (Option FileSlot))
+    → map {B = List ℕ × ℕ} (λ p. (name_of p.0, p.1)) es ≡ numbered 0 places
+    → is_in name (names_of (slots_at places)) ≡ false → lookup (λ key. bytes_eq name (name_of key)) es ≡ None
+not-numbered name_of name es places numbers fresh = by (lookup (λ key. bytes_eq name (name_of key)) es) (found-at name_of name places es numbers)
+  where
+    by : (r : Option ℕ) → FindsAt name places r → r ≡ None
+    by None h = refl
+    by (Some place) h = absurd (true≢false (sym (is_in-there places place h.entry h.there)
+        ∙ ap (λ n. is_in n (names_of (slots_at places))) h.named ∙ fresh))
 
 -- slots and names behind others
 pub slots-behind : (places more : List (Option FileSlot)) → slots_at (places ++ more) ≡ slots_at places ++ slots_at more
@@ -93,7 +93,7 @@ names-behind slots more =
     ∙ map-append (λ (entry : FileRecord). entry.found.name) (entries_of slots) (entries_of more)
 
 -- a stanza without a record behind the others
-pub table-kept : (es : List (Bor (List ℕ) × ℕ)) (places : List (Option FileSlot)) (stanza : StanzaText) → IsTable es places
+pub table-kept : (es : List (List ℕ × ℕ)) (places : List (Option FileSlot)) (stanza : StanzaText) → IsTable es places
     → IsTable es (places ++ Some (Foreign stanza) ∷ [])
 table-kept es places stanza table = (
   table.0 ∙ sym (numbered-append 0 places (Some (Foreign stanza) ∷ []) ∙ append-nil (numbered 0 places)),
@@ -102,12 +102,11 @@ table-kept es places stanza table = (
 )
 
 -- a record of a new name behind the others
-pub table-pushed : (es pushed : List (Bor (List ℕ) × ℕ)) (places : List (Option FileSlot)) (entry : FileRecord) (pair : Bor (List ℕ) × ℕ)
+pub table-pushed : (es : List (List ℕ × ℕ)) (places : List (Option FileSlot)) (entry : FileRecord)
     → IsTable es places → is_in entry.found.name (names_of (slots_at places)) ≡ false
-    → lent pair ≡ (entry.found.name, length places) → pushed ≡ es ++ pair ∷ []
-    → IsTable pushed (places ++ Some (Recorded entry) ∷ [])
-table-pushed es pushed places entry pair table fresh key e = (
-  ap (map lent) e ∙ map-append lent es (pair ∷ []) ∙ (λ i. table.0 i ++ key i ∷ []) ∙ ap (λ n. numbered 0 places ++ (entry.found.name, n) ∷ []) zero-first
+    → IsTable (es ++ (entry.found.name, length places) ∷ []) (places ++ Some (Recorded entry) ∷ [])
+table-pushed es places entry table fresh = (
+  (λ i. table.0 i ++ (entry.found.name, length places) ∷ []) ∙ ap (λ n. numbered 0 places ++ (entry.found.name, n) ∷ []) zero-first
       ∙ sym (numbered-append 0 places (Some (Recorded entry) ∷ [])),
   subst AreDistinct (sym (ap names_of (slots-behind places (Some (Recorded entry) ∷ [])) ∙ names-behind (slots_at places) (Recorded entry ∷ [])))
       (distinct-behind (names_of (slots_at places)) entry.found.name table.1 fresh),
@@ -115,14 +114,3 @@ table-pushed es pushed places entry pair table fresh key e = (
   where
     zero-first : length places ≡ 0 + length places
     zero-first = omega arith
-
--- the slot in a place is new behind those before it
-pub new-at : (places : List (Option FileSlot)) (at : ℕ) (place : Option FileSlot) (before : List FileSlot) → AreDistinct (names_of (slots_at places))
-    → at < length places → place ≡ get_or places at place → before ≡ slots_at (take at places) → IfSome place (λ slot. IsNew slot before)
-new-at places at None before distinct within is so_far = tt
-new-at places at (Some slot) before distinct within is so_far =
-    let split : slots_at places ≡ before ++ slot ∷ slots_at (drop (suc at) places) =
-    ap slots_at (split-at_place places at (Some slot) within)
-    ∙ slots-behind (take at places) (get_or places at (Some slot) ∷ drop (suc at) places)
-    ∙ (λ i. sym so_far i ++ slots_at (sym is i ∷ drop (suc at) places)) in
-    is-new before (slots_at (drop (suc at) places)) slot (subst (λ slots. AreDistinct (names_of slots)) split distinct)

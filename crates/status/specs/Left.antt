@@ -1,6 +1,6 @@
 -- What an action leaves of the status file (dpkg(1)). A stanza that has no record stays where it is, and a new record
 -- comes last: both are this project's own.
-use Rattle.std.specs.Prelude.{◌≡◌, not, List, [], ◌∷◌, ◌++◌, Option, if◌then◌else◌}
+use Rattle.std.specs.Prelude.{◌≡◌, not, List, [], ◌∷◌, ◌++◌, map, Option, if◌then◌else◌}
 use Rattle.std.specs.List.{filter}
 use Rattle.std.specs.Option.{option_map_or}
 use Rattle.rules.specs.FileRecord.{IndexStanza, entries_after, new_entry, touched_entry, unpacked_entry}
@@ -10,6 +10,7 @@ use Rattle.rules.specs.declared.step.Step.TheVariants as step
 use Rattle.status_text.specs.Slot.{FileSlot, entries_of}
 use Rattle.status_text.specs.declared.slot.Slot.TheVariants.{Recorded}
 use Rattle.status.specs.Slots.{changed_slots, has_name, is_slot_named}
+use Rattle.status.specs.Stored.{as_stored}
 
 -- the slots after the unpacking: the entry in the place of the old one of its name, or last where there is none
 abbrev pub slots_after_unpack : IndexStanza → List FileSlot → List FileSlot
@@ -30,3 +31,7 @@ slots_after indexed (step.Purge name) slots = filter (λ slot. not (is_slot_name
 abbrev pub EntriesAreWritten : Type 0
 EntriesAreWritten = (indexed : Option IndexStanza) (taken : Step) (slots : List FileSlot)
     → entries_of (slots_after indexed taken slots) ≡ entries_after indexed taken (entries_of slots)
+
+-- what a step leaves of the status file, as it is stored
+abbrev pub stored_after : Option IndexStanza → Step → List FileSlot → List FileSlot
+stored_after indexed taken slots = map as_stored (slots_after indexed taken slots)

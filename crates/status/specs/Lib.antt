@@ -1,11 +1,12 @@
-pub mod StanzaOrigin
-pub mod Tested
+pub mod Stored
 pub mod Written
 pub mod ReadBack
 pub mod Slots
-pub mod Left
 pub mod Applicable
+pub mod Action
+pub mod Left
 pub mod Places
 pub mod Text
 pub mod Faithful
 pub mod Error
+pub mod Change

@@ -1,12 +1,13 @@
 -- The places of the slots. A slot that is deleted leaves its place empty, so that each other keeps its own.
-use Rattle.std.specs.Prelude.{◌≡◌, ℕ, ◌+◌, false, List, [], ◌∷◌, map, Option, Some, None, ⊤, bytes_eq, slice_get}
-use Rattle.std.specs.Borrow.{Bor}
-use Rattle.std.specs.List.{flat_map, list_any}
-use Rattle.std.specs.Option.{option_to_list}
+use Rattle.std.specs.Prelude.{◌≡◌, ℕ, ◌+◌, false, List, [], ◌∷◌, map, Option, Some, None, ⊤, IfSome, bytes_eq, slice_get}
+use Rattle.std.specs.List.{AllByRecursion, flat_map, list_any}
+use Rattle.std.specs.Option.{option_and_then, option_to_list}
 use Rattle.rules.specs.FileRecord.{FileRecord}
+use Rattle.status_text.specs.Alone.{alone}
 use Rattle.status_text.specs.Slot.{FileSlot}
 use Rattle.status_text.specs.declared.slot.Slot.TheVariants.{Recorded, Foreign}
 use Rattle.status.specs.Slots.{entry_named, names_of}
+use Rattle.status.specs.Stored.{IsStored}
 
 -- the slots in the places
 abbrev pub slots_at : List (Option FileSlot) → List FileSlot
@@ -24,13 +25,22 @@ abbrev pub AreDistinct : List (List ℕ) → Type 0
 AreDistinct [] = ⊤
 AreDistinct (name ∷ names) = (list_any (λ other. bytes_eq other name) names ≡ false) × AreDistinct names
 
--- a name that is lent, with its number
-abbrev pub lent : Bor (List ℕ) × ℕ → List ℕ × ℕ
-lent pair = (pair.0.now, pair.1)
-
 -- the pairs number the records of the places, whose names are distinct
-abbrev pub IsTable : List (Bor (List ℕ) × ℕ) → List (Option FileSlot) → Type 0
-IsTable pairs places = (map lent pairs ≡ numbered 0 places) × AreDistinct (names_of (slots_at places))
+abbrev pub IsTable : List (List ℕ × ℕ) → List (Option FileSlot) → Type 0
+IsTable pairs places = (pairs ≡ numbered 0 places) × AreDistinct (names_of (slots_at places))
+
+-- the slot of the text in each place
+abbrev pub slots_read : List ℕ → List (Option (List ℕ)) → List (Option FileSlot)
+slots_read arch texts = map (option_and_then (alone arch)) texts
+
+-- each place is empty, or has the text of a slot
+abbrev pub AreKept : List ℕ → List (Option (List ℕ)) → Type 0
+AreKept arch texts = AllByRecursion (λ place. IfSome place (λ text. (slot : FileSlot) × IsStored arch text slot)) texts
+
+-- what is in a place, if there is such a place and something in it
+abbrev pub inside : {A : Type 0} → Option (Option A) → Option A
+inside None = None
+inside (Some place) = place
 
 -- the entry in a place, if there is one
 abbrev pub entry_at : Option (Option FileSlot) → Option FileRecord

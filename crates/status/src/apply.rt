@@ -1,53 +1,23 @@
 //! The steps of a plan, taken in the status file.
-ghost use Rattle.std.specs.Prelude.{◌≡◌, Err, None, Some, true, false, MatchOption};
+ghost use Rattle.std.specs.Prelude.{◌≡◌, Err, None, true, false, not, if◌then◌else◌};
+ghost use Rattle.std.specs.List.{filter};
 ghost use Rattle.std.specs.Option.{option_copied};
-ghost use Rattle.std.specs.Ordering.{is_eq};
-ghost use Rattle.rules.specs.Version.{version_cmp};
 ghost use Rattle.rules.specs.declared.step.Step.TheVariants as step;
-ghost use Rattle.status.specs.Applicable.{handed_in, is_indexed_as};
+ghost use Rattle.status.specs.Applicable as Spec;
+ghost use Rattle.status.specs.Applicable.{handed_in, has_record};
 ghost use Rattle.status.specs.Error.{IsTaken};
+ghost use Rattle.status.specs.Slots.{is_slot_named};
 ghost use Rattle.status.specs.declared.error.ApplyError.TheVariants as error;
+ghost use Rattle.status_text.specs.Slot.{slot_records};
 
+use crate::action::Action;
 use crate::error::{ApplyError, StepName};
-use crate::group::{configure_each, first_unready};
-use crate::named::{deconfigure_named, purge_named, remove_named, unpack_stanza};
 use crate::table::Table;
-use debversion::Version;
-use index::{IndexStanza, read_alone};
+use crate::touch::touch;
+use crate::unpack::text_unpacked;
 use rules::{Name, Names, Step, VersionText};
-
-fn is_same_version(version: &Version<'_>, text: &VersionText) -> bool
-    ensures { result ≡ is_eq (version_cmp version.now text.now) }
-{
-    match Version::parse(text.as_bytes()) {
-        Ok(wanted) => *version == wanted,
-        Err(_) => unreachable!(),
-    }
-}
-
-// What is handed in to be unpacked, if it is one readable stanza, counts for the architecture, and is of this name and
-// this version.
-fn indexed_as<'a>(
-    arch: &'a [u8],
-    name: &Name,
-    version: &VersionText,
-    given: Option<&'a [u8]>,
-) -> Option<IndexStanza<'a>>
-    ensures { MatchOption result
-        (is_indexed_as name.now version.now (handed_in arch.now (option_copied given.entry)) ≡ false)
-        (λ indexed. (handed_in arch.now (option_copied given.entry) ≡ Some indexed)
-        × (is_indexed_as name.now version.now (handed_in arch.now (option_copied given.entry)) ≡ true)) }
-{
-    let indexed = match given {
-        Some(text) => read_alone(text, arch)?,
-        None => return None,
-    };
-    if indexed.name() == name.as_bytes() && is_same_version(indexed.version(), version) {
-        Some(indexed)
-    } else {
-        None
-    }
-}
+use std::alloc::Global;
+use std::slice::from_ref;
 
 fn not_applicable<'s>(name: &'s Name) -> Result<(), ApplyError<'s>>
     ensures { result ≡ Err (error.NotApplicable name.now) }
@@ -55,61 +25,60 @@ fn not_applicable<'s>(name: &'s Name) -> Result<(), ApplyError<'s>>
     Err(ApplyError::NotApplicable(StepName::new(name)))
 }
 
-fn unpack<'a, 's>(
-    table: &mut Table<'a>,
-    arch: &'a [u8],
+fn unpack<'s>(
+    alloc: Global,
+    table: &mut Table,
     name: &'s Name,
     version: &VersionText,
-    given: Option<&'a [u8]>,
+    given: Option<&[u8]>,
 ) -> Result<(), ApplyError<'s>>
-    ensures { IsTaken result (handed_in arch.now (option_copied given.entry)) (step.Unpack name.now version.now) table.old table.new }
+    ensures { IsTaken result (handed_in table.old.arch (option_copied given.entry)) (step.Unpack name.now version.now) table.old table.new }
 {
-    match indexed_as(arch, name, version, given) {
-        Some(indexed) => match unpack_stanza(table, &indexed) {
-            Ok(()) => Ok(()),
-            Err(refused) => Err(refused.into()),
-        },
+    match text_unpacked(alloc, table, name, version, given)? {
+        Some(text) => {
+            table.is_sound();
+            table.put(alloc, name.as_bytes(), text)?;
+            Ok(())
+        }
         None => not_applicable(name),
     }
 }
 
-fn configure<'s>(table: &mut Table<'_>, names: &'s Names) -> Result<(), ApplyError<'s>>
-    ensures { IsTaken result None (step.Configure names.now) table.old table.new }
-{
-    match first_unready(table, names.as_slice()) {
-        Some(name) => not_applicable(name),
-        None => {
-            table.has_distinct_names();
-            configure_each(table, names.as_slice());
-            Ok(())
-        }
-    }
-}
-
-fn deconfigure<'s>(table: &mut Table<'_>, name: &'s Name) -> Result<(), ApplyError<'s>>
+fn deconfigure<'s>(alloc: Global, table: &mut Table, name: &'s Name) -> Result<(), ApplyError<'s>>
     ensures { IsTaken result None (step.Deconfigure name.now) table.old table.new }
 {
-    if deconfigure_named(table, name.as_bytes()) {
-        Ok(())
-    } else {
-        not_applicable(name)
-    }
+    touch(alloc, table, Action::Deconfigure, from_ref(name))
 }
 
-fn remove<'s>(table: &mut Table<'_>, name: &'s Name) -> Result<(), ApplyError<'s>>
+fn configure<'s>(alloc: Global, table: &mut Table, names: &'s Names) -> Result<(), ApplyError<'s>>
+    ensures { IsTaken result None (step.Configure names.now) table.old table.new }
+{
+    touch(alloc, table, Action::Configure, names.as_slice())
+}
+
+fn remove<'s>(alloc: Global, table: &mut Table, name: &'s Name) -> Result<(), ApplyError<'s>>
     ensures { IsTaken result None (step.Remove name.now) table.old table.new }
 {
-    if remove_named(table, name.as_bytes()) {
-        Ok(())
-    } else {
-        not_applicable(name)
+    touch(alloc, table, Action::Remove, from_ref(name))
+}
+
+// Whether configuration files alone are left of the package of the name.
+fn is_purgeable(table: &Table, name: &[u8]) -> bool
+    ensures { result ≡ has_record Spec.is_purgeable name.now (slot_records table.now.slots) }
+{
+    table.is_sound();
+    match table.find(name) {
+        Some(found) => found.state().is_removed(),
+        None => false,
     }
 }
 
-fn purge<'s>(table: &mut Table<'_>, name: &'s Name) -> Result<(), ApplyError<'s>>
+fn purge<'s>(table: &mut Table, name: &'s Name) -> Result<(), ApplyError<'s>>
     ensures { IsTaken result None (step.Purge name.now) table.old table.new }
 {
-    if purge_named(table, name.as_bytes()) {
+    if is_purgeable(table, name.as_bytes()) {
+        table.is_sound();
+        table.delete(name.as_bytes());
         Ok(())
     } else {
         not_applicable(name)
@@ -118,19 +87,19 @@ fn purge<'s>(table: &mut Table<'_>, name: &'s Name) -> Result<(), ApplyError<'s>
 
 /// Takes the step, where what it unpacks is handed in. Where it isn't applicable, or memory is refused, all stays as it
 /// was.
-pub fn take<'a, 's>(
-    table: &mut Table<'a>,
-    arch: &'a [u8],
+pub fn take<'s>(
+    alloc: Global,
+    table: &mut Table,
     taken: &'s Step,
-    given: Option<&'a [u8]>,
+    given: Option<&[u8]>,
 ) -> Result<(), ApplyError<'s>>
-    ensures { IsTaken result (handed_in arch.now (option_copied given.entry)) taken.now table.old table.new }
+    ensures { IsTaken result (handed_in table.old.arch (option_copied given.entry)) taken.now table.old table.new }
 {
     match taken {
-        Step::Unpack(name, version) => unpack(table, arch, name, version, given),
-        Step::Deconfigure(name) => deconfigure(table, name),
-        Step::Configure(names) => configure(table, names),
-        Step::Remove(name) => remove(table, name),
+        Step::Unpack(name, version) => unpack(alloc, table, name, version, given),
+        Step::Deconfigure(name) => deconfigure(alloc, table, name),
+        Step::Configure(names) => configure(alloc, table, names),
+        Step::Remove(name) => remove(alloc, table, name),
         Step::Purge(name) => purge(table, name),
     }
 }

@@ -3,27 +3,23 @@
 //! on `index` for what is unpacked. The main type is `Database`.
 #![tactic(auto)]
 
+mod action;
 mod apply;
-mod change;
 mod database;
 mod error;
 mod fields;
-mod group;
 mod laws;
-mod named;
-mod origin;
-mod record;
 mod table;
+mod touch;
+mod unpack;
 mod words;
 mod write;
 
 pub use database::Database;
 pub use error::{ApplyError, StepName};
 pub use laws::{
-    entries_are_written, what_a_step_leaves_is_faithful, what_is_faithful_reads_back,
-    what_was_read_is_faithful, what_was_read_reads_back, what_was_touched_reads_back,
+    entries_are_written, what_was_read_reads_back, what_was_touched_reads_back,
     what_was_unpacked_reads_back,
 };
-pub use record::FileRecord;
 pub use rules::Step;
-pub use status_text::{StatusError, StatusFault};
+pub use status_text::{StatusError, StatusFault, StatusRecord};

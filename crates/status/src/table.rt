@@ -1,244 +1,302 @@
-//! The slots of the status file, found by the names of their records.
-ghost use Rattle.std.specs.Prelude.{◌≡◌, ◌∷◌, ◌++◌, [], true, false, not, map, slice_get, IfOk, IfSome, OnErr, OnOk};
-ghost use Rattle.std.specs.List.{filter};
-ghost use Rattle.std.specs.Option.{option_copied, option_to_list};
+//! The texts of the stanzas of the status file, found by the names of their records.
+ghost use Rattle.std.specs.Prelude.{◌≡◌, ◌∷◌, ◌++◌, [], false, length, not, map, slice_get, IfOk, MatchOption, None, OnErr, OnOk, Some, if◌then◌else◌, ℕ, List};
+ghost use Rattle.std.specs.List.{filter, zip};
+ghost use Rattle.std.specs.Map.{lookup};
+ghost use Rattle.std.specs.Option.{option_and_then, option_copied, option_map, option_to_list};
+ghost use Rattle.std.specs.Arc.{arc_slice_items};
+ghost use Rattle.std.specs.Str.{bytes_eq};
+ghost use Rattle.rules.specs.FileRecord.{FileRecord};
 ghost use Rattle.rules.specs.Step.{is_named};
-ghost use Rattle.status_text.specs.Slot.{entries_of};
+ghost use Rattle.status_text.specs.Alone.{alone};
+ghost use Rattle.status_text.specs.Slot.{FileSlot, Store, entries_of};
 ghost use Rattle.status_text.specs.declared.slot.Slot.TheVariants as slot;
-ghost use Rattle.status.specs.Places.{AreDistinct, FindsAt, entry_at, lent, numbered, slots_at};
-ghost use Rattle.status.specs.Text.{slots_text};
-ghost use Rattle.status.specs.Slots.{IsNew, changed_slots, entry_named, has_name, is_slot_named, names_of};
+ghost use Rattle.status.specs.Change.{IsTextOf};
+ghost use Rattle.status.specs.Faithful.{IsSound};
+ghost use Rattle.status.specs.Places.{AreDistinct, entry_at, inside, slots_at, slots_read};
+ghost use Rattle.status.specs.Stored.{IsStored};
+ghost use Rattle.status.specs.Text.{place_text, places_text, slots_text};
+ghost use Rattle.status.specs.Slots.{changed_slots, entry_named, has_name, is_slot_named, names_of};
 
-use crate::record::FileRecord;
 use indexmap::IndexMap;
-use stanza::Stanza;
-use status_text::{Slot, write_bytes};
+use status_text::{Slot, StatusRecord, read_alone};
 use std::alloc::{AllocError, Global};
 use std::marker::Model;
+use std::sync::ArcSlice;
 
-/// Slots in their order. A slot that is deleted leaves its place empty, so that no other moves; `numbers` has for each
-/// name of a record the number of its place, in the order of the places.
+/// The text of each stanza in its place, for an architecture. A stanza that is deleted leaves its place empty, so that no other
+/// moves; `numbers` has for each name of a record the number of its place, in the order of the places.
 #[derive(Drop)]
-pub struct Table<'a> {
-    places: Vec<Option<Slot<'a, FileRecord<'a>>>>,
-    numbers: IndexMap<&'a [u8], usize>,
+pub struct Table {
+    arch: Vec<u8>,
+    places: Vec<Option<ArcSlice<u8>>>,
+    numbers: IndexMap<Vec<u8>, usize>,
 }
 
-impl<'a> Model for Table<'a> {
-    ghost use Rattle.std.specs.Prelude.{List};
-    ghost use Rattle.status_text.specs.Slot.{FileSlot};
-    ghost use Rattle.status.specs.Places.{IsTable, slots_at};
+impl Model for Table {
+    ghost use Rattle.std.specs.Arc.{arc_slice_items};
+    ghost use Rattle.std.specs.Prelude.{map};
+    ghost use Rattle.std.specs.Option.{option_map};
+    ghost use Rattle.status_text.specs.Slot.{Store};
+    ghost use Rattle.status.specs.Places.{AreKept, IsTable, slots_at, slots_read};
 
-    ghost Value = { List FileSlot };
+    ghost Value = { Store };
 
-    ghost view = { λ t. slots_at t.places.items };
+    ghost view = { λ t. record {
+      arch = t.arch.items;
+      slots = slots_at (slots_read t.arch.items (map (λ place. option_map (λ text. arc_slice_items text) place) t.places.items));
+    } };
 
-    ghost invariant = { λ t. IsTable t.numbers.entries t.places.items };
+    ghost invariant = { λ t. IsTable (map (λ pair. (pair.0.items, pair.1)) t.numbers.entries)
+        (slots_read t.arch.items (map (λ place. option_map (λ text. arc_slice_items text) place) t.places.items))
+        × AreKept t.arch.items (map (λ place. option_map (λ text. arc_slice_items text) place) t.places.items) };
 }
 
-// The place of the entry of the name, if there is one.
-fn place_of<'a>(
-    places: &[Option<Slot<'a, FileRecord<'a>>>],
-    numbers: &IndexMap<&'a [u8], usize>,
-    name: &[u8],
-) -> Option<usize>
-    requires { map lent numbers.now.entries ≡ numbered 0 places.now }
-    ensures { FindsAt name.now places.now result }
+// The number of the place of the name, if there is one.
+fn place_of(numbers: &IndexMap<Vec<u8>, usize>, name: &[u8]) -> Option<usize>
+    ensures { result ≡ lookup (λ key. bytes_eq name.now key.items) numbers.now.entries }
 {
     numbers.get(name).copied()
 }
 
-// The record in the place, if there is one.
-fn record_at<'p, 'a>(
-    places: &'p [Option<Slot<'a, FileRecord<'a>>>],
-    place: usize,
-) -> Option<&'p FileRecord<'a>>
-    ensures { option_copied result ≡ entry_at (slice_get places.now place) }
+// The record of the text, if it has one.
+fn record_in<'t>(arch: &'t [u8], text: &'t [u8]) -> Option<StatusRecord<'t>>
+    ensures { result ≡ entry_at (Some (alone arch.now text.now)) }
 {
-    match places.get(place) {
-        Some(Some(Slot::Recorded(record))) => Some(record),
+    match read_alone(text, arch) {
+        Some(Slot::Recorded(found)) => Some(found),
         _ => None,
     }
 }
 
-impl<'a> Table<'a> {
-    /// No slots.
-    pub fn new(alloc: Global) -> Table<'a>
-        ensures { result ≡ [] }
+// The text in the place, if there is one.
+fn text_at<'t>(places: &'t [Option<ArcSlice<u8>>], place: usize) -> Option<&'t ArcSlice<u8>>
+    ensures { option_copied result ≡ inside (slice_get places.now place) }
+{
+    match places.get(place) {
+        Some(Some(text)) => Some(text),
+        _ => None,
+    }
+}
+
+// The record of the text in the place, if there is one.
+fn record_at<'t>(
+    arch: &'t [u8],
+    places: &'t [Option<ArcSlice<u8>>],
+    place: usize,
+) -> Option<StatusRecord<'t>>
+    ensures { result ≡ entry_at (slice_get (slots_read arch.now (map (λ place. option_map (λ text. arc_slice_items text) place) places.now)) place) }
+{
+    match text_at(places, place) {
+        Some(text) => record_in(arch, text.as_slice()),
+        None => None,
+    }
+}
+
+impl Table {
+    /// No stanzas, for this architecture.
+    pub fn new(alloc: Global, arch: Vec<u8>) -> Table
+        ensures { result ≡ record { arch = arch.items; slots = [] } }
     {
         Table {
+            arch,
             places: Vec::new(alloc),
             numbers: IndexMap::new(alloc),
         }
     }
 
+    /// The configured architecture.
+    pub fn arch(&self) -> &[u8]
+        ensures { result.now ≡ self.now.arch }
+    {
+        self.arch.as_slice()
+    }
+
     /// The names of the records.
-    pub fn names(&self) -> &[&'a [u8]]
-        ensures names { map (λ name. name.now) result.now ≡ names_of self.now }
-        ensures distinct { AreDistinct (names_of self.now) }
+    pub fn names(&self) -> &[Vec<u8>]
+        ensures { map (λ name. name.items) result.now ≡ names_of self.now.slots }
     {
         self.numbers.keys().as_slice()
     }
 
-    /// The records have distinct names.
-    pub fn has_distinct_names(&self)
-        ensures { AreDistinct (names_of self.now) }
+    /// The records have distinct names, and each stanza can be written and reads back.
+    pub fn is_sound(&self)
+        ensures { IsSound self.now }
     {
         let _numbers = &self.numbers;
     }
 
-    /// The record of the name, if there is one.
-    pub fn find(&self, name: &[u8]) -> Option<&FileRecord<'a>>
-        ensures record { option_copied result ≡ entry_named name.now self.now }
-        ensures distinct { AreDistinct (names_of self.now) }
+    /// The record of the name, if there is one. Linear in its stanza.
+    pub fn find(&self, name: &[u8]) -> Option<StatusRecord<'_>>
+        ensures { result ≡ entry_named name.now self.now.slots }
     {
-        match place_of(self.places.as_slice(), &self.numbers, name) {
-            Some(place) => record_at(self.places.as_slice(), place),
+        match place_of(&self.numbers, name) {
+            Some(place) => record_at(self.arch.as_slice(), self.places.as_slice(), place),
             None => None,
         }
     }
 
-    // Adds a stanza that has no record behind the others.
-    fn push_foreign(&mut self, stanza: Stanza<'a>) -> Result<(), AllocError>
-        ensures ok { OnOk result (self.new ≡ self.old ++ slot.Foreign stanza.entry ∷ []) }
-        ensures err { OnErr result (self.new ≡ self.old) }
+    /// Adds the text of a stanza without a record behind the others.
+    pub fn push_foreign(&mut self, text: ArcSlice<u8>) -> Result<(), AllocError>
+        requires { (stanza : _) × IsStored self.old.arch (arc_slice_items text) (slot.Foreign stanza) }
+        ensures ok { (kept : FileSlot) → alone self.old.arch (arc_slice_items text) ≡ Some kept
+            → OnOk result (self.new ≡ record self.old { slots = self.old.slots ++ kept ∷ [] }) }
     {
-        self.places.push(Some(Slot::Foreign(stanza)))?;
+        self.places.push(Some(text))?;
         Ok(())
     }
 
-    // Adds a record of a new name behind the others.
-    fn push_recorded(&mut self, held: FileRecord<'a>) -> Result<(), AllocError>
-        requires { has_name held.found.name self.old ≡ false }
-        ensures ok { OnOk result (self.new ≡ self.old ++ slot.Recorded held.entry ∷ []) }
+    /// Adds the text of a record of a new name behind the others. Where memory is refused all stays as it was.
+    pub fn push_recorded(&mut self, name: Vec<u8>, text: ArcSlice<u8>) -> Result<(), AllocError>
+        requires is { (entry : FileRecord) × IsTextOf self.old.arch (arc_slice_items text) entry × (entry.found.name ≡ name.items) }
+        requires new { has_name name.items self.old.slots ≡ false }
+        ensures ok { (entry : FileRecord) → alone self.old.arch (arc_slice_items text) ≡ Some (slot.Recorded entry)
+            → OnOk result (self.new ≡ record self.old { slots = self.old.slots ++ slot.Recorded entry ∷ [] }) }
         ensures err { OnErr result (self.new ≡ self.old) }
     {
         self.places.reserve(1)?;
-        self.numbers.insert(held.name(), self.places.len())?;
-        match self.places.push(Some(Slot::Recorded(held))) {
+        self.numbers.insert(name, self.places.len())?;
+        match self.places.push(Some(text)) {
             Ok(()) => Ok(()),
             Err(_) => unreachable!(),
         }
     }
 
-    /// Adds a slot of a new name behind the others. Memory alone can fail, and then all stays as it was.
-    pub fn push(&mut self, added: Slot<'a, FileRecord<'a>>) -> Result<(), AllocError>
-        requires { IsNew added self.old }
-        ensures ok { OnOk result (self.new ≡ self.old ++ added.entry ∷ []) }
+    /// Writes the text of a record over that of its name, if there is one. No memory.
+    pub fn write(&mut self, name: &[u8], text: ArcSlice<u8>)
+        requires { (entry : FileRecord) × IsTextOf self.old.arch (arc_slice_items text) entry × (entry.found.name ≡ name.now) }
+        ensures { (entry : FileRecord) → alone self.old.arch (arc_slice_items text) ≡ Some (slot.Recorded entry)
+            → self.new ≡ record self.old { slots = changed_slots (is_named name.now) (λ _. entry) self.old.slots } }
+    {
+        let Some(place) = place_of(&self.numbers, name) else {
+            return;
+        };
+        self.places[place] = Some(text);
+    }
+
+    /// Writes the text of a record over that of its name, or adds it behind the others where there is none. Where memory is
+    /// refused all stays as it was.
+    pub fn put(&mut self, alloc: Global, name: &[u8], text: ArcSlice<u8>) -> Result<(), AllocError>
+        requires { (entry : FileRecord) × IsTextOf self.old.arch (arc_slice_items text) entry × (entry.found.name ≡ name.now) }
+        ensures ok { (entry : FileRecord) → alone self.old.arch (arc_slice_items text) ≡ Some (slot.Recorded entry)
+            → OnOk result (self.new ≡ record self.old {
+              slots = if has_name name.now self.old.slots
+                  then changed_slots (is_named name.now) (λ _. entry) self.old.slots else self.old.slots ++ slot.Recorded entry ∷ [];
+            }) }
         ensures err { OnErr result (self.new ≡ self.old) }
     {
-        match added {
-            Slot::Recorded(held) => self.push_recorded(held),
-            Slot::Foreign(stanza) => self.push_foreign(stanza),
-        }
-    }
-
-    /// Writes a record over the one of its name, if there is one. No memory.
-    pub fn write(&mut self, held: FileRecord<'a>)
-        ensures { self.new ≡ changed_slots (is_named held.entry.found.name) (λ _. held.entry) self.old }
-    {
-        match place_of(self.places.as_slice(), &self.numbers, held.name()) {
-            Some(place) => self.places[place] = Some(Slot::Recorded(held)),
-            None => {}
-        }
-    }
-
-    /// Deletes the slot of the record of this name, if there is one. No memory. The numbers of the names behind it move.
-    pub fn delete(&mut self, name: &[u8])
-        ensures { self.new ≡ filter (λ slot. not (is_slot_named name.now slot)) self.old }
-    {
-        match place_of(self.places.as_slice(), &self.numbers, name) {
-            Some(place) => {
-                self.numbers.shift_remove(name);
-                self.places[place] = None;
+        match place_of(&self.numbers, name) {
+            Some(_) => {
+                self.write(name, text);
+                Ok(())
             }
-            None => {}
+            None => {
+                let owned = Vec::from_slice(alloc, name)?;
+                self.push_recorded(owned, text)
+            }
         }
     }
 
-    /// An equal table. Memory alone can fail. Linear in the slots.
-    pub fn try_copy(&self, alloc: Global) -> Result<Table<'a>, AllocError>
+    /// Deletes the stanza of the record of this name, if there is one. No memory. The numbers of the names behind it move.
+    pub fn delete(&mut self, name: &[u8])
+        ensures { self.new ≡ record self.old { slots = filter (λ slot. not (is_slot_named name.now slot)) self.old.slots } }
+    {
+        let Some(place) = place_of(&self.numbers, name) else {
+            return;
+        };
+        self.numbers.shift_remove(name);
+        self.places[place] = None;
+    }
+
+    /// An equal table, which shares the texts. Memory alone can fail. Linear in the number of stanzas and in the names.
+    pub fn try_copy(&self, alloc: Global) -> Result<Table, AllocError>
         ensures { IfOk result (λ copy. copy ≡ self.now) }
     {
-        copy_of(alloc, self.places.as_slice())
+        Ok(Table {
+            arch: Vec::from_slice(alloc, self.arch.as_slice())?,
+            places: copy_of_places(alloc, self.places.as_slice())?,
+            numbers: copy_of_numbers(
+                alloc,
+                self.numbers.keys().as_slice(),
+                self.numbers.values().as_slice(),
+            )?,
+        })
     }
 
-    /// The records of the slots. Memory alone can fail. Linear in the slots.
-    pub fn records(&self, alloc: Global) -> Result<Vec<&FileRecord<'a>>, AllocError>
-        ensures { IfOk result (λ records. map (λ r. r.now) records.items ≡ entries_of self.now) }
+    /// The records of the stanzas. Memory alone can fail. Linear in the texts.
+    pub fn records(&self, alloc: Global) -> Result<Vec<StatusRecord<'_>>, AllocError>
+        ensures { IfOk result (λ records. records.items ≡ entries_of self.now.slots) }
     {
-        records_in(alloc, self.places.as_slice())
+        records_in(alloc, self.arch.as_slice(), self.places.as_slice())
     }
 
-    /// The text of the slots. Memory alone can fail. Linear in it.
+    /// The texts, each followed by an empty line. Memory alone can fail. Linear in them.
     pub fn text(&self, alloc: Global) -> Result<Vec<u8>, AllocError>
-        ensures { IfOk result (λ text. text.items ≡ slots_text self.now) }
+        ensures { IfOk result (λ text. text.items ≡ slots_text self.now.slots) }
     {
         text_of(alloc, self.places.as_slice())
     }
 }
 
-// Adds a copy of the slot in the place, if there is one, behind the others.
-fn copy_place<'a>(
-    copy: &mut Table<'a>,
-    place: &Option<Slot<'a, FileRecord<'a>>>,
-) -> Result<(), AllocError>
-    requires { IfSome place.now (λ slot. IsNew slot copy.old) }
-    ensures { OnOk result (copy.new ≡ copy.old ++ option_to_list place.now) }
+// The text in a place once more, which isn't copied.
+fn copy_of_place(place: &Option<ArcSlice<u8>>) -> Result<Option<ArcSlice<u8>>, AllocError>
+    ensures { IfOk result (λ copy. option_map (λ text. arc_slice_items text) copy ≡ option_map (λ text. arc_slice_items text) place.now) }
 {
     match place {
-        Some(Slot::Recorded(record)) => copy.push(Slot::Recorded(record.again())),
-        Some(Slot::Foreign(stanza)) => copy.push(Slot::Foreign(stanza.again())),
-        None => Ok(()),
+        Some(text) => Ok(Some(text.clone()?)),
+        None => Ok(None),
     }
 }
 
-// Writes the slot onto the end of a text.
-fn write_slot<'a>(out: &mut Vec<u8>, slot: &Slot<'a, FileRecord<'a>>) -> Result<(), AllocError>
-    ensures { OnOk result (out.new.items ≡ out.old.items ++ slots_text (slot.now ∷ [])) }
-{
-    match slot {
-        Slot::Recorded(record) => record.write(out)?,
-        Slot::Foreign(stanza) => write_bytes(out, stanza.raw())?,
-    }
-    out.push(b'\n')?;
-    Ok(())
-}
-
-// Writes the slot in the place, if there is one, onto the end of a text.
-fn write_place<'a>(
-    out: &mut Vec<u8>,
-    place: &Option<Slot<'a, FileRecord<'a>>>,
-) -> Result<(), AllocError>
-    ensures { OnOk result (out.new.items ≡ out.old.items ++ slots_text (option_to_list place.now)) }
-{
-    match place {
-        Some(slot) => write_slot(out, slot),
-        None => Ok(()),
-    }
-}
-
-// A table of the slots in these places.
-fn copy_of<'a>(
+// The texts in their places once more, which aren't copied.
+fn copy_of_places(
     alloc: Global,
-    places: &[Option<Slot<'a, FileRecord<'a>>>],
-) -> Result<Table<'a>, AllocError>
-    requires { AreDistinct (names_of (slots_at places.now)) }
-    ensures { IfOk result (λ copy. copy ≡ slots_at places.now) }
+    places: &[Option<ArcSlice<u8>>],
+) -> Result<Vec<Option<ArcSlice<u8>>>, AllocError>
+    ensures { IfOk result (λ copy. map (λ place. option_map (λ text. arc_slice_items text) place) copy.items
+        ≡ map (λ place. option_map (λ text. arc_slice_items text) place) places.now) }
 {
-    let mut copy = Table::new(alloc);
+    let mut copy = Vec::with_capacity(alloc, places.len())?;
     for place in places {
-        copy_place(&mut copy, place)?;
+        copy.push(copy_of_place(place)?)?;
     }
     Ok(copy)
 }
 
-// The text of the slots in these places.
-fn text_of<'a>(
+// The distinct names and their numbers once more.
+fn copy_of_numbers(
     alloc: Global,
-    places: &[Option<Slot<'a, FileRecord<'a>>>],
-) -> Result<Vec<u8>, AllocError>
-    ensures { IfOk result (λ text. text.items ≡ slots_text (slots_at places.now)) }
+    names: &[Vec<u8>],
+    numbers: &[usize],
+) -> Result<IndexMap<Vec<u8>, usize>, AllocError>
+    requires distinct { AreDistinct (map (λ name. name.items) names.now) }
+    requires each { length numbers.now ≡ length names.now }
+    ensures { IfOk result (λ copy. map {B = List ℕ × ℕ} (λ pair. (pair.0.items, pair.1)) copy.entries ≡ zip (map (λ name. name.items) names.now) numbers.now) }
+{
+    let mut copy = IndexMap::new(alloc);
+    for (place, name) in names.iter().enumerate() {
+        let owned = Vec::from_slice(alloc, name.as_slice())?;
+        copy.insert(owned, numbers[place])?;
+    }
+    Ok(copy)
+}
+
+// Writes the text in the place, if there is one, and an empty line onto the end of a text.
+fn write_place(out: &mut Vec<u8>, place: &Option<ArcSlice<u8>>) -> Result<(), AllocError>
+    ensures { OnOk result (out.new.items ≡ out.old.items ++ place_text (option_map (λ text. arc_slice_items text) place.now)) }
+{
+    match place {
+        Some(text) => {
+            out.extend_from_slice(text.as_slice())?;
+            out.push(b'\n')?;
+            Ok(())
+        }
+        None => Ok(()),
+    }
+}
+
+// The texts in these places, each followed by an empty line.
+fn text_of(alloc: Global, places: &[Option<ArcSlice<u8>>]) -> Result<Vec<u8>, AllocError>
+    ensures { IfOk result (λ text. text.items ≡ places_text (map (λ place. option_map (λ text. arc_slice_items text) place) places.now)) }
 {
     let mut out = Vec::new(alloc);
     for place in places {
@@ -247,33 +305,35 @@ fn text_of<'a>(
     Ok(out)
 }
 
-// Adds the record in the place, if there is one, behind the others.
-fn push_record<'p, 'a>(
-    records: &mut Vec<&'p FileRecord<'a>>,
-    place: &'p Option<Slot<'a, FileRecord<'a>>>,
+// Adds the record of the text in the place, if there is one, behind the others.
+fn push_record<'t>(
+    records: &mut Vec<StatusRecord<'t>>,
+    arch: &'t [u8],
+    place: &'t Option<ArcSlice<u8>>,
 ) -> Result<(), AllocError>
-    ensures { OnOk result (map (λ r. r.now) records.new.items
-        ≡ map (λ r. r.now) records.old.items ++ entries_of (option_to_list place.now)) }
+    ensures { OnOk result (records.new.items
+        ≡ records.old.items ++ entries_of (option_to_list (option_and_then (alone arch.now) (option_map (λ text. arc_slice_items text) place.now)))) }
 {
-    match place {
-        Some(Slot::Recorded(record)) => {
-            records.push(record)?;
-            Ok(())
+    if let Some(text) = place {
+        if let Some(found) = record_in(arch, text.as_slice()) {
+            records.push(found)?;
         }
-        _ => Ok(()),
     }
+    Ok(())
 }
 
-// The records in these places.
-fn records_in<'p, 'a>(
+// The records of the texts in these places.
+fn records_in<'t>(
     alloc: Global,
-    places: &'p [Option<Slot<'a, FileRecord<'a>>>],
-) -> Result<Vec<&'p FileRecord<'a>>, AllocError>
-    ensures { IfOk result (λ records. map (λ r. r.now) records.items ≡ entries_of (slots_at places.now)) }
+    arch: &'t [u8],
+    places: &'t [Option<ArcSlice<u8>>],
+) -> Result<Vec<StatusRecord<'t>>, AllocError>
+    ensures { IfOk result (λ records. records.items
+        ≡ entries_of (slots_at (slots_read arch.now (map (λ place. option_map (λ text. arc_slice_items text) place) places.now)))) }
 {
     let mut records = Vec::new(alloc);
     for place in places {
-        push_record(&mut records, place)?;
+        push_record(&mut records, arch, place)?;
     }
     Ok(records)
 }

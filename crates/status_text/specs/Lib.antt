@@ -10,3 +10,4 @@ pub mod Spelling
 pub mod Writable
 pub mod ReadBack
 pub mod Touched
+pub mod Alone

@@ -1,5 +1,5 @@
 //! One stanza of the status file: its slot, or its first refusal.
-ghost use Rattle.std.specs.Prelude.{◌≡◌, IfErr, IfOk, IsTrue, MatchResult, None, Ok, Some, true};
+ghost use Rattle.std.specs.Prelude.{◌≡◌, [], IfErr, IfOk, IsTrue, MatchResult, None, Ok, Some, true};
 ghost use Rattle.std.specs.Option.{option_and_then};
 ghost use Rattle.relation.specs.PkgFields.{fields_of};
 ghost use Rattle.relation.specs.PkgText.{pkg_name_fault, pkg_of, pkg_version_fault, version_fault};
@@ -141,6 +141,35 @@ fn rest_at<'a>(
     Ok((version, configured, tested))
 }
 
+// The record of a stanza that counts, of which Status says this.
+fn entry_of<'a>(
+    stanza: &Stanza<'a>,
+    found: &Found<'a>,
+    name: &'a [u8],
+    mark: Mark,
+    arch: &'a [u8],
+) -> Result<StatusRecord<'a>, PkgFault>
+    requires found { found.now ≡ found_of stanza.now }
+    requires name { name.now ≡ name_in stanza.now }
+    requires named { pkg_name_fault (fields_of stanza.now) ≡ None }
+    requires valid { IsTrue (is_name name.now) }
+    ensures { MatchResult result
+        (λ entry. (Spec.later_fault mark.state stanza.now ≡ None) × (entry ≡ Spec.entry_of arch.now stanza.now mark))
+        (λ refused. Spec.later_fault mark.state stanza.now ≡ Some refused) }
+{
+    let (version, configured, tested) = rest_at(stanza, found, mark.state, arch)?;
+    Ok(StatusRecord::new(
+        arch,
+        stanza.again(),
+        name,
+        mark,
+        version,
+        configured,
+        tested,
+        found.is_essential,
+    ))
+}
+
 // The record of a stanza that counts, whose name is noted.
 fn read_new<'a>(
     seen: &mut Seen<'a>,
@@ -160,17 +189,8 @@ fn read_new<'a>(
     if !seen.insert(name)? {
         return Err(StatusFault::DuplicatePackage(PackageName::new(name)).into());
     }
-    let (version, configured, tested) = rest_at(stanza, found, mark.state, arch)?;
-    Ok(StatusRecord::new(
-        arch,
-        stanza.again(),
-        name,
-        mark,
-        version,
-        configured,
-        tested,
-        found.is_essential,
-    ))
+    let entry = entry_of(stanza, found, name, mark, arch)?;
+    Ok(entry)
 }
 
 // Whether the stanza of the package of this name, which is in this state, has a record.
@@ -204,4 +224,21 @@ pub fn read_slot<'a>(
         return Ok(Slot::Foreign(stanza.again()));
     }
     Ok(Slot::Recorded(read_new(seen, stanza, &found, name, mark, arch)?))
+}
+
+/// The slot of a stanza that stands alone, or its first refusal.
+pub fn slot_alone<'a>(
+    stanza: &Stanza<'a>,
+    arch: &'a [u8],
+) -> Result<Slot<'a, StatusRecord<'a>>, StatusFault<'a>>
+    ensures { result ≡ Spec.read_slot arch.now [] stanza.now }
+{
+    let found = Found::in_stanza(stanza);
+    let name = found.pkg.name()?;
+    let mark = mark_in(stanza, &found.status)?;
+    if !counts(arch, name, stanza, &found, mark.state)? {
+        return Ok(Slot::Foreign(stanza.again()));
+    }
+    let entry = entry_of(stanza, &found, name, mark, arch)?;
+    Ok(Slot::Recorded(entry))
 }

@@ -70,6 +70,14 @@ pub enum StatusError<'a> {
     OutOfMemory,
 }
 
+impl<'a> From<PkgFault> for StatusFault<'a> {
+    ghost from_gives = { λ refused e. e ≡ fault.Pkg refused };
+
+    fn from(refused: PkgFault) -> StatusFault<'a> {
+        StatusFault::Pkg(refused)
+    }
+}
+
 impl<'a> From<StatusFault<'a>> for StatusError<'a> {
     ghost from_gives = { λ refused e. e ≡ error.Refused refused };
 

@@ -3,6 +3,7 @@
 //! `relation` and `rules`. The main type is `StatusFile`, the main call `StatusFile::read`.
 #![tactic(auto)]
 
+mod alone;
 mod entry;
 mod error;
 mod file;
@@ -18,6 +19,7 @@ mod walk;
 mod words;
 mod write;
 
+pub use alone::read_alone;
 pub use error::{RequiredField, StatusError, StatusFault};
 pub use file::StatusFile;
 pub use name::PackageName;

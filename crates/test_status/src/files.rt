@@ -20,7 +20,8 @@ fn is_record(record: &StatusRecord<'_>, wanted: &str) -> bool {
         )
 }
 
-fn is_slot(slot: &Slot<'_, StatusRecord<'_>>, wanted: &str) -> bool {
+/// Whether the slot has this record, or its stanza has none and begins at this line.
+pub(crate) fn is_slot(slot: &Slot<'_, StatusRecord<'_>>, wanted: &str) -> bool {
     match slot {
         Slot::Recorded(record) => is_record(record, wanted),
         Slot::Foreign(stanza) => match wanted.strip_prefix("foreign at ") {

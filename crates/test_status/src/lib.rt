@@ -3,11 +3,15 @@
 #![tactic(auto)]
 
 #[cfg(test)]
+mod alone;
+#[cfg(test)]
 mod files;
 #[cfg(test)]
 mod lookups;
 #[cfg(test)]
 mod marks;
+#[cfg(test)]
+mod memory;
 #[cfg(test)]
 mod records;
 #[cfg(test)]

@@ -2,7 +2,7 @@
 //! leave were worked out by hand from dpkg(1) and Debian Policy 5; the architecture is amd64.
 use plantext::read_step;
 use rows::unescaped;
-use status::{ApplyError, Database, FileRecord, Step};
+use status::{ApplyError, Database, StatusRecord, Step};
 use std::alloc::{AllocError, Global};
 use std::str;
 use std::test::Fail;
@@ -22,43 +22,43 @@ fn is_printed(alloc: Global, error: &ApplyError<'_>, wanted: &str) -> Result<boo
 }
 
 // Whether the step is refused, and then whether its refusal is printed so.
-fn refused_so<'a>(
+fn refused_so(
     alloc: Global,
-    db: &mut Database<'a>,
+    db: &mut Database,
     step: &Step,
-    stanza: &'a [u8],
+    stanza: &[u8],
     wanted: &str,
 ) -> Result<Option<bool>, Fail> {
-    match db.apply(step, given(stanza)) {
+    match db.apply(alloc, step, given(stanza)) {
         Ok(()) => Ok(None),
         Err(refused) => Ok(Some(is_printed(alloc, &refused, wanted)?)),
     }
 }
 
 // The same of the step of a line.
-fn line_refused_so<'a>(
+fn line_refused_so(
     alloc: Global,
-    db: &mut Database<'a>,
+    db: &mut Database,
     line: &str,
-    stanza: &'a str,
+    stanza: &str,
     wanted: &str,
 ) -> Result<Option<bool>, Fail> {
     let step = read_step(alloc, line.as_bytes())?;
     refused_so(alloc, db, &step, stanza.as_bytes(), wanted)
 }
 
-fn has_text(alloc: Global, db: &Database<'_>, wanted: &[u8]) -> Result<bool, AllocError> {
+fn has_text(alloc: Global, db: &Database, wanted: &[u8]) -> Result<bool, AllocError> {
     let text = db.text(alloc)?;
     Ok(text.as_slice() == wanted)
 }
 
-fn has_copied_text(alloc: Global, db: &Database<'_>, wanted: &[u8]) -> Result<bool, AllocError> {
+fn has_copied_text(alloc: Global, db: &Database, wanted: &[u8]) -> Result<bool, AllocError> {
     let copy = db.try_copy(alloc)?;
     has_text(alloc, &copy, wanted)
 }
 
 // Whether the text is the database's, as is that of its copy.
-fn is_text(alloc: Global, db: &Database<'_>, text: &[u8]) -> Result<bool, AllocError> {
+fn is_text(alloc: Global, db: &Database, text: &[u8]) -> Result<bool, AllocError> {
     Ok(has_text(alloc, db, text)? && has_copied_text(alloc, db, text)?)
 }
 
@@ -69,12 +69,7 @@ fn is_read_again(alloc: Global, text: &[u8]) -> Result<bool, Fail> {
 }
 
 // Whether the steps leave this text, which is read again, or the first refusal is printed so.
-fn leaves<'a>(
-    alloc: Global,
-    db: &mut Database<'a>,
-    wanted: &str,
-    steps: &'a str,
-) -> Result<bool, Fail> {
+fn leaves(alloc: Global, db: &mut Database, wanted: &str, steps: &str) -> Result<bool, Fail> {
     let mut parts = steps.split('→');
     while let (Some(line), Some(stanza)) = (parts.next(), parts.next()) {
         if let Some(answer) = line_refused_so(alloc, db, line, stanza, wanted)? {
@@ -127,6 +122,7 @@ Package: h$Status: hold ok not-installed$→Package: h$Status: install ok unpack
 →E24 NotApplicable a→purge a$→
 Package: a$Status: install reinstreq installed$Architecture: all$Version: 1$→E24 NotApplicable a→remove a$→
 Package: a$Status: install reinstreq unpacked$Architecture: all$Version: 1$→E24 NotApplicable a→configure a$→
+Package: a$Status: install reinstreq half-installed$Config-Version: 0$Version: 1$Architecture: all$→E24 NotApplicable a→configure a$→
 Package: a$Status: install ok installed$Architecture: all$Version: 1$→E24 NotApplicable a→configure a$→
 Package: a$Status: install ok unpacked$Architecture: all$Version: 1$→E24 NotApplicable a→deconfigure a$→
 Package: a$Status: install ok installed$Architecture: all$Version: 1$→E24 NotApplicable a→purge a$→
@@ -193,30 +189,49 @@ fn steps_leave_the_states_that_dpkg_leaves(rt: HostRuntime) -> Result<(), Fail> 
 const NAMED: &[u8] =
     b"Package: b\nStatus: install ok installed\nArchitecture: all\nVersion: 1\n\nPackage: x\nStatus: unknown ok not-installed\nArchitecture: i386\n\nPackage: a\nStatus: hold ok not-installed\n";
 
-fn is_held_alone(record: Option<&FileRecord<'_>>) -> bool {
+fn is_held_alone(record: &Option<StatusRecord<'_>>) -> bool {
     match record {
         Some(record) => record.is_held() && !record.is_present(),
         None => false,
     }
 }
 
-fn finds_records(db: &Database<'_>) -> bool {
+fn are_named(names: &[Vec<u8>]) -> bool {
+    match names {
+        [first, second] => {
+            first.as_slice() == b"b".as_slice() && second.as_slice() == b"a".as_slice()
+        }
+        _ => false,
+    }
+}
+
+fn finds_records(db: &Database) -> bool {
     db.arch() == ARCH
-        && matches!(db.names(), [b"b", b"a"])
+        && are_named(db.names())
         && db.record(b"x").is_none()
-        && is_held_alone(db.record(b"a"))
+        && is_held_alone(&db.record(b"a"))
+}
+
+// Whether the records are those of the names, in their order.
+fn are_in_order(alloc: Global, db: &Database) -> Result<bool, AllocError> {
+    let records = db.records(alloc)?;
+    match records.as_slice() {
+        [first, second] => Ok(first.name() == b"b".as_slice() && second.name() == b"a".as_slice()),
+        _ => Ok(false),
+    }
 }
 
 #[test]
 fn names_are_those_of_records_which_are_found_by_them(rt: HostRuntime) -> Result<(), Fail> {
     let db = Database::read(rt.alloc(), NAMED, ARCH)?;
     assert!(rt; finds_records(&db));
+    assert!(rt; are_in_order(rt.alloc(), &db)?);
     Ok(())
 }
 
 // Whether the step is refused for the name.
-fn is_refused_for(db: &mut Database<'_>, step: &Step, name: &[u8]) -> bool {
-    match db.apply(step, None) {
+fn is_refused_for(alloc: Global, db: &mut Database, step: &Step, name: &[u8]) -> bool {
+    match db.apply(alloc, step, None) {
         Err(ApplyError::NotApplicable(refused)) => refused.as_bytes() == name,
         _ => false,
     }
@@ -224,34 +239,12 @@ fn is_refused_for(db: &mut Database<'_>, step: &Step, name: &[u8]) -> bool {
 
 fn is_refused(alloc: Global, step: &Step) -> Result<bool, Fail> {
     let mut db = Database::read(alloc, b"", ARCH)?;
-    Ok(is_refused_for(&mut db, step, b"a"))
+    Ok(is_refused_for(alloc, &mut db, step, b"a"))
 }
 
 #[test]
 fn a_refused_name_is_lent(rt: HostRuntime) -> Result<(), Fail> {
     let step = read_step(rt.alloc(), b"remove a\n")?;
     assert!(rt; is_refused(rt.alloc(), &step)?);
-    Ok(())
-}
-
-// Whether the step is taken and leaves a record, or is refused for memory and leaves none.
-fn is_taken_or_wanting<'a>(db: &mut Database<'a>, step: &Step, stanza: &'a [u8]) -> bool {
-    match db.apply(step, Some(stanza)) {
-        Ok(()) => db.names().len() == 1,
-        Err(ApplyError::OutOfMemory) => db.names().is_empty(),
-        Err(_) => false,
-    }
-}
-
-fn is_unpacked_or_wanting(alloc: Global, step: &Step) -> Result<bool, Fail> {
-    let mut db = Database::read(alloc, b"", ARCH)?;
-    let stanza = b"Package: a\nArchitecture: all\nVersion: 1\n";
-    Ok(is_taken_or_wanting(&mut db, step, stanza))
-}
-
-#[test]
-fn a_refused_growth_is_want_of_memory(rt: HostRuntime) -> Result<(), Fail> {
-    let step = read_step(rt.alloc(), b"unpack a 1\n")?;
-    assert!(rt; is_unpacked_or_wanting(rt.alloc(), &step)?);
     Ok(())
 }

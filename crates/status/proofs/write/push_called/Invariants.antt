@@ -1,7 +1,7 @@
-use Rattle.std.proofs.Common.{◌≡◌, ◌++◌, map, take, length}
+use Rattle.std.proofs.Common.{◌≡◌, ◌++◌, map}
 use Rattle.relation.specs.PackageStanza.{field_of}
 use Rattle.rules.specs.Stanza.{fields_called}
-use Rattle.status.specs.StanzaOrigin.{fields_of}
+use Rattle.status.specs.Written.{fields_of}
 use Rattle.status_text.specs.Spelling.{fields_text}
 use Rattle.status.proofs.write.push_called.Given as goal
 
@@ -10,5 +10,4 @@ abbrev pub invariant-loop-field : goal.invariant-loop-field
 invariant-loop-field l =
     (goal.iterator-loop-field).can_next l.field-iterator ×
     (goal.iterator-loop-field).is_finite l.field-iterator ×
-    (l.out.items ++ fields_text (fields_called l.name (map field_of l.field-iterator)) ≡ l.initial.out.items ++ fields_text (fields_called l.name (fields_of l.stanza))) ×
-    (take (length l.initial.out.items) l.out.items ≡ l.initial.out.items)
+    (l.out.items ++ fields_text (fields_called l.name (map field_of l.field-iterator)) ≡ l.initial.out.items ++ fields_text (fields_called l.name (fields_of l.stanza)))

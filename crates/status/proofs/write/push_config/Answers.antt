@@ -13,8 +13,8 @@ config-written is_version config_version version text is_there is_some same =
     ∙ sym (append-nil (field_text (record { name = codes "Config-Version"; value = version })))
     ∙ rw (is_there, is_some) refl
 
-pub returns-then-is_version-clause-written : goal.returns-then-is_version-clause-written
-returns-then-is_version-clause-written c =
+pub returns-then-is_version : goal.returns-then-is_version
+returns-then-is_version c =
     subst (λ (text : List ℕ). OnOk c.write_field.result (c.write_field.new.out.items ≡ c.args.out.now.items ++ text))
     (config-written c.args.is_version c.args.config_version.now _ c.text.result.now c.if-is_version.true c.in-Some.is c.text.ensures.value)
     c.write_field.ensures.written
