@@ -50,18 +50,25 @@ IsLeftFault old recorded error.TooLarge = ⊥
 IsLeftFault old recorded error.Disk = ⊥
 IsLeftFault old recorded error.Reopen = ⊥
 
--- why a step isn't prepared: it can't be taken, a length is above its limit, or memory was refused
+-- its payload is no longer than a record may have
+abbrev pub FitsRecord : Recorded → Type 0
+FitsRecord recorded = length (payload_of recorded) ≤ TEXT_BYTES
+
+-- why a step isn't prepared: a length is above its limit, or none is and the step can't be taken, or memory was refused
 abbrev pub IsPrepareFault : Store → Recorded → AppendError → Type 0
 IsPrepareFault old recorded error.OutOfMemory = ⊤
 IsPrepareFault old recorded error.TooLarge = TEXT_BYTES < length (payload_of recorded)
-IsPrepareFault old recorded (error.NotApplicable name) = refused_name (handed_in old.arch recorded.stanza) recorded.step (slot_records old.slots) ≡ Some name
+IsPrepareFault old recorded (error.NotApplicable name) =
+    FitsRecord recorded × (refused_name (handed_in old.arch recorded.stanza) recorded.step (slot_records old.slots) ≡ Some name)
 IsPrepareFault old recorded error.Disk = ⊥
 IsPrepareFault old recorded error.Reopen = ⊥
 
--- why a step isn't added: as above, or the file is too long, or a call of the disk failed, now or before
+-- why a step isn't added: as above, or the file is too long, or a call of the disk failed, now or before; that it can't be taken
+-- is told of a step alone whose payload isn't too long
 abbrev pub IsAppendFault : Ledger → Recorded → AppendError → Type 0
 IsAppendFault old recorded error.OutOfMemory = ⊤
 IsAppendFault old recorded error.TooLarge = (TEXT_BYTES < length (payload_of recorded)) ⊎ (2 ^ 60 ≤ old.gate)
-IsAppendFault old recorded (error.NotApplicable name) = refused_name (handed_in old.database.arch recorded.stanza) recorded.step (slot_records old.database.slots) ≡ Some name
+IsAppendFault old recorded (error.NotApplicable name) =
+    FitsRecord recorded × (refused_name (handed_in old.database.arch recorded.stanza) recorded.step (slot_records old.database.slots) ≡ Some name)
 IsAppendFault old recorded error.Disk = ⊤
 IsAppendFault old recorded error.Reopen = old.broken ≡ true

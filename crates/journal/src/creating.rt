@@ -63,8 +63,9 @@ fn read_start<'a>(alloc: Global, start: &'a [u8], arch: &'a [u8]) -> Result<Data
     }
 }
 
-/// Makes the file a journal for the architecture, whose start is this text of a status file, and which has no step. Such a
-/// text is what `Database::text` of `status` answers. A crash before `Ok` may leave a file that isn't opened.
+/// Makes the file a journal for the architecture, whose start is this text of a status file, and which has no step. It is of
+/// version 2, so it names the architecture. Such a text is what `Database::text` of `status` answers. A crash before `Ok` may
+/// leave a file that isn't opened.
 pub fn create<'a, D: Disk>(
     alloc: Global,
     disk: &mut D,
@@ -74,6 +75,7 @@ pub fn create<'a, D: Disk>(
     ensures honest { D.honest disk.new ↔ D.honest disk.old }
     ensures made { IfOk result (IsCreated arch.now start.now) }
     ensures settled { IfOk result (λ l. D.honest disk.old → IsSettled l (D.facts disk.new)) }
+    ensures named { OnOk result (D.honest disk.old → Synced (header (Some arch.now) start.now ++ 0 ∷ []) (D.facts disk.new)) }
     ensures fault { IfErr result (IsCreateFault arch.now start.now) }
     ensures refused { IfErr result (λ e. e ≢ create_error.Disk → disk.new ≡ disk.old) }
     ensures failed { IsErrOf result create_error.Disk → D.faults disk.new ≡ min (D.faults disk.old + 1) (2 ^ 64 - 1) }

@@ -14,3 +14,4 @@ pub mod ReadSpelled
 pub mod AtomBytes
 pub mod AtomLeads
 pub mod SpelledRead
+mod GrammarRows

@@ -11,3 +11,7 @@ returns-clause-settled g c = λ honest.
     let done : Synced image facts = subst (λ b. Synced b facts) c.deref.ensures.value (c.in_ok-replace.ensures.done honest) in
     created c.args.arch.now c.args.start.now image c.in_ok-database.database.slots c.begun-ledger.result facts (omega arith) (omega arith)
     c.in_ok-database.ensures.ok c.in_ok-image.ensures begun.start begun.steps (ap (λ db. db.arch) begun.database ∙ c.in_ok-database.ensures.arch) (ap (λ db. db.slots) begun.database) (search rules) begun.whole done
+
+pub returns-clause-named : goal.returns-clause-named
+returns-clause-named g c = λ honest.
+    subst (λ b. Synced b (g.D.Disk.facts c.replace.new.disk)) (c.deref.ensures.value ∙ c.in_ok-image.ensures) (c.in_ok-replace.ensures.done honest)
