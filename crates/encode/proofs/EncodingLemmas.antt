@@ -1,11 +1,10 @@
 -- Selections that make all clauses of an encoding true.
-use Rattle.std.proofs.Common.{◌≡◌, ℕ, zero, suc, ◌≤◌, ◌==◌, Bool, true, false, List, [], ◌∷◌, map, refl, sym, subst, add-one, arith}
-use Rattle.std.proofs.lemmas.Bool.{eq-eqb, eqb-true}
+use Rattle.std.proofs.Common.{◌≡◌, ℕ, zero, suc, ◌≤◌, List, [], ◌∷◌, map, refl, sym, subst, add-one, arith}
 use mathlib.Core.Logic.{inl, inr}
-use Rattle.std.specs.Prelude.{ℤ, IsTrue}
+use Rattle.std.specs.Prelude.{ℤ}
 use Rattle.std.specs.List.{All, AllZip, Any, Contains}
 use Rattle.std.proofs.lemmas.List.Elements.{All-contains}
-use Rattle.rules.specs.ElementLaws.{Any-elim, Any-from_list_any, Contains-cons, Contains-head, Contains-map, Contains-nil, Contains-rest, list_any-from_contains}
+use Rattle.rules.specs.ElementLaws.{Any-elim, Contains-cons, Contains-head, Contains-map, Contains-nil, Contains-rest}
 use Rattle.rules.specs.Universe.{Universe}
 use Rattle.clauses.specs.Clause.{IsTrueLiteral, IsTrueOf as IsTrueClause, MakesAllTrue}
 use Rattle.refutation.specs.Clause.{IsClauseTrue, IsTrueOf}
@@ -15,23 +14,8 @@ use Rattle.refutation.specs.declared.line.Premise.{Premise}
 use Rattle.refutation.specs.declared.literal.Literal.{Literal}
 use Rattle.refutation.specs.declared.literal.Literal.TheVariants as literal
 use Rattle.encode.specs.Encoding.{Encoding, IsClauseOf, IsEncoding, signed}
-use Rattle.encode.specs.Selection.{selects}
-
--- the test of a selection
-pub selects_contained : (selection : List ℕ) (number : ℕ) → Contains selection number → IsTrue (selects selection number)
-selects_contained selection number within = list_any-from_contains (λ one. one == number) selection number within (eq-eqb number number refl)
-
-pub contained_selects : (selection : List ℕ) (number : ℕ) → IsTrue (selects selection number) → Contains selection number
-contained_selects selection number is = Any-elim (λ one. (one == number) ≡ true) selection (Contains selection number)
-    (λ one within same. let N : ℕ → Type 0 = λ n. Contains selection n in subst N (eqb-true one number same) within)
-    (Any-from_list_any (λ one. one == number) selection is)
-
-pub selects_not : (selection : List ℕ) (number : ℕ) → ¬ Contains selection number → selects selection number ≡ false
-selects_not selection number not = at (selects selection number) refl
-  where
-    at : (b : Bool) → selects selection number ≡ b → b ≡ false
-    at true is = absurd (not (contained_selects selection number is))
-    at false is = refl
+use Rattle.refutation.specs.Selection.{selects}
+use Rattle.refutation.proofs.SelectionLemmas.{selects_contained, selects_not}
 
 -- the clause of a premise
 pub clause_of_premise : (u : Universe) (premises : List Premise) (clauses : List (List ℤ)) → AllZip (IsClauseOf u) premises clauses

@@ -85,18 +85,6 @@ pub of_name : (pkg : Pkg) (name : List ℕ) → pkg.name ≡ name → Matches pk
 unfolding Matches FitsByName
 of_name pkg name is = (refl, inl (is, tt))
 
--- a package that matches an atom matches its name without a restriction
-pub of_atom : (pkg : Pkg) (atom : Atom) → Matches pkg atom → Matches pkg (plain_atom atom.name)
-unfolding Matches FitsByName FitsByProvides FitsProvided
-of_atom pkg atom (native, either) = (
-  refl,
-  elim either [
-    | inl fits ↦ inl (fits.0, tt)
-    | inr some ↦ inr (Any-weaker (λ item. FitsProvided item atom) (λ item. FitsProvided item (plain_atom atom.name)) pkg.relations.provides
-        (λ item within fits. (fits.0, fits.1, tt)) some)
-  ],
-)
-
 -- among places that have all providers of a name, which all that have the property have or provide, are those of the pairs with it
 pub all_places : (u : Universe) (name places : List ℕ) (P : Pkg → Type 0)
     → ((place : ℕ) → IsProviderAt name (packages_of u.pairs) place → Contains places place)

@@ -1,15 +1,12 @@
--- Selections as lists of numbers, and that they are acceptable where they make all clauses true.
-use Rattle.std.specs.Prelude.{ℕ, ◌≤◌, ◌==◌, Bool, List}
-use Rattle.std.specs.List.{All, list_any}
+-- That a selection is acceptable where it makes all clauses true.
+use Rattle.std.specs.Prelude.{ℕ, ◌≤◌, List}
+use Rattle.std.specs.List.{All}
 use Rattle.clauses.specs.Clause.{MakesAllTrue}
 use Rattle.refutation.specs.Laws.{HasAscendingPairs, HasNeededPairs}
+use Rattle.refutation.specs.Selection.{selects}
 use Rattle.rules.specs.Sound.{IsAcceptable}
 use Rattle.rules.specs.Universe.{Universe}
 use Rattle.encode.specs.Encoding.{Encoding, IsEncoding}
-
--- whether the selection has the number
-abbrev pub selects : List ℕ → ℕ → Bool
-selects selection number = list_any (λ one. one == number) selection
 
 -- a selection of numbers of pairs that makes every clause of the universe true is acceptable
 abbrev pub TrueSelectionIsAcceptable : Type 0

@@ -16,7 +16,7 @@ use Rattle.std.proofs.Math.ListN.{drop_of_length-le}
 use Rattle.std.proofs.lemmas.Bool.Decides.{eqb_tells}
 use Rattle.std.proofs.lemmas.List.{append-nil, drop_more, get_or-replicate}
 use Rattle.rules.specs.Database.{Record}
-use Rattle.encode.specs.Selection.{selects}
+use Rattle.refutation.specs.Selection.{selects}
 use Rattle.fixed_order.specs.Selection.{is_away, marked, pkgs_of}
 use mathlib.Core.Logic.{inl, inr}
 

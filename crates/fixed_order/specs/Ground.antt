@@ -1,7 +1,7 @@
 -- What is known of a change while its steps are found.
 use Rattle.std.specs.Prelude.{◌↔◌, ℕ, List}
 use Rattle.std.specs.List.{Contains}
-use Rattle.encode.specs.Selection.{selects}
+use Rattle.refutation.specs.Selection.{selects}
 use Rattle.plain.specs.Change.{IsPlainChange}
 use Rattle.plain.specs.Underway.{IsUnderway}
 use Rattle.rules.specs.Database.{Record}

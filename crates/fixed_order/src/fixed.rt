@@ -7,7 +7,7 @@ ghost use Rattle.plain.specs.Change.{IsPlainChange};
 ghost use Rattle.plain.specs.Order.{IsInFixedOrder, to_unpack, unpack_of};
 ghost use Rattle.fixed_order.specs.Ground.{IsGround, members_in};
 ghost use Rattle.fixed_order.specs.Names.{HasNames, HasPairNames};
-ghost use Rattle.encode.specs.Selection.{selects};
+ghost use Rattle.refutation.specs.Selection.{selects};
 ghost use Rattle.fixed_order.specs.Selection.{pkgs_of};
 
 use crate::configure::configures;

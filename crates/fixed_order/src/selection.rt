@@ -1,7 +1,7 @@
 // The selected pairs in their order.
 
 ghost use Rattle.std.specs.Prelude.{◌≡◌, ◌≢◌, ◌∷◌, ◌++◌, [], ℕ, ◌+◌, ◌<◌, true, IfOk, OnOk, length};
-ghost use Rattle.encode.specs.Selection.{selects};
+ghost use Rattle.refutation.specs.Selection.{selects};
 ghost use Rattle.rules.specs.Sound.{selected, selected_from};
 ghost use Rattle.fixed_order.specs.Selection.{marked, pkgs_of};
 

@@ -4,7 +4,7 @@
 ghost use Rattle.std.specs.Prelude.{IfOk};
 
 use crate::member::Member;
-use index::Providers;
+use providers::Providers;
 use relation::{Atom, Clause, Pkg};
 use std::alloc::{AllocError, Global};
 
@@ -42,7 +42,7 @@ impl<'m, 'a> Listed<'m, 'a> {
 fn push_needs(
     alloc: Global,
     listed: &Listed<'_, '_>,
-    providers: &Providers<'_, '_>,
+    providers: &Providers<'_>,
     clauses: &[Clause<'_>],
     needs: &mut Vec<usize>,
 ) -> Result<(), AllocError> {
@@ -63,7 +63,7 @@ fn push_needs(
 fn needs_of(
     alloc: Global,
     listed: &Listed<'_, '_>,
-    providers: &Providers<'_, '_>,
+    providers: &Providers<'_>,
     member: &Member<'_>,
 ) -> Result<Vec<usize>, AllocError> {
     let mut needs = Vec::new(alloc);
@@ -93,7 +93,7 @@ struct Walk {
 impl Walk {
     fn over(alloc: Global, members: &[Member<'_>]) -> Result<Walk, AllocError> {
         let listed = Listed::of(alloc, members)?;
-        let providers = Providers::build(alloc, listed.packages.as_slice())?;
+        let providers = Providers::of_packages(alloc, listed.packages.as_slice())?;
         let mut needs = Vec::new(alloc);
         let mut seen = Vec::new(alloc);
         for member in members {

@@ -4,8 +4,6 @@ pub mod IndexLemmas
 pub mod NameLemmas
 pub mod ProviderLemmas
 pub mod NameTable
-pub mod NamedCut
-pub mod NamedPlaces
 pub mod RowLemmas
 pub mod StreamLemmas
 pub mod ReadingLemmas

@@ -10,7 +10,7 @@ use Rattle.std.proofs.lemmas.Map.Keys.{IsStrictlyIncreasing-from_sorted, sorted_
 use Rattle.std.proofs.lemmas.Option.{slice_get_within}
 use Rattle.rules.specs.ElementLaws.{Any-elim, Any-from_list_any, Any-weaker, Contains-filter, Contains-filter_intro, list_any-from_contains}
 use Rattle.rules.specs.NamedLaws.{bytes_eq-same, bytes_eq-true}
-use Rattle.rules.specs.Package.{FitsByName, FitsByProvides, FitsProvided, Matches, Pkg, Provided}
+use Rattle.rules.specs.Package.{Atom, FitsByName, FitsByProvides, FitsProvided, Matches, Pkg, Provided}
 use Rattle.index.specs.Providers.{IsProviderAt, is_item_of, is_provider, is_provider_at, plain_atom, providers_of}
 
 both : (a b : Bool) → (not a && b) ≡ true → (a ≡ false) × (b ≡ true)
@@ -87,3 +87,15 @@ providers-match name packages place = (to, back)
     back at = Contains-filter_intro (is_provider_at name packages) (range_with_len 0 (length packages)) place
         (range_has (length packages) place (slice_get_within packages place at.0 at.1))
         (rw at.1 (test-matches name at.0 at.2))
+
+-- a package that matches an atom matches its name without a restriction
+pub of_atom : (pkg : Pkg) (atom : Atom) → Matches pkg atom → Matches pkg (plain_atom atom.name)
+unfolding Matches FitsByName FitsByProvides FitsProvided
+of_atom pkg atom (native, either) = (
+  refl,
+  elim either [
+    | inl fits ↦ inl (fits.0, tt)
+    | inr some ↦ inr (Any-weaker (λ item. FitsProvided item atom) (λ item. FitsProvided item (plain_atom atom.name)) pkg.relations.provides
+        (λ item within fits. (fits.0, fits.1, tt)) some)
+  ],
+)

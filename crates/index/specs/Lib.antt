@@ -5,7 +5,5 @@ pub mod Names
 pub mod Providers
 pub mod Alone
 pub mod Walk
-pub mod Named
-pub mod NamedLaws
 pub mod Row
 pub mod Streamed

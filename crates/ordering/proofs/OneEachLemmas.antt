@@ -20,7 +20,7 @@ use Rattle.rules.specs.Package.{Pkg}
 use Rattle.rules.specs.Sound.{IsAcceptable}
 use Rattle.rules.specs.Universe.{Pair, Universe}
 use Rattle.rules.proofs.Rising.{pairs_head, pairs_tail}
-use Rattle.encode.specs.Selection.{selects}
+use Rattle.refutation.specs.Selection.{selects}
 use Rattle.forward_steps.specs.Selection.{IsOneEach, chosen}
 use Rattle.ordering.specs.Ordering.{AreAscending}
 use mathlib.Core.Logic.{inl, inr}

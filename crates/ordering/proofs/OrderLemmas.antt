@@ -2,7 +2,7 @@
 use Rattle.std.proofs.Common.{ℕ, List}
 use Rattle.std.specs.Prelude.{IsTrue}
 use Rattle.std.proofs.lemmas.List.Elements.{All-contains}
-use Rattle.encode.specs.Selection.{selects}
+use Rattle.refutation.specs.Selection.{selects}
 use Rattle.fixed_order.proofs.NamedLemmas.{selected_named}
 use Rattle.fixed_order.specs.Names.{AreNamed, HasNames, HasPairNames}
 use Rattle.forward_steps.specs.Selection.{chosen}

@@ -2,7 +2,7 @@
 use Rattle.std.proofs.Common.{◌≡◌, ℕ, zero, suc, List, [], ◌∷◌, Option, refl, sym, ap, subst, ◌∙◌}
 use Rattle.std.specs.Prelude.{◌↔◌}
 use Rattle.std.specs.List.{Contains, cons_option}
-use Rattle.encode.specs.Selection.{selects}
+use Rattle.refutation.specs.Selection.{selects}
 use Rattle.order.specs.Order.{InstalledAreSelected, IsPlanFor}
 use Rattle.forward_steps.specs.Selection.{chosen}
 use Rattle.plain.specs.PhaseLaws.{EndsWell, HasJust}

@@ -1,7 +1,7 @@
 -- What an order of an acceptable selection is: a plain change has a plan in the fixed order (this project's own).
 use Rattle.std.specs.Prelude.{ℕ, ◌<◌, List}
 use Rattle.std.specs.List.{AllPairs}
-use Rattle.encode.specs.Selection.{selects}
+use Rattle.refutation.specs.Selection.{selects}
 use Rattle.forward_steps.specs.Selection.{chosen}
 use Rattle.order.specs.Order.{IsPlanFor, IsWantedEnd}
 use Rattle.order.specs.declared.ordered.Ordered.{Ordered}

@@ -1,7 +1,7 @@
 // The order of steps for an acceptable selection.
 
 ghost use Rattle.std.specs.Prelude.{IfOk};
-ghost use Rattle.encode.specs.Selection.{selects};
+ghost use Rattle.refutation.specs.Selection.{selects};
 ghost use Rattle.fixed_order.specs.Names.{HasNames, HasPairNames};
 ghost use Rattle.ordering.specs.Ordering.{AreAscending, IsOrdering};
 ghost use Rattle.plain.specs.Change.{IsPlainChange};

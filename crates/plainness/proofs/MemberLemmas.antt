@@ -5,8 +5,8 @@ use Rattle.std.specs.List.{All, Any, Contains, cons_option, filter, filter_map}
 use Rattle.std.specs.Option.{option_map}
 use Rattle.std.proofs.lemmas.List.Elements.{All-contains, Contains-append_cases, Contains-append_left, Contains-append_right}
 use Rattle.std.proofs.lemmas.Option.{same_Some}
-use Rattle.encode.specs.Selection.{selects}
-use Rattle.encode.proofs.EncodingLemmas.{contained_selects, selects_contained}
+use Rattle.refutation.specs.Selection.{selects}
+use Rattle.refutation.proofs.SelectionLemmas.{contained_selects, selects_contained}
 use Rattle.refutation.specs.Clause.{item_at}
 use Rattle.refutation.proofs.MemberLemmas.{is_member, picked}
 use Rattle.plain.specs.Change.{AreAtPeace, IsMetByStaying, IsPlain, IsReady, Stays, old_and_new}

@@ -6,8 +6,8 @@ ghost use Rattle.std.specs.Option.{option_copied};
 ghost use Rattle.rules.specs.Package.{Matches};
 ghost use Rattle.plainness.specs.Parts.{IsMatchedByOther};
 
-use index::Providers;
 use plancheck_state::is_same;
+use providers::Providers;
 use relation::{Atom, Pkg};
 use std::alloc::{AllocError, Global};
 use std::marker::Model;
@@ -17,7 +17,7 @@ use std::marker::Model;
 pub(crate) struct Packages<'k, 'a> {
     alloc: Global,
     packages: &'k [&'k Pkg<'a>],
-    providers: Providers<'k, 'a>,
+    providers: Providers<'a>,
 }
 
 impl<'k, 'a> Model for Packages<'k, 'a> {
@@ -56,7 +56,7 @@ impl<'k, 'a> Packages<'k, 'a> {
     ) -> Result<Packages<'k, 'a>, AllocError>
         ensures { IfOk result (λ made. made ≡ map (λ pkg. pkg.now) packages.now) }
     {
-        let providers = Providers::build(alloc, packages)?;
+        let providers = Providers::of_packages(alloc, packages)?;
         Ok(Packages {
             alloc,
             packages,

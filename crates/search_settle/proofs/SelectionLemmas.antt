@@ -13,8 +13,8 @@ use Rattle.refutation.specs.declared.literal.Literal.TheVariants as literal
 use Rattle.encode.specs.Basis.{premise_of}
 use Rattle.encode.specs.declared.basis.Basis.{Basis}
 use Rattle.encode.specs.Encoding.{Encoding, IsClauseOf, IsEncoding}
-use Rattle.encode.specs.Selection.{selects}
-use Rattle.encode.proofs.EncodingLemmas.{contained_selects, selects_contained, selects_not}
+use Rattle.refutation.specs.Selection.{selects}
+use Rattle.refutation.proofs.SelectionLemmas.{contained_selects, selects_contained, selects_not}
 use Rattle.search_settle.specs.Encoded.{IsGivenBy}
 use Rattle.search_settle.specs.Given.{Given, IsIndexed, clause_at, role_of}
 use Rattle.search_settle.specs.Moves.{Known}

@@ -2,7 +2,7 @@
 
 ghost use Rattle.std.specs.Prelude.{◌≡◌, ◌≤◌, ◌+◌, ◌++◌, ◌∷◌, [], ℕ, IfOk, OnOk, length};
 ghost use Rattle.std.specs.List.{All};
-ghost use Rattle.encode.specs.Selection.{selects};
+ghost use Rattle.refutation.specs.Selection.{selects};
 ghost use Rattle.search_settle.specs.Selected.{numbers_from};
 ghost use Rattle.search_settle.specs.Truth.{holds};
 

@@ -7,7 +7,7 @@ ghost use Rattle.rules.specs.Sound.{IsAcceptable};
 ghost use Rattle.refutation.specs.Laws.{HasAscendingPairs, HasNeededPairs};
 ghost use Rattle.universe.specs.Universe.{HaveDistinctNames};
 ghost use Rattle.encode.specs.Encoding.{IsEncoding};
-ghost use Rattle.encode.specs.Selection.{selects};
+ghost use Rattle.refutation.specs.Selection.{selects};
 ghost use Rattle.search_settle.specs.Encoded.{StandingArePresent};
 ghost use Rattle.search_settle.specs.Selected.{IsSelection};
 

@@ -9,7 +9,7 @@ use Rattle.rules.specs.Run.{IsGoodPlan}
 use Rattle.rules.specs.Sound.{IsAcceptable, selected}
 use Rattle.rules.specs.Universe.{Universe}
 use Rattle.rules.specs.declared.step.Step.{Step}
-use Rattle.encode.specs.Selection.{selects}
+use Rattle.refutation.specs.Selection.{selects}
 use Rattle.order.specs.Order.{IsPlanFor}
 use Rattle.ordering.specs.Ordering.{IsStuckAfter}
 use Rattle.part.specs.Premises.{LeavesChoice}

@@ -4,7 +4,7 @@ ghost use Rattle.std.specs.Prelude.{◌≡◌, ◌≤◌, IfOk, Some, length};
 ghost use Rattle.std.specs.List.{All, AllZip};
 ghost use Rattle.clauses.specs.Clause.{MakesAllTrue};
 ghost use Rattle.encode.specs.Encoding.{IsEncoding};
-ghost use Rattle.encode.specs.Selection.{selects};
+ghost use Rattle.refutation.specs.Selection.{selects};
 ghost use Rattle.ordering.specs.Ordering.{AreAscending};
 ghost use Rattle.part.specs.Part.{IsClosedPart, IsPart};
 ghost use Rattle.refutation.specs.Clause.{item_at};

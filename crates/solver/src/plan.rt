@@ -1,7 +1,7 @@
 // A selection made into a plan: put in order, and judged.
 
 ghost use Rattle.std.specs.Prelude.{IfOk};
-ghost use Rattle.encode.specs.Selection.{selects};
+ghost use Rattle.refutation.specs.Selection.{selects};
 ghost use Rattle.ordering.specs.Ordering.{AreAscending};
 ghost use Rattle.rules.specs.Database.{IsQuiet};
 ghost use Rattle.rules.specs.Minimal.{IsLocallyMinimal};

@@ -1,7 +1,7 @@
 //! Whether a selection makes all clauses true.
 ghost use Rattle.std.specs.Prelude.{◌≡◌, IfOk, IsTrue};
 ghost use Rattle.clauses.specs.Clause.{MakesAllTrue};
-ghost use Rattle.encode.specs.Selection.{selects};
+ghost use Rattle.refutation.specs.Selection.{selects};
 ghost use Rattle.search_settle.specs.Selected.{IsSelection};
 ghost use Rattle.search_settle.specs.Truth.{is_clause_true, is_true_of};
 

@@ -114,7 +114,7 @@ impl<'p, 'a> Universe<'p, 'a> {
     }
 
     /// The packages of the pairs, in their order, each read once: the one at place 0 is that of the pair with the number 1.
-    /// `lend_packages` lends them to `index::Providers`. The relations of every pair that doesn't stand are read for it.
+    /// `lend_packages` lends them to `providers::Providers`. The relations of every pair that doesn't stand are read for it.
     /// Memory alone can fail. Linear in them.
     pub fn packages(&self, alloc: Global) -> Result<Vec<CountingPkg<'_, 'a>>, AllocError>
         ensures { IfOk result (λ packages. packages.items ≡ packages_of self.now.pairs) }

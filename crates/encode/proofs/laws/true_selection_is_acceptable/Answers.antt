@@ -1,5 +1,5 @@
 -- All premises are true of it.
-use Rattle.encode.specs.Selection.{selects}
+use Rattle.refutation.specs.Selection.{selects}
 use Rattle.encode.proofs.EncodingLemmas.{all_premises_true}
 use Rattle.encode.proofs.laws.true_selection_is_acceptable.Goals as goal
 

@@ -1,6 +1,6 @@
 -- What is unpacked has package names, and its stanzas are those of the unpacks.
 use Rattle.std.proofs.Common.{List, Bor, map, sym, ap, subst, ◌∙◌}
-use Rattle.encode.specs.Selection.{selects}
+use Rattle.refutation.specs.Selection.{selects}
 use Rattle.rules.specs.Universe.{Pair, listed_for}
 use Rattle.plain.specs.Order.{unpack_of}
 use Rattle.fixed_order.specs.Names.{AreNamed}

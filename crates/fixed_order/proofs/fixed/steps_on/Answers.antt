@@ -1,6 +1,6 @@
 -- Each phase begins where those before have led.
 use Rattle.std.proofs.Common.{map, ◌∙◌}
-use Rattle.encode.specs.Selection.{selects}
+use Rattle.refutation.specs.Selection.{selects}
 use Rattle.rules.specs.declared.step.Step.TheVariants.{Purge}
 use Rattle.plain.specs.Order.{to_unpack, unpack_of}
 use Rattle.plain.proofs.SelectedLemmas.{members_are_by_name}

@@ -1,7 +1,7 @@
 -- The least name that may go, or else the least that is installed; and where there is neither, none is to be removed.
 use Rattle.std.proofs.Common.{Bor, ℕ, List, Option, MatchOption, sym, subst}
 use Rattle.std.specs.List.{All}
-use Rattle.encode.specs.Selection.{selects}
+use Rattle.refutation.specs.Selection.{selects}
 use Rattle.rules.specs.Legal.{Allowed}
 use Rattle.rules.specs.declared.step.Step.TheVariants.{Deconfigure, Remove}
 use Rattle.plain.specs.Order.{IsNextRemoval}

@@ -1,6 +1,6 @@
 -- The numbers so far are marked.
 use Rattle.std.proofs.Common.{◌≡◌, ℕ, ◌+◌, ◌<◌, length, take}
-use Rattle.encode.specs.Selection.{selects}
+use Rattle.refutation.specs.Selection.{selects}
 use Rattle.fixed_order.specs.Selection.{marked}
 use Rattle.fixed_order.proofs.selection.marks_of.Given as goal
 

@@ -2,7 +2,7 @@
 use Rattle.std.proofs.Common.{Bool, List, ap, arith, ◌∙◌}
 use Rattle.rules.specs.Sound.{selected, selected_from}
 use Rattle.rules.specs.Universe.{Pair}
-use Rattle.encode.specs.Selection.{selects}
+use Rattle.refutation.specs.Selection.{selects}
 use Rattle.fixed_order.specs.Selection.{marked}
 use Rattle.fixed_order.proofs.SelectionLemmas.{marks_pick}
 use Rattle.fixed_order.proofs.selection.selected_pairs.Goals as goal

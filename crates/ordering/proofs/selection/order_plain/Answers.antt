@@ -1,5 +1,5 @@
 -- The steps in the fixed order are a plan.
-use Rattle.encode.specs.Selection.{selects}
+use Rattle.refutation.specs.Selection.{selects}
 use Rattle.ordering.proofs.PlanLemmas.{plan_that_ends_well}
 use Rattle.ordering.proofs.selection.order_plain.Goals as goal
 

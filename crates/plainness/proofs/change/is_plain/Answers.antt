@@ -1,7 +1,7 @@
 -- The members of the numbers are what is selected.
 use Rattle.std.proofs.Common.{List, ap, subst, ◌∙◌}
 use Rattle.std.specs.Prelude.{◌↔◌, IsTrue}
-use Rattle.encode.specs.Selection.{selects}
+use Rattle.refutation.specs.Selection.{selects}
 use Rattle.plain.specs.Change.{IsPlain}
 use Rattle.rules.specs.Package.{Pkg}
 use Rattle.rules.specs.Sound.{selected}

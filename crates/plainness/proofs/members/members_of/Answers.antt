@@ -1,6 +1,6 @@
 -- What the numbers of a selection have is what is selected.
 use Rattle.std.proofs.Common.{subst, sym, List}
-use Rattle.encode.specs.Selection.{selects}
+use Rattle.refutation.specs.Selection.{selects}
 use Rattle.rules.specs.Package.{Pkg}
 use Rattle.rules.specs.Sound.{selected}
 use Rattle.plainness.specs.Members.{AreSame}

@@ -1,6 +1,6 @@
 -- The set holds the numbers so far.
 use Rattle.std.proofs.Common.{◌≡◌, ℕ, ◌+◌, length, take}
-use Rattle.encode.specs.Selection.{selects}
+use Rattle.refutation.specs.Selection.{selects}
 use Rattle.search_settle.specs.Truth.{holds}
 use Rattle.search_settle.proofs.numbers.set_of.Given as goal
 

@@ -5,7 +5,7 @@ use Rattle.std.proofs.lemmas.Result.{IfOk-weaker}
 use Rattle.clauses.specs.Clause.{MakesAllTrue}
 use Rattle.rules.specs.Minimal.{IsLocallyMinimal}
 use Rattle.rules.specs.Sound.{IsAcceptable}
-use Rattle.encode.specs.Selection.{selects}
+use Rattle.refutation.specs.Selection.{selects}
 use Rattle.search_settle.specs.Selected.{IsSelection, numbers_from}
 use Rattle.search_settle.specs.Truth.{holds}
 use Rattle.search_settle.proofs.SelectionLemmas.{clauses_of_list, clauses_of_set, numbers_are_selection, same_numbers, zero_out}

@@ -1,6 +1,6 @@
 -- All clauses are true of the test of a selection, and so of its numbers.
 use Rattle.std.proofs.Common.{◌≤◌, length, refl, arith}
-use Rattle.encode.specs.Selection.{selects}
+use Rattle.refutation.specs.Selection.{selects}
 use Rattle.search_settle.specs.Truth.{AreTrue}
 use Rattle.search_settle.proofs.SelectionLemmas.{clauses_of_set}
 use Rattle.test_settle.proofs.clauses_true.makes_all_true.Goals as goal

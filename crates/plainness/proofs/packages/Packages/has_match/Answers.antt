@@ -2,7 +2,7 @@
 use Rattle.std.proofs.Common.{ℕ, List, subst, ◌∙◌}
 use Rattle.std.specs.Prelude.{◌↔◌, IsTrue, MatchOption, slice_get}
 use Rattle.std.specs.List.{Any, Contains}
-use Rattle.encode.proofs.NumberLemmas.{of_atom}
+use Rattle.index.proofs.ProviderLemmas.{of_atom}
 use Rattle.index.specs.Providers.{IsProviderAt}
 use Rattle.rules.specs.Package.{Pkg}
 use Rattle.plainness.proofs.PackageLemmas.{IsOtherMatch, found_at}
