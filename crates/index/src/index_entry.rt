@@ -1,77 +1,74 @@
-// A package of an index, whose relation fields are read when they are asked for.
+// A package of an index, whose texts are read when they are asked for.
 
 ghost use Rattle.std.specs.Prelude.{◌≡◌, IfOk};
-ghost use Rattle.relation.specs.PkgValues.{spelled};
+ghost use Rattle.index.specs.Row.{IsRow, package_at};
 
 use crate::index_package::IndexPackage;
-use relation::{Pkg, PkgValues, Provided, Version};
+use crate::row::{KeptTexts, Row, name_of, values_of};
+use relation::{Pkg, Provided, Version};
 use rules::IndexPlace;
 use std::alloc::{AllocError, Global};
 use std::marker::Model;
 
-/// A package of an index: its relation fields have been tested, and `pkg` reads them each time that it is called, `provides`
-/// Provides alone. It borrows the text of the index.
+/// A package of an index: a handle of its row and of the texts that the index keeps. Its relation fields have been tested, and
+/// `pkg` reads them each time that it is called, `provides` Provides alone.
 #[derive(Drop)]
 pub struct IndexEntry<'a> {
-    values: PkgValues<'a>,
-    arch: &'a [u8],
-    is_essential: bool,
-    place: IndexPlace,
+    kept: &'a KeptTexts,
+    row: &'a Row,
 }
 
 impl<'a> Model for IndexEntry<'a> {
-    ghost use Rattle.relation.specs.PkgValues.{spelled};
+    ghost use Rattle.index.specs.Row.{IsRow, package_at};
     ghost use Rattle.rules.specs.Step.{IndexPackage as IndexPackageValue};
 
     ghost Value = { IndexPackageValue };
 
-    ghost view = { λ e. record { pkg = spelled e.arch.now e.values; is_essential = e.is_essential; place = e.place } };
+    ghost view = { λ e. package_at e.kept.now.arch.items e.kept.now.number e.kept.now.arena.items e.row.now };
+
+    ghost invariant = { λ e. IsRow e.kept.now.arena.items e.row.now };
 }
 
 impl<'a> IndexEntry<'a> {
-    // The package of these values for this configured architecture, marked essential or not, of the stanza at the place.
-    pub(crate) fn new(
-        values: PkgValues<'a>,
-        arch: &'a [u8],
-        is_essential: bool,
-        place: IndexPlace,
-    ) -> IndexEntry<'a>
-        ensures { result ≡ record { pkg = spelled arch.now values.entry; is_essential = is_essential; place = place } }
+    // The package of the row in these texts.
+    pub(crate) fn new(kept: &'a KeptTexts, row: &'a Row) -> IndexEntry<'a>
+        requires { IsRow kept.now.arena.items row.now }
+        ensures { result ≡ package_at kept.now.arch.items kept.now.number kept.now.arena.items row.now }
     {
-        IndexEntry {
-            values,
-            arch,
-            is_essential,
-            place,
-        }
+        IndexEntry { kept, row }
     }
 
     /// The name of the package.
     pub fn name(&self) -> &'a [u8]
         ensures { result.now ≡ self.now.pkg.name }
     {
-        self.values.name()
+        name_of(self.kept.arena.as_slice(), self.row)
     }
 
-    /// The version of the package.
-    pub fn version(&self) -> &Version<'a>
-        ensures { result.now ≡ self.now.pkg.version }
+    /// The version of the package, parsed. Linear in its text.
+    pub fn version(&self) -> Version<'a>
+        ensures { result ≡ self.now.pkg.version }
     {
-        self.values.version()
+        values_of(self.kept.arena.as_slice(), self.row)
+            .version()
+            .again()
     }
 
     /// Whether the stanza marks the package essential.
     pub fn is_essential(&self) -> bool
         ensures { result ≡ self.now.is_essential }
     {
-        self.is_essential
+        self.row.is_essential
     }
 
     /// The place of its stanza in the indices.
     pub fn place(&self) -> IndexPlace
         ensures { result ≡ self.now.place }
     {
-        self.place
+        IndexPlace {
+            index: self.kept.number,
+            stanza: self.row.stanza as usize,
+        }
     }
 
     /// What the package provides: the items that its Provides has (Policy 7.5). Memory alone can fail, and none is taken where
@@ -79,14 +76,14 @@ impl<'a> IndexEntry<'a> {
     pub fn provides(&self, alloc: Global) -> Result<Vec<Provided<'a>>, AllocError>
         ensures { IfOk result (λ items. items.items ≡ self.now.pkg.relations.provides) }
     {
-        self.values.provides(alloc, self.arch)
+        values_of(self.kept.arena.as_slice(), self.row).provides(alloc, self.kept.arch.as_slice())
     }
 
     /// The package, with its relations. Memory alone can fail. Linear in the relation fields.
     pub fn pkg(&self, alloc: Global) -> Result<Pkg<'a>, AllocError>
         ensures { IfOk result (λ pkg. pkg ≡ self.now.pkg) }
     {
-        self.values.pkg(alloc, self.arch)
+        values_of(self.kept.arena.as_slice(), self.row).pkg(alloc, self.kept.arch.as_slice())
     }
 
     /// The package as `pkg` reads it, with its mark and its place. Memory alone can fail. Linear in the relation fields.

@@ -4,10 +4,10 @@ ghost use Rattle.std.specs.Prelude.{◌≡◌, IfOk, MatchResult, None, Ok, Some
 ghost use Rattle.index.specs.Index.{indexed_at};
 ghost use Rattle.relation.specs.PkgFields.{fields_of};
 ghost use Rattle.relation.specs.PkgText.{pkg_fault, pkg_of, read_pkg};
+ghost use Rattle.relation.specs.PkgValues.{spelled};
 ghost use Rattle.relation.specs.PackageStanza.{is_essential as marked_essential, read_stanza};
 
-use crate::index_entry::IndexEntry;
-use relation::{Pkg, PkgFault, PkgFields, Version};
+use relation::{Pkg, PkgFault, PkgFields, PkgValues, Version};
 use rules::IndexPlace;
 use stanza::Stanza;
 use std::alloc::{AllocError, Global};
@@ -17,8 +17,10 @@ use std::marker::Model;
 /// itself. Its relation fields have been tested.
 #[derive(Drop)]
 pub struct IndexStanza<'a> {
-    entry: IndexEntry<'a>,
+    values: PkgValues<'a>,
     arch: &'a [u8],
+    is_essential: bool,
+    place: IndexPlace,
     stanza: Stanza<'a>,
 }
 
@@ -28,12 +30,16 @@ impl<'a> Model for IndexStanza<'a> {
     ghost use Rattle.relation.specs.PkgText.{pkg_fault, pkg_of};
     ghost use Rattle.rules.specs.FileRecord.{IndexStanza as IndexStanzaValue};
     ghost use Rattle.relation.specs.PackageStanza.{read_stanza};
+    ghost use Rattle.relation.specs.PkgValues.{spelled};
 
     ghost Value = { IndexStanzaValue };
 
-    ghost view = { λ s. record { listed = s.entry; fields = (read_stanza s.stanza).fields } };
+    ghost view = { λ s. record {
+      listed = record { pkg = spelled s.arch.now s.values; is_essential = s.is_essential; place = s.place };
+      fields = (read_stanza s.stanza).fields;
+    } };
 
-    ghost invariant = { λ s. (pkg_fault (fields_of s.stanza) ≡ None) × (s.entry.pkg ≡ pkg_of s.arch.now (fields_of s.stanza)) };
+    ghost invariant = { λ s. (pkg_fault (fields_of s.stanza) ≡ None) × (spelled s.arch.now s.values ≡ pkg_of s.arch.now (fields_of s.stanza)) };
 }
 
 impl<'a> IndexStanza<'a> {
@@ -54,32 +60,26 @@ impl<'a> IndexStanza<'a> {
     {
         let values = fields.values()?;
         Ok(IndexStanza {
-            entry: IndexEntry::new(values, arch, is_essential, place),
+            values,
             arch,
+            is_essential,
+            place,
             stanza,
         })
-    }
-
-    /// The package, as an index has it.
-    pub(crate) fn into_entry(self) -> IndexEntry<'a>
-        ensures { result ≡ self.entry.listed }
-    {
-        let IndexStanza { entry, .. } = self;
-        entry
     }
 
     /// The name of the package.
     pub fn name(&self) -> &'a [u8]
         ensures { result.now ≡ self.now.listed.pkg.name }
     {
-        self.entry.name()
+        self.values.name()
     }
 
     /// The version of the package.
     pub fn version(&self) -> &Version<'a>
         ensures { result.now ≡ self.now.listed.pkg.version }
     {
-        self.entry.version()
+        self.values.version()
     }
 
     /// The stanza, and the configured architecture for which it was read: its package is read from these alone.
@@ -94,20 +94,20 @@ impl<'a> IndexStanza<'a> {
     pub fn is_essential(&self) -> bool
         ensures { result ≡ self.now.listed.is_essential }
     {
-        self.entry.is_essential()
+        self.is_essential
     }
 
     /// The place of the stanza in the indices.
     pub fn place(&self) -> IndexPlace
         ensures { result ≡ self.now.listed.place }
     {
-        self.entry.place()
+        self.place
     }
 
     /// The package, with its relations. Memory alone can fail. Linear in the relation fields.
     pub fn pkg(&self, alloc: Global) -> Result<Pkg<'a>, AllocError>
         ensures { IfOk result (λ pkg. pkg ≡ self.now.listed.pkg) }
     {
-        self.entry.pkg(alloc)
+        self.values.pkg(alloc, self.arch)
     }
 }

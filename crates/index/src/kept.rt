@@ -4,7 +4,7 @@ ghost use Rattle.index.specs.Streamed.{IsStreamFault, read_stream};
 ghost use Rattle.index.specs.declared.stream_error.StreamError.TheVariants as error;
 
 use crate::index_entry::IndexEntry;
-use crate::row::entries_of;
+use crate::row::{KeptTexts, Row, entries_of};
 use crate::rows::KeptRows;
 use crate::stream::read_rows;
 use crate::stream_error::StreamError;
@@ -16,20 +16,23 @@ use std::marker::Model;
 /// And how many stanzas were skipped, since they are of another architecture.
 #[derive(Drop)]
 pub struct KeptIndex {
-    arch: Vec<u8>,
-    number: usize,
-    kept: KeptRows,
+    texts: KeptTexts,
+    rows: Vec<Row>,
+    skipped: usize,
 }
 
 impl Model for KeptIndex {
     ghost use Rattle.index.specs.Index.{ReadStanzas};
-    ghost use Rattle.index.specs.Row.{AreRows, stanzas_at};
+    ghost use Rattle.index.specs.Row.{AreRows, packages_at};
 
     ghost Value = { ReadStanzas };
 
-    ghost view = { λ k. stanzas_at k.arch.items k.number k.kept };
+    ghost view = { λ k. record {
+      listed = packages_at k.texts.arch.items k.texts.number k.texts.arena.items k.rows.items;
+      skipped = k.skipped;
+    } };
 
-    ghost invariant = { λ k. AreRows k.kept.arena.items k.kept.rows.items };
+    ghost invariant = { λ k. AreRows k.texts.arena.items k.rows.items };
 }
 
 // The bytes, copied.
@@ -42,9 +45,14 @@ fn copied(alloc: Global, bytes: &[u8]) -> Result<Vec<u8>, AllocError>
 }
 
 impl KeptIndex {
-    /// The index that the text of the source is for the configured architecture `arch`, as `Index::read` has it but for one
-    /// thing: a text that is too long is refused where that shows, behind the refusals of the stanzas in front. It owns what
-    /// it keeps. No more of the text is held at a time than a stanza and a block behind it. Linear in the text.
+    /// The index that the text of the source is for the configured architecture `arch`. A stanza counts where its Architecture
+    /// is `all` or `arch`, byte for byte; the others are skipped and counted. `number` is that of the index, counted from 1: a
+    /// package is at the place of this index and of its stanza. `before` is the number of packages of the earlier indices:
+    /// over all of them four million are read.
+    /// The first refusal is answered, of the first stanza that has one: of its lines, then of Package, then of Architecture,
+    /// and of a stanza that counts then of Version and of the relation fields, and last that it is a package too many. A text
+    /// that is too long is refused where that shows, behind the refusals of the stanzas in front. It owns what it keeps. No
+    /// more of the text is held at a time than a stanza and a block behind it. Linear in the text.
     pub fn read_from<S: Source>(
         alloc: Global,
         source: &mut S,
@@ -60,11 +68,20 @@ impl KeptIndex {
         ensures failed { IfErr result (λ e. e ≡ error.Read → S.faults source.new ≡ min (S.faults source.old + 1) (2 ^ 64 - 1)) }
     {
         let own = copied(alloc, arch)?;
-        let kept = read_rows(alloc, source, arch, number, before)?;
-        Ok(KeptIndex {
+        let KeptRows {
+            arena,
+            rows,
+            skipped,
+        } = read_rows(alloc, source, arch, number, before)?;
+        let texts = KeptTexts {
             arch: own,
             number,
-            kept,
+            arena,
+        };
+        Ok(KeptIndex {
+            texts,
+            rows,
+            skipped,
         })
     }
 
@@ -72,26 +89,20 @@ impl KeptIndex {
     pub(crate) fn entries(&self, alloc: Global) -> Result<Vec<IndexEntry<'_>>, AllocError>
         ensures { IfOk result (λ entries. entries.items ≡ self.now.listed) }
     {
-        entries_of(
-            alloc,
-            self.arch.as_slice(),
-            self.number,
-            self.kept.arena.as_slice(),
-            self.kept.rows.as_slice(),
-        )
+        entries_of(alloc, &self.texts, self.rows.as_slice())
     }
 
     /// How many packages there are.
     pub fn count(&self) -> usize
         ensures { result ≡ length self.now.listed }
     {
-        self.kept.rows.len()
+        self.rows.len()
     }
 
     /// How many stanzas are of another architecture.
     pub fn skipped(&self) -> usize
         ensures { result ≡ self.now.skipped }
     {
-        self.kept.skipped
+        self.skipped
     }
 }

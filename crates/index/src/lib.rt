@@ -1,6 +1,6 @@
 //! What an index of packages has (Debian Policy 5.3, "Packages"): the stanzas that count for an architecture, with
 //! their packages; and the sources text, which names the indices. It stands on `stanza` and `relation`.
-//! The main calls are `read_sources` and `Index::read`.
+//! The main calls are `read_sources` and `KeptIndex::read_from`.
 #![tactic(auto)]
 
 mod alone;
@@ -16,7 +16,6 @@ mod read;
 mod row;
 mod rows;
 mod sources;
-mod stanzas;
 mod stream;
 mod stream_error;
 mod walk;

@@ -1,12 +1,21 @@
 //! A row: where in an arena of bytes the texts of a package stand.
 ghost use Rattle.std.specs.Prelude.{◌≡◌, ◌++◌, ◌+◌, IfOk, OnOk, drop, length, take};
 ghost use Rattle.relation.specs.PkgTexts.{values_in};
-ghost use Rattle.index.specs.Row.{AreRows, IsRow, bytes_at, joined_text, package_at, packages_at, values_at, values_of};
+ghost use Rattle.index.specs.Row.{AreRows, IsRow, bytes_at, joined_text, packages_at, values_at};
+ghost use Rattle.index.specs.Row as Spec;
 
 use crate::index_entry::IndexEntry;
 use relation::{PkgTexts, PkgValues};
-use rules::IndexPlace;
 use std::alloc::{AllocError, Global};
+
+/// The texts that an index keeps of its packages, one behind another, and for which architecture and as the index of which
+/// number it was read.
+#[derive(Drop)]
+pub struct KeptTexts {
+    pub(crate) arch: Vec<u8>,
+    pub(crate) number: usize,
+    pub(crate) arena: Vec<u8>,
+}
 
 /// Where the texts of a package stand, one behind another: at a place, so many bytes, and how long each is but the last. And
 /// whether the package is marked essential, and the number of its stanza.
@@ -21,7 +30,7 @@ pub struct Row {
     pub(crate) conflicts: u32,
     pub(crate) breaks: u32,
     pub(crate) is_essential: bool,
-    pub(crate) stanza: usize,
+    pub(crate) stanza: u32,
 }
 
 // A length in 32 bits; a longer one is answered as want of memory.
@@ -52,7 +61,7 @@ fn bytes_of<'a>(arena: &'a [u8], row: &Row) -> &'a [u8]
 
 // The texts that these bytes of the row are.
 fn texts_of<'a>(row: &Row, bytes: &'a [u8]) -> PkgTexts<'a>
-    ensures { values_in result ≡ values_of row.now bytes.now }
+    ensures { values_in result ≡ Spec.values_of row.now bytes.now }
 {
     let (name, rest) = cut(bytes, row.name);
     let (version, rest) = cut(rest, row.version);
@@ -71,33 +80,33 @@ fn texts_of<'a>(row: &Row, bytes: &'a [u8]) -> PkgTexts<'a>
     }
 }
 
-/// The package of the row, for this configured architecture, in the index of this number.
-pub fn entry_of<'a>(arch: &'a [u8], number: usize, arena: &'a [u8], row: &Row) -> IndexEntry<'a>
-    requires { IsRow arena.now row.now }
-    ensures { result ≡ package_at arch.now number arena.now row.now }
+/// The name of the package of the row.
+pub fn name_of<'a>(arena: &'a [u8], row: &Row) -> &'a [u8]
+    ensures { result.now ≡ (values_at arena.now row.now).name }
 {
-    let texts = texts_of(row, bytes_of(arena, row));
-    let place = IndexPlace {
-        index: number,
-        stanza: row.stanza,
-    };
-    IndexEntry::new(texts.values(), arch, row.is_essential, place)
+    cut(bytes_of(arena, row), row.name).0
 }
 
-/// The packages of the rows, in their order.
+/// The values of the package of the row.
+pub fn values_of<'a>(arena: &'a [u8], row: &Row) -> PkgValues<'a>
+    requires { IsRow arena.now row.now }
+    ensures { result ≡ values_at arena.now row.now }
+{
+    texts_of(row, bytes_of(arena, row)).values()
+}
+
+/// The packages of the rows, in their order. Memory alone can fail.
 pub fn entries_of<'a>(
     alloc: Global,
-    arch: &'a [u8],
-    number: usize,
-    arena: &'a [u8],
-    rows: &[Row],
+    kept: &'a KeptTexts,
+    rows: &'a [Row],
 ) -> Result<Vec<IndexEntry<'a>>, AllocError>
-    requires { AreRows arena.now rows.now }
-    ensures { IfOk result (λ entries. entries.items ≡ packages_at arch.now number arena.now rows.now) }
+    requires { AreRows kept.now.arena.items rows.now }
+    ensures { IfOk result (λ entries. entries.items ≡ packages_at kept.now.arch.items kept.now.number kept.now.arena.items rows.now) }
 {
     let mut entries = Vec::new(alloc);
     for row in rows {
-        entries.push(entry_of(arch, number, arena, row))?;
+        entries.push(IndexEntry::new(kept, row))?;
     }
     Ok(entries)
 }
@@ -142,6 +151,6 @@ pub fn keep_row(
         conflicts: narrow(texts.conflicts.len())?,
         breaks: narrow(texts.breaks.len())?,
         is_essential,
-        stanza,
+        stanza: narrow(stanza)?,
     })
 }

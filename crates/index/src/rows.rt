@@ -10,12 +10,18 @@ ghost use Rattle.index.specs.declared.error.IndexFault.{IndexFault as Fault};
 
 use crate::error::{IndexError, IndexFault};
 use crate::row::{Row, keep_row};
-use crate::stanzas::is_full;
 use crate::walk::Found;
 use relation::PkgValues;
-use rules::IndexPlace;
+use rules::{IndexPlace, PACKAGES};
 use stanza::ReadStanza;
 use std::alloc::{AllocError, Global};
+
+// Whether this many packages, of earlier indices and of this one, are as many as are read.
+fn is_full(before: usize, count: usize) -> bool
+    ensures { result ≡ nat_le MOST (before + count) }
+{
+    before.saturating_add(count) >= PACKAGES
+}
 
 /// The texts of the packages so far, a row for each, and how many stanzas were skipped.
 #[derive(Drop)]
@@ -74,6 +80,7 @@ impl KeptRows {
         self.rows.push(row)?;
         Ok(())
     }
+
     /// Adds what the stanza at the place gives for the architecture, behind so many packages of earlier indices.
     pub(crate) fn add(
         &mut self,
