@@ -14,3 +14,7 @@ pub mod ReadSpelled
 pub mod AtomBytes
 pub mod AtomLeads
 pub mod SpelledRead
+pub mod QuickNumbers
+pub mod QuickShape
+pub mod QuickVersion
+pub mod QuickAtoms
