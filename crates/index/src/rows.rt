@@ -11,7 +11,7 @@ ghost use Rattle.index.specs.declared.error.IndexFault.{IndexFault as Fault};
 use crate::error::{IndexError, IndexFault};
 use crate::row::{Row, keep_row};
 use crate::walk::Found;
-use relation::PkgValues;
+use relation::{Acceptor, PkgValues};
 use rules::{IndexPlace, PACKAGES};
 use stanza::ReadStanza;
 use std::alloc::{AllocError, Global};
@@ -88,6 +88,7 @@ impl KeptRows {
         arch: &[u8],
         place: IndexPlace,
         before: usize,
+        acceptor: &Acceptor,
     ) -> Result<(), IndexError>
         requires { AreRows self.old.arena.items self.old.rows.items }
         ensures rows { OnOk result (AreRows self.new.arena.items self.new.rows.items) }
@@ -99,7 +100,7 @@ impl KeptRows {
             (Spec.entry_then (before + length self.old.rows.items) (Spec.read_entry arch.now place stanza.now) later)) }
     {
         let found = Found::in_read(stanza);
-        match found.values(arch, stanza.line())? {
+        match found.values(arch, stanza.line(), acceptor)? {
             None => {
                 self.skip()?;
                 Ok(())

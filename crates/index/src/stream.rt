@@ -7,6 +7,7 @@ ghost use Rattle.index.specs.declared.stream_error.StreamError.TheVariants as er
 
 use crate::rows::KeptRows;
 use crate::stream_error::StreamError;
+use relation::Acceptor;
 use rules::{IndexPlace, TEXT_BYTES};
 use stanza::{Reader, Source};
 use std::alloc::{AllocError, Global};
@@ -46,11 +47,12 @@ pub fn read_rows<S: Source>(
         index: number,
         stanza: 1,
     };
+    let acceptor = Acceptor::new(alloc)?;
     let mut reader = Reader::new(alloc, TEXT_BYTES)?;
     loop {
         reader.advance(source)?;
         match reader.stanza() {
-            Some(stanza) => kept.add(&stanza, arch, place, before)?,
+            Some(stanza) => kept.add(&stanza, arch, place, before, &acceptor)?,
             None => return Ok(kept),
         }
         place = next(place)?;

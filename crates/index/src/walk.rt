@@ -7,7 +7,7 @@ ghost use Rattle.index.specs.Streamed.{read_values, unless_refused};
 ghost use Rattle.index.specs.Walk.{found_in, found_of, value_if_named, with_field};
 
 use crate::error::IndexFault;
-use relation::{PkgFields, PkgValues, counts_for, marks_essential};
+use relation::{Acceptor, PkgFields, PkgValues, counts_for, marks_essential};
 use stanza::{Field, ReadStanza, Stanza};
 use std::marker::Model;
 
@@ -40,12 +40,15 @@ fn architecture_with<'a>(found: Option<&'a [u8]>, field: &Field<'a>) -> Option<&
 }
 
 // The values of the fields, or their first refusal.
-fn counted_values<'a>(fields: &PkgFields<'a>) -> Result<Option<PkgValues<'a>>, IndexFault>
+fn counted_values<'a>(
+    fields: &PkgFields<'a>,
+    acceptor: &Acceptor,
+) -> Result<Option<PkgValues<'a>>, IndexFault>
     ensures { MatchResult result
         (λ values. unless_refused (pkg_fault fields.now) (values_of fields.now) ≡ Ok values)
         (λ fault. unless_refused (pkg_fault fields.now) (values_of fields.now) ≡ Err fault) }
 {
-    match fields.values() {
+    match fields.values_by(acceptor) {
         Ok(values) => Ok(Some(values)),
         Err(fault) => Err(IndexFault::Pkg(fault)),
     }
@@ -96,6 +99,7 @@ impl<'a> Found<'a> {
         &self,
         arch: &[u8],
         line: usize,
+        acceptor: &Acceptor,
     ) -> Result<Option<PkgValues<'a>>, IndexFault>
         ensures { MatchResult result
             (λ values. read_values arch.now line self.now ≡ Ok values)
@@ -108,7 +112,7 @@ impl<'a> Found<'a> {
             None => Err(IndexFault::MissingArchitecture(line)),
             Some(value) => {
                 if counts_for(arch, value) {
-                    counted_values(&self.pkg)
+                    counted_values(&self.pkg, acceptor)
                 } else {
                     Ok(None)
                 }

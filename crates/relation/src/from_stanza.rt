@@ -5,6 +5,7 @@ ghost use Rattle.rules.specs.Name.{is_name};
 ghost use Rattle.stanza.specs.Field.{same_name};
 ghost use Rattle.relation.specs.PkgText as Spec;
 ghost use Rattle.relation.specs.PkgText.{IsPkgFault, read_fields, read_pkg, read_relations, relations_fault, value_in};
+ghost use Rattle.relation_text.specs.Refusal.{fault_of};
 ghost use Rattle.relation_text.specs.Spelling.{atoms_between, clauses_of, provided_items_of};
 ghost use Rattle.relation_text.specs.declared.cut.Separator.TheVariants.{Comma};
 ghost use Rattle.relation_text.specs.declared.shape.Form.TheVariants.{Atoms, Clauses, Provides};
@@ -16,7 +17,7 @@ use crate::parse::{atoms_between, clauses_of, provided_items_of};
 use crate::pkg::{Pkg, Relations};
 use crate::provided::Provided;
 use debversion::Version;
-use relation_text::{Form, RelationFault, Separator, check, name_len};
+use relation_text::{Acceptor, Form, RelationFault, Separator, check, name_len};
 use rules::is_name;
 use stanza::{Field, Stanza};
 use std::alloc::{AllocError, Global};
@@ -81,12 +82,26 @@ fn on_line(line: usize, fault: RelationFault) -> PkgFault
     }
 }
 
-fn check_field(form: Form, field: &Option<Field<'_>>) -> Result<(), PkgFault>
+// Tests a value, by the tables where there are some.
+fn check_value(tables: Option<&Acceptor>, form: Form, value: &[u8]) -> Result<(), RelationFault>
+    ensures { MatchResult result (λ _. fault_of form value.now ≡ None) (λ fault. fault_of form value.now ≡ Some fault) }
+{
+    match tables {
+        None => check(form, value),
+        Some(acceptor) => acceptor.check_by(form, value),
+    }
+}
+
+fn check_field(
+    tables: Option<&Acceptor>,
+    form: Form,
+    field: &Option<Field<'_>>,
+) -> Result<(), PkgFault>
     ensures { MatchResult result (λ _. Spec.relation_fault_in form field.now ≡ None) (λ fault. Spec.relation_fault_in form field.now ≡ Some fault) }
 {
     match field {
         None => Ok(()),
-        Some(field) => match check(form, field.value()) {
+        Some(field) => match check_value(tables, form, field.value()) {
             Ok(()) => Ok(()),
             Err(fault) => Err(on_line(field.line(), fault)),
         },
@@ -113,17 +128,24 @@ impl<'a> PkgFields<'a> {
         version_in(self.line, &self.version)
     }
 
+    // Tests the relation fields in the order Pre-Depends, Depends, Conflicts, Breaks, Provides.
+    #[tactic(auto, unfolding(crate::specs::PkgText::relations_fault))]
+    pub(crate) fn check_relations_by(&self, tables: Option<&Acceptor>) -> Result<(), PkgFault>
+        ensures { MatchResult result (λ _. relations_fault self.now ≡ None) (λ fault. relations_fault self.now ≡ Some fault) }
+    {
+        check_field(tables, Form::Clauses, &self.pre_depends)?;
+        check_field(tables, Form::Clauses, &self.depends)?;
+        check_field(tables, Form::Atoms, &self.conflicts)?;
+        check_field(tables, Form::Atoms, &self.breaks)?;
+        check_field(tables, Form::Provides, &self.provides)
+    }
+
     /// Tests the relation fields in the order Pre-Depends, Depends, Conflicts, Breaks, Provides, and takes no
     /// memory. Linear in their values.
-    #[tactic(auto, unfolding(crate::specs::PkgText::relations_fault))]
     pub fn check_relations(&self) -> Result<(), PkgFault>
         ensures { MatchResult result (λ _. relations_fault self.now ≡ None) (λ fault. relations_fault self.now ≡ Some fault) }
     {
-        check_field(Form::Clauses, &self.pre_depends)?;
-        check_field(Form::Clauses, &self.depends)?;
-        check_field(Form::Atoms, &self.conflicts)?;
-        check_field(Form::Atoms, &self.breaks)?;
-        check_field(Form::Provides, &self.provides)
+        self.check_relations_by(None)
     }
 }
 

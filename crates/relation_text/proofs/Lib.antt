@@ -15,3 +15,7 @@ pub mod AtomBytes
 pub mod AtomLeads
 pub mod SpelledRead
 mod GrammarRows
+pub mod QuickNumbers
+pub mod QuickShape
+pub mod QuickVersion
+pub mod QuickAtoms

@@ -19,11 +19,11 @@ use Rattle.relation_text.proofs.AtomValue.{white_fails}
 
 -- A comma stands behind a place where a value may end
 
-record BehindComma (form : Form) (place : Place) (more : List ℕ) : Type 0 where
-  before : is_end place ≡ true
-  behind : Ends form Between more
+pub record BehindComma (form : Form) (place : Place) (more : List ℕ) : Type 0 where
+  pub before : is_end place ≡ true
+  pub behind : Ends form Between more
 
-behind_comma : (form : Form) (place : Place) (more : List ℕ) → Ends form (next form place 44) more → BehindComma form place more
+pub behind_comma : (form : Form) (place : Place) (more : List ℕ) → Ends form (next form place 44) more → BehindComma form place more
 behind_comma form Between more e = record { before = refl; behind = e }
 behind_comma form Alternative more e = absurd (no_end form Dead more refl e)
 behind_comma form InName more e = record { before = refl; behind = e }

@@ -1,6 +1,6 @@
 -- Bytes at the front that pass a test, and where a text stops passing it.
-use Rattle.std.proofs.Common.{◌≡◌, ℕ, Bool, true, false, List, [], ◌∷◌, ◌++◌, refl, sym, ap, ◌∙◌, one-add, inl, inr, ◌==◌}
-use Rattle.std.proofs.lemmas.Bool.{and_parts, both_ways, cases_Bool, eqb-true, or_from}
+use Rattle.std.proofs.Common.{◌≡◌, ℕ, Bool, true, false, List, [], ◌∷◌, ◌++◌, refl, sym, ap, ◌∙◌, one-add, inl, inr, subst, ◌==◌}
+use Rattle.std.proofs.lemmas.Bool.{and_from, and_parts, both_ways, cases_Bool, eqb-true, or_from}
 use Rattle.std.proofs.lemmas.List.Sums.{take_while-cons}
 use Rattle.std.specs.List.{list_all, list_any, take_while}
 use Rattle.relation_text.specs.Spelling.{after_run}
@@ -48,3 +48,40 @@ run_free test other excludes [] all = refl
 run_free test other excludes (b ∷ run) all =
     let both = and_parts (test b) (list_all test run) all in
     or_from (other b) (list_any other run) (excludes b both.0) (run_free test other excludes run both.1)
+
+-- A text cut behind the bytes at its front that pass a test
+
+pub run_taken : (test : ℕ → Bool) (b : ℕ) (rest : List ℕ) → test b ≡ true → take_while test (b ∷ rest) ≡ b ∷ take_while test rest
+run_taken test b rest passes = take_while-cons test b rest ∙ rw passes refl
+
+pub run_none : (test : ℕ → Bool) (b : ℕ) (rest : List ℕ) → test b ≡ false → take_while test (b ∷ rest) ≡ []
+run_none test b rest fails = take_while-cons test b rest ∙ rw fails refl
+
+pub run_left : (test : ℕ → Bool) (b : ℕ) (rest : List ℕ) → test b ≡ true → after_run test (b ∷ rest) ≡ after_run test rest
+run_left test b rest passes = rw (passes, one-add) refl
+
+pub run_stays : (test : ℕ → Bool) (b : ℕ) (rest : List ℕ) → test b ≡ false → after_run test (b ∷ rest) ≡ b ∷ rest
+run_stays test b rest fails = rw fails refl
+
+pub run_front : (test : ℕ → Bool) (text : List ℕ) → text ≡ take_while test text ++ after_run test text
+run_front test [] = refl
+run_front test (b ∷ rest) = elim (cases_Bool (test b)) [
+  | inl passes ↦
+      ap (λ (bytes : List ℕ). b ∷ bytes) (run_front test rest)
+      ∙ sym (λ i. run_taken test b rest passes i ++ run_left test b rest passes i)
+  | inr fails ↦ sym (λ i. run_none test b rest fails i ++ run_stays test b rest fails i)
+]
+
+pub run_passes : (test : ℕ → Bool) (text : List ℕ) → list_all test (take_while test text) ≡ true
+run_passes test [] = refl
+run_passes test (b ∷ rest) = elim (cases_Bool (test b)) [
+  | inl passes ↦ ap (list_all test) (run_taken test b rest passes) ∙ and_from _ _ passes (run_passes test rest)
+  | inr fails ↦ ap (list_all test) (run_none test b rest fails)
+]
+
+pub run_stops : (test : ℕ → Bool) (text : List ℕ) → Stops test (after_run test text)
+run_stops test [] = tt
+run_stops test (b ∷ rest) = elim (cases_Bool (test b)) [
+  | inl passes ↦ subst (Stops test) (sym (run_left test b rest passes)) (run_stops test rest)
+  | inr fails ↦ subst (Stops test) (sym (run_stays test b rest fails)) fails
+]

@@ -3,6 +3,7 @@ pub mod Cut
 pub mod Grammar
 pub mod Laws
 pub mod Place
+pub mod Quick
 pub mod Refusal
 pub mod Shape
 pub mod Spelling

@@ -4,12 +4,15 @@
 //! in `relation`.
 #![tactic(auto)]
 
+mod acceptor;
 mod cut;
 mod error;
 mod laws;
+mod quick;
 mod refusal;
 mod shape;
 
+pub use acceptor::Acceptor;
 pub use cut::{
     Separator, cut_part, inside_of, is_blank, is_foreign, name_len, split_name, split_operator,
     split_qualifier, version_front,

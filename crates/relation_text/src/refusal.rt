@@ -22,7 +22,7 @@ pub struct Refusal {
     pub fault: RelationFault,
 }
 
-const MOST_ATOMS: usize = 65535;
+pub const MOST_ATOMS: usize = 65535;
 
 fn stop_at(place: Place, offset: usize) -> Refusal
     ensures { result ≡ Spec.stop_at place offset }

@@ -1,9 +1,9 @@
 use Rattle.relation.proofs.GoodFields.{good_relations}
-use Rattle.relation.proofs.fields.PkgFields.values.Goals as goal
+use Rattle.relation.proofs.fields.PkgFields.tested_values.Goals as goal
 
 pub invariant_of-result : goal.invariant_of-result
 invariant_of-result c =
-    let good = good_relations c.args.self.now c.in_ok-check_relations.ensures in
+    let good = good_relations c.args.self.now c.in_ok-check_relations_by.ensures in
     record {
       pre_depends = rw c.value_in.ensures good.pre_depends;
       depends = rw c.value_in-2.ensures good.depends;
