@@ -34,7 +34,7 @@ AreLines-onto b (line ∷ lines) other are =
           let first : lines_of (line ++ rest) ≡ line ∷ lines_of rest = whole rest ∙ ap (λ x. x ++ lines_of rest) are.0 in
           rw (alone) (rw (other, first) refl)
 
-AreLines-lines_of : (text : List ℕ) → AreLines (lines_of text)
+pub AreLines-lines_of : (text : List ℕ) → AreLines (lines_of text)
 unfolding AreLines
 AreLines-lines_of [] = tt
 AreLines-lines_of (b ∷ bs) = elim (cases_Bool (eqb b 10)) [

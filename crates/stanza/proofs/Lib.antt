@@ -13,5 +13,6 @@ pub mod KnownLemmas
 pub mod StreamLemmas
 pub mod AheadLemmas
 pub mod StartsLemmas
+pub mod WithinLemmas
 pub mod HeldLemmas
 mod FileRows

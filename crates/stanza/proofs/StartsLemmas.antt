@@ -1,5 +1,5 @@
 -- Where fields begin: the names and the fields that are found there.
-use Rattle.std.proofs.Common.{◌≡◌, ℕ, suc, zero, ◌+◌, ◌<◌, Bool, true, false, List, [], ◌∷◌, ◌++◌, length, take, map, refl, sym, ap, subst, ◌∙◌, arith, append_assoc, add-zero, eqb, Option, None, Some, inl, inr}
+use Rattle.std.proofs.Common.{◌≡◌, ℕ, suc, zero, ◌+◌, Bool, true, false, List, [], ◌∷◌, ◌++◌, length, take, map, refl, sym, ap, subst, ◌∙◌, arith, append_assoc, add-zero, eqb, Option, None, Some, inl, inr}
 use Rattle.std.specs.Borrow.{Bor}
 use Rattle.stanza.specs.Fault.{FindsName, IsNameOn}
 use Rattle.std.proofs.lemmas.Bool.{cases_Bool}
@@ -8,17 +8,17 @@ use Rattle.std.specs.List.{concat, onto_first}
 use Rattle.stanza.specs.declared.form.Form.{Form}
 use Rattle.stanza.specs.declared.starts.Start.{Start}
 use Rattle.stanza.specs.Line.{lines_of, begins_field}
-use Rattle.stanza.specs.Field.{FieldText, name_of, names_of, field_of, fields_of, continued}
-use Rattle.stanza.specs.Starts.{starts_of, name_at, field_at, first_field, IsWithin, AreWithin}
+use Rattle.stanza.specs.Field.{name_of, names_of, field_of, fields_of, continued}
+use Rattle.stanza.specs.Starts.{starts_of, name_at, field_at, first_field}
 use Rattle.stanza.proofs.LineLemmas.{concat-lines_of, lines_of-head}
 
-take-again : (k : ℕ) (l x : List ℕ) → take (length (take k l)) (l ++ x) ≡ take k l
+pub take-again : (k : ℕ) (l x : List ℕ) → take (length (take k l)) (l ++ x) ≡ take k l
 take-again zero l x = refl
 take-again (suc k) [] x = refl
 take-again (suc k) (b ∷ l) x = ap (λ r. b ∷ r) (take-again k l x)
 
 -- the start of a line's field, behind these bytes
-abbrev start_behind : List ℕ → ℕ → List ℕ → Start
+abbrev pub start_behind : List ℕ → ℕ → List ℕ → Start
 start_behind front n line = record { at = length front; name_len = length (name_of line); line = n }
 
 at-behind : (front line : List ℕ) (lines : List (List ℕ)) (n : ℕ) → name_at (front ++ concat (line ∷ lines)) (start_behind front n line) ≡ name_of line
@@ -128,37 +128,3 @@ none-found form opened number line found is finds = (subst (FindsName form opene
 
 pub name-found : (form : Form) (opened : Bool) (number : ℕ) (line : List ℕ) (name : Bor (List ℕ)) (found : Option (Bor (List ℕ))) → found ≡ Some name → FindsName form opened number line found → IsNameOn form line name.now
 name-found form opened number line name found is finds = subst (FindsName form opened number line) is finds
-
--- ---- where fields begin there are some
-
-line-some : (line : List ℕ) (rest : List (List ℕ)) → lines_of (line ++ concat rest) ≡ line ∷ rest → 0 < length line
-line-some [] rest e = absurd (go (concat rest) e) where
-  go : (text : List ℕ) → lines_of text ≡ [] ∷ rest → ⊥
-  go [] e = nothing e
-  go (b ∷ bs) e = let head = lines_of-head b bs in filled b head.0 head.1 (sym head.2 ∙ e) where
-    filled : (b : ℕ) (line : List ℕ) (lines : List (List ℕ)) → (b ∷ line) ∷ lines ≡ [] ∷ rest → ⊥
-    filled b line lines e = cc
-line-some (b ∷ bs) rest e = omega arith
-
-within-from : (form : Form) (n : ℕ) (front : List ℕ) (lines : List (List ℕ)) → lines_of (concat lines) ≡ lines → AreWithin (front ++ concat lines) (starts_of form (length front) n lines)
-within-from form n front [] are = tt
-within-from form n front (line ∷ lines) are =
-    let same : (front ++ line) ++ concat lines ≡ front ++ (line ++ concat lines) = append_assoc front line (concat lines) in
-    let left = lines-left line lines are in
-    let later : AreWithin (front ++ (line ++ concat lines)) (starts_of form (length front + length line) (n + 1) lines) =
-    subst (λ raw. AreWithin raw (starts_of form (length front + length line) (n + 1) lines)) same
-    (subst (λ k. AreWithin ((front ++ line) ++ concat lines) (starts_of form k (n + 1) lines)) (length-append front line) (within-from form (n + 1) (front ++ line) lines left)) in
-    let here : field_at (front ++ (line ++ concat lines)) (start_behind front n line) ≡ field_of n line (continued lines) =
-    ap (λ x. first_field n (lines_of x)) (drop_at front (line ++ concat lines) (length front) refl) ∙ ap (first_field n) are in
-    let is : IsWithin (front ++ (line ++ concat lines)) (start_behind front n line) = record {
-      some = omega (arith, line-some line lines are, length-append front (line ++ concat lines), length-append line (concat lines));
-      name = at-behind front line lines n ∙ sym (ap (λ (f : FieldText). f.name) here);
-    } in
-    elim (cases_Bool (begins_field form line)) [
-      | inl h ↦ rw h (is, later)
-      | inr h ↦ rw h later
-    ]
-
-pub within-at : (form : Form) (n : ℕ) (raw : List ℕ) → AreWithin raw (starts_of form 0 n (lines_of raw))
-within-at form n raw = subst (λ (text : List ℕ). AreWithin text (starts_of form 0 n (lines_of raw))) (concat-lines_of raw)
-    (within-from form n [] (lines_of raw) (ap lines_of (concat-lines_of raw)))

@@ -1,10 +1,11 @@
 -- Where the fields of a stanza begin in its bytes: what a reader notes of each, so that its lines are cut once.
-use Rattle.std.specs.Prelude.{◌≡◌, ℕ, ◌+◌, ◌<◌, List, [], ◌∷◌, length, take, drop, if◌then◌else◌}
-use Rattle.std.specs.List.{AllByRecursion}
+use Rattle.std.specs.Prelude.{◌≡◌, ℕ, ◌+◌, ◌<◌, ◌≤◌, List, [], ◌∷◌, length, take, drop, if◌then◌else◌}
+use Rattle.std.specs.List.{concat}
 use Rattle.stanza.specs.declared.form.Form.{Form}
+use Rattle.stanza.specs.declared.form.Form.TheVariants.{Plain}
 use Rattle.stanza.specs.declared.starts.Start.{Start}
 use Rattle.stanza.specs.Line.{lines_of, begins_field}
-use Rattle.stanza.specs.Field.{FieldText, name_of, field_of, continued}
+use Rattle.stanza.specs.Field.{FieldText, is_colon, without_newline, trim_front, trim_end, name_of, field_of, continued}
 
 -- where those of the lines stand that begin a field: the first line begins at this offset, and is line n
 abbrev pub starts_of : Form → ℕ → ℕ → List (List ℕ) → List Start
@@ -26,11 +27,41 @@ field_at raw start = first_field start.line (lines_of (drop start.at raw))
 abbrev pub name_at : List ℕ → Start → List ℕ
 name_at raw start = take start.name_len (drop start.at raw)
 
--- a field begins there, and has a name so long
-pub record IsWithin (raw : List ℕ) (start : Start) : Type 0 where
-  pub some : start.at < length raw
-  pub name : name_at raw start ≡ (field_at raw start).name
+-- the bytes are the lines of one field: the line that begins it, and continuations alone behind that
+pub record IsOneField (bytes : List ℕ) : Type 0 where
+  pub line : List ℕ
+  pub more : List (List ℕ)
+  pub lines : lines_of bytes ≡ line ∷ more
+  pub all : continued more ≡ concat more
 
--- fields begin there
-abbrev pub AreWithin : List ℕ → List Start → Type 0
-AreWithin raw starts = AllByRecursion (IsWithin raw) starts
+-- the bytes behind the colon that stands at their front, if one does
+abbrev pub behind_colon : List ℕ → List ℕ
+behind_colon [] = []
+behind_colon (b ∷ bs) = if is_colon b then bs else b ∷ bs
+
+-- a value as it stands in its lines, without the last newline and without spaces and tabs at its ends
+abbrev pub trimmed : List ℕ → List ℕ
+trimmed bytes = trim_end (trim_front (without_newline bytes))
+
+-- where the first of these fields begins, or where so many bytes end
+abbrev pub first_at : ℕ → List Start → ℕ
+first_at most [] = most
+first_at most (start ∷ starts) = start.at
+
+-- the bytes from a start to the first of the later ones
+abbrev pub bytes_between : List ℕ → Start → List Start → List ℕ
+bytes_between raw start later = drop start.at (take (first_at (length raw) later) raw)
+
+-- a field begins there, has a name so long, and is in the bytes up to the first of the later ones: in the plain form it is all of these
+pub record IsWithin (form : Form) (raw : List ℕ) (start : Start) (later : List Start) : Type 0 where
+  pub begin : start.at < first_at (length raw) later
+  pub end : first_at (length raw) later ≤ length raw
+  pub name_len : start.name_len ≤ length (bytes_between raw start later)
+  pub name : take start.name_len (bytes_between raw start later) ≡ (field_at raw start).name
+  pub field : (n : ℕ) → first_field n (lines_of (bytes_between raw start later)) ≡ first_field n (lines_of (drop start.at raw))
+  pub alone : form ≡ Plain → IsOneField (bytes_between raw start later)
+
+-- fields begin there, one after another
+abbrev pub AreWithin : Form → List ℕ → List Start → Type 0
+AreWithin form raw [] = Unit {0}
+AreWithin form raw (start ∷ later) = IsWithin form raw start later × AreWithin form raw later

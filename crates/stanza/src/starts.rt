@@ -5,13 +5,14 @@ ghost use Rattle.std.specs.Option.{option_copied};
 ghost use Rattle.stanza.specs.Line.{lines_of};
 ghost use Rattle.stanza.specs.Field.{FieldText, fields_of, value_named};
 ghost use Rattle.stanza.specs.Stanza.{StanzaText, stanza_of};
-ghost use Rattle.stanza.specs.Starts.{AreWithin, IsWithin, field_at, first_field, starts_of};
+ghost use Rattle.stanza.specs.Starts.{AreWithin, IsOneField, IsWithin, bytes_between, field_at, first_at, first_field, starts_of};
+ghost use Rattle.stanza.specs.declared.form.Form.TheVariants.{Plain};
 
 use crate::entries::{Field, continuations};
 use crate::form::Form;
 use crate::lines::cut_line;
 use crate::names::same_name;
-use crate::values::value_of;
+use crate::values::value_behind;
 use std::marker::Model;
 
 /// Where a field begins in its stanza's bytes, how long its name is, and the number of its line.
@@ -30,7 +31,7 @@ pub fn part(bytes: &[u8], at: usize, len: usize) -> &[u8]
     rest.split_at(len.min(rest.len())).0
 }
 
-/// A field of a stanza that was read: its name, and the stanza's bytes from its first line on.
+/// A field of a stanza that was read: its name, and its lines.
 #[derive(Drop)]
 pub struct FieldAt<'a> {
     name: &'a [u8],
@@ -43,7 +44,7 @@ impl<'a> Model for FieldAt<'a> {
 
     ghost view = { λ f. first_field f.number (lines_of f.lines.now) };
 
-    ghost invariant = { λ f. (0 < length f.lines.now) × (f.name.now ≡ (first_field f.number (lines_of f.lines.now)).name) };
+    ghost invariant = { λ f. IsOneField f.lines.now × (f.name.now ≡ (first_field f.number (lines_of f.lines.now)).name) };
 }
 
 impl<'a> FieldAt<'a> {
@@ -63,11 +64,11 @@ impl<'a> FieldAt<'a> {
         self.number
     }
 
-    /// The value, without the spaces and tabs at its ends. Its inner newlines are kept. It is cut out of the stanza at each call.
+    /// The value, without the spaces and tabs at its ends. Its inner newlines are kept. It is cut out of the lines at each call.
     pub fn value(&self) -> &'a [u8]
         ensures { result.now ≡ self.now.value }
     {
-        value_at_front(self.lines)
+        value_behind(self.name.len(), self.lines)
     }
 
     /// The field with its value cut out.
@@ -78,19 +79,34 @@ impl<'a> FieldAt<'a> {
     }
 }
 
-// The value of the field that these lines begin with.
-fn value_at_front(lines: &[u8]) -> &[u8]
-    requires { 0 < length lines.now }
-    ensures { (n : ℕ) → result.now ≡ (first_field n (lines_of lines.now)).value }
+// The lines of the field that these bytes begin with.
+fn field_front(text: &[u8]) -> &[u8]
+    requires { 0 < length text.now }
+    ensures alone { IsOneField result.now }
+    ensures field { (n : ℕ) → first_field n (lines_of result.now) ≡ first_field n (lines_of text.now) }
 {
-    let (line, after) = cut_line(lines);
+    let (line, after) = cut_line(text);
     let (len, _) = continuations(after);
-    value_of(line, lines.split_at(line.len() + len).0)
+    text.split_at(line.len() + len).0
+}
+
+// The lines of the field that these bytes begin with: in the plain form no other bytes are among them.
+fn own_lines(form: Form, text: &[u8]) -> &[u8]
+    requires some { 0 < length text.now }
+    requires alone { form ≡ Plain → IsOneField text.now }
+    ensures alone { IsOneField result.now }
+    ensures field { (n : ℕ) → first_field n (lines_of result.now) ≡ first_field n (lines_of text.now) }
+{
+    match form {
+        Form::Plain => text,
+        Form::Commented => field_front(text),
+    }
 }
 
 /// The fields of a stanza that was read, from the first on.
 #[derive(Drop)]
 pub struct ReadFields<'a> {
+    form: Form,
     raw: &'a [u8],
     starts: &'a [Start],
 }
@@ -100,7 +116,7 @@ impl<'a> Model for ReadFields<'a> {
 
     ghost view = { λ f. map (field_at f.raw.now) f.starts.now };
 
-    ghost invariant = { λ f. AreWithin f.raw.now f.starts.now };
+    ghost invariant = { λ f. AreWithin f.form f.raw.now f.starts.now };
 }
 
 impl<'a> Iterator for ReadFields<'a> {
@@ -112,21 +128,42 @@ impl<'a> Iterator for ReadFields<'a> {
 
     #[inline]
     fn next(&mut self) -> Option<FieldAt<'a>> {
-        let (start, rest) = self.starts.split_first()?;
-        let field = field_of(self.raw, start);
-        self.starts = rest;
+        let (start, later) = self.starts.split_first()?;
+        let field = field_of(self.form, self.raw, start, later);
+        self.starts = later;
         Some(field)
     }
 }
 
-// The field that begins there.
-fn field_of<'a>(raw: &'a [u8], start: &Start) -> FieldAt<'a>
-    requires { IsWithin raw.now start.now }
+// Where the first of these fields begins, or where so many bytes end.
+fn first_at(most: usize, starts: &[Start]) -> usize
+    ensures { result ≡ first_at most starts.now }
+{
+    match starts {
+        [start, ..] => start.at,
+        [] => most,
+    }
+}
+
+// The bytes from a start to the first of the later ones.
+fn bytes_between<'a>(raw: &'a [u8], start: &Start, later: &[Start]) -> &'a [u8]
+    requires begin { start.now.at < first_at (length raw.now) later.now }
+    requires end { first_at (length raw.now) later.now ≤ length raw.now }
+    ensures { result.now ≡ bytes_between raw.now start.now later.now }
+{
+    let end = first_at(raw.len(), later);
+    raw.split_at(end).0.split_at(start.at).1
+}
+
+// The field that begins there, before the first of the later ones.
+fn field_of<'a>(form: Form, raw: &'a [u8], start: &Start, later: &[Start]) -> FieldAt<'a>
+    requires { IsWithin form raw.now start.now later.now }
     ensures { result ≡ field_at raw.now start.now }
 {
+    let text = bytes_between(raw, start, later);
     FieldAt {
-        name: part(raw, start.at, start.name_len),
-        lines: raw.split_at(start.at).1,
+        name: text.split_at(start.name_len).0,
+        lines: own_lines(form, text),
         number: start.line,
     }
 }
@@ -182,6 +219,7 @@ impl<'a> ReadStanza<'a> {
         ensures { result ≡ self.now.fields }
     {
         ReadFields {
+            form: self.form,
             raw: self.raw,
             starts: self.starts,
         }

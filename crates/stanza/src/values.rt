@@ -1,8 +1,9 @@
 //! A field's name and value, from the bytes of its lines.
-ghost use Rattle.std.specs.Prelude.{◌≡◌, ◌≤◌, ◌-◌, ◌++◌, ℕ, List, length, position, true, false, MatchOption};
+ghost use Rattle.std.specs.Prelude.{◌≡◌, ◌≤◌, ◌-◌, ◌++◌, ℕ, List, length, drop, position, true, false, MatchOption};
 ghost use Rattle.std.specs.List.{prefix_len, suffix_len, list_any};
 ghost use Rattle.stanza.specs.Line.{is_white};
 ghost use Rattle.stanza.specs.Field.{is_colon, without_newline, trim_front, trim_end, name_of, value_of};
+ghost use Rattle.stanza.specs.Starts.{behind_colon, trimmed};
 
 use crate::lines::is_white;
 use crate::names::COLON;
@@ -46,6 +47,31 @@ pub fn value_of<'a>(line: &[u8], text: &'a [u8]) -> &'a [u8]
         None => line.len(),
     };
     let (_, value) = text.split_at(start);
+    trimmed(value)
+}
+
+/// What stands behind a name so long, its colon and white space, where these are the lines of its field.
+pub fn value_behind(name_len: usize, lines: &[u8]) -> &[u8]
+    requires { name_len ≤ length lines.now }
+    ensures { result.now ≡ trimmed (behind_colon (drop name_len lines.now)) }
+{
+    trimmed(behind_colon(lines.split_at(name_len).1))
+}
+
+// What stands behind the colon at the front, if one stands there.
+fn behind_colon(text: &[u8]) -> &[u8]
+    ensures { result.now ≡ behind_colon text.now }
+{
+    match text {
+        [b, rest @ ..] if *b == COLON => rest,
+        _ => text,
+    }
+}
+
+// The value without its newline and without white space at its ends.
+fn trimmed(value: &[u8]) -> &[u8]
+    ensures { result.now ≡ trimmed value.now }
+{
     trim_end(trim_front(without_newline(value)))
 }
 
