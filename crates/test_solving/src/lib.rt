@@ -1,0 +1,21 @@
+//! What `search` answers of lists of clauses, with a checker of refutations of this crate's own; what selections of small
+//! universes are settled to; and how selections that no search would find are put in order. This crate has tests alone, so that
+//! the crates that search aren't proved once more with each of them.
+#![tactic(auto)]
+
+#[cfg(test)]
+mod answers;
+#[cfg(test)]
+mod calls;
+#[cfg(test)]
+mod clauses_true;
+#[cfg(test)]
+mod orders;
+#[cfg(test)]
+mod puzzles;
+#[cfg(test)]
+mod replay;
+#[cfg(test)]
+mod settled;
+#[cfg(test)]
+mod texts;
