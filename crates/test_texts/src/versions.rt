@@ -22,7 +22,10 @@ fn is_order(a: &Version<'_>, wanted: Ordering, b: &Version<'_>) -> bool {
 }
 
 fn compares(left: &str, wanted: Ordering, right: &str) -> bool {
-    match (Version::parse(left.as_bytes()), Version::parse(right.as_bytes())) {
+    match (
+        Version::parse(left.as_bytes()),
+        Version::parse(right.as_bytes()),
+    ) {
         (Ok(a), Ok(b)) => is_order(&a, wanted, &b),
         _ => false,
     }

@@ -2,7 +2,7 @@
 use Rattle.std.proofs.Common.{sym, subst}
 use Rattle.std.specs.List.Sorted.{IsStrictlySortedBy}
 use Rattle.rules.specs.Universe.{pair_cmp}
-use Rattle.test_plan.proofs.ends.universe_of.Goals as goal
+use Rattle.test_plans.proofs.ends.universe_of.Goals as goal
 
 pub new-pairs-requires : goal.new-pairs-requires
 unfolding IsStrictlySortedBy

@@ -3,7 +3,7 @@ use Rattle.std.proofs.Common.{◌≡◌, [], ◌∷◌, ap, refl}
 use Rattle.std.specs.Prelude.{codes}
 use Rattle.std.specs.List.Sorted.{IsStrictlySortedBy}
 use Rattle.rules.specs.Universe.{Candidate, candidate_cmp}
-use Rattle.test_plan.proofs.ends.candidates_two.Goals as goal
+use Rattle.test_plans.proofs.ends.candidates_two.Goals as goal
 
 two_ascend : (first second : Candidate) → first.name ≡ codes "a" → second.name ≡ codes "h" → IsStrictlySortedBy candidate_cmp (first ∷ second ∷ [])
 unfolding IsStrictlySortedBy

@@ -6,7 +6,7 @@ use Rattle.std.proofs.lemmas.List.Kept.{AllPairs-cons}
 use Rattle.rules.specs.NamedLaws.{bytes_eq-same}
 use Rattle.rules.specs.Universe.{Start}
 use Rattle.universe.specs.Universe.{HaveDistinctNames}
-use Rattle.test_plan.proofs.ends.starts_two.Goals as goal
+use Rattle.test_plans.proofs.ends.starts_two.Goals as goal
 
 abbrev AreOfTwo : Start → Start → Type 0
 AreOfTwo earlier later = earlier.name ≢ later.name
