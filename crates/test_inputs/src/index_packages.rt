@@ -1,12 +1,11 @@
-//! Packages files, by rows worked by hand, for the architecture amd64.
+//! Packages files for the architecture amd64, whole and piece by piece, and texts that are one stanza. Most of what is read and
+//! refused is shown by the scenarios.
 use crate::devices::{Broken, Few};
-use crate::texts::{is_printed, write_part};
-use index::{Index, IndexEntry, IndexError, KeptIndex, StreamError};
+use crate::shown::{is_printed, spelled, write_part};
+use index::{Index, IndexEntry, IndexError, KeptIndex, StreamError, read_alone};
 use relation::Pkg;
-use rows::unescaped;
 use rules::{IndexPlace, Release, Text};
 use std::alloc::{AllocError, Global};
-use std::process::Abort;
 
 const ARCH: &[u8] = b"amd64";
 
@@ -110,41 +109,16 @@ fn is_read_and_kept_as(
     Ok(is_read_as(alloc, text, before, wanted)? && is_kept_as(alloc, text, before, wanted)?)
 }
 
-// The number of packages before, the text, in which `$` stands for a newline, and what is shown of it.
+// The number of packages before, the text, and what is shown of it. That Protected says the same as Essential is this project's
+// own. `$` stands for a newline.
 const READ: &str = "\
 4000000→→skipped 0
 3999999→Package: a$Version: 1$Architecture: all$→a 1 00000, skipped 0
-0→VERSION: 1:2-3$package: b$Depends: c, d (<< 2) | e$architecture:\tamd64 $X: y→b 1:2-3 02000, skipped 0
 3999998→Package: a$Version: 2$Architecture: all$$Package: b$Version: 1_$Architecture: i386$Depends: _$Provides: p (<< 1)$$Package: a$Version: 1$Architecture: amd64$Pre-Depends: b$Depends: c, d$Conflicts: e, f, g$Breaks: h, i, j, k$Provides: l, m, n, o, p (= 1)$→a 2 00000, a 1 12345, skipped 1
 4000000→Package: a$Architecture: any$→skipped 1
-0→Package: a$Architecture: ALL$→skipped 1
-0→Package: a$Architecture: i386 amd64$$Package: a$Architecture:$→skipped 2
-0→Package: a$Version: 1$Architecture: all$Depends: b,$ c$Description: d$ e$Pre-Depends:$ b$→a 1 12000, skipped 0
-0→$package:a$PROVIDES:   c $Version: 1$Architecture: all$$$ $Package: b$Version: 1$Architecture: all$Breaks: c→a 1 00001, b 1 00010, skipped 0
-";
-
-// Policy 5.6.9 has `Essential: yes`; that Protected says the same is this project's own.
-const ESSENTIAL: &str = "\
-0→Package: a$Version: 1$Architecture: all$Essential: yes$→a 1 00000 essential, skipped 0
 0→Package: a$Version: 1$Architecture: all$PROTECTED:yes\t$→a 1 00000 essential, skipped 0
-0→Package: a$Version: 1$Architecture: all$Protected: no$Essential: yes$→a 1 00000 essential, skipped 0
 0→Package: a$Version: 1$Architecture: all$Essential: Yes$Protected: true$→a 1 00000, skipped 0
-0→Package: a$Version: 1$Architecture: all$Essential: yes yes$Important: yes$→a 1 00000, skipped 0
-";
-
-const REFUSED: &str = "\
-0→Package: a$Architecture: all$Version: 1$Provides: _$package: b→E4 DuplicateField 5
 0→Package: a$Version: 1$Architecture: all$Maintainer: b$maintainer: c$→E4 DuplicateField 5
-0→Package: a$Version: 1$Architecture: all$$Package: b$c$→E2 BadLine 6
-0→ x$Package: a$→E2 BadLine 1
-0→#c: 1$→E3 BadFieldName 1
-0→Package: a$$$Package: b$Version: 1$Size: 1$size: 2$→E9 MissingField 1 Architecture
-0→Version: 1$Architecture: i386$→E9 MissingField 1 Package
-0→Package: a_$Architecture: i386$→E8 BadName 1 1
-0→$$$Package: a$Architecture: all$Depends: _$→E9 MissingField 4 Version
-0→Package: a$Architecture: all$Pre-Depends: _$Version:$→E6 BadVersion 4 Empty
-0→Package: a$Version: 1$Architecture: all$Depends: a | , b$Pre-Depends: a (= )$→E7 BadRelation 5 5
-0→Package: a$Version: 1$Architecture: all$Provides: p, q (<< 1)$Breaks: b, _$→E8 BadName 5 3
 3999999→Package: a$Version: 1$Architecture: all$$Package: b$Architecture: i386$Provides: _$$Package: c$Version: 1$Architecture: amd64$Provides: p, q (<< 1)$→E7 BadRelation 12 6
 4000000→Package: a$Architecture: i386$$Package: b$Version: 1$Architecture: all$$x$→E10 TooLarge
 ";
@@ -153,7 +127,7 @@ fn is_read_behind(alloc: Global, before: usize, rest: &str) -> Result<bool, Allo
     let Some((text, wanted)) = rest.split_once('→') else {
         return Ok(false);
     };
-    is_read_and_kept_as(alloc, unescaped(alloc, text)?.as_slice(), before, wanted)
+    is_read_and_kept_as(alloc, text.as_bytes(), before, wanted)
 }
 
 fn is_read(alloc: Global, row: &str) -> Result<bool, AllocError> {
@@ -166,20 +140,15 @@ fn is_read(alloc: Global, row: &str) -> Result<bool, AllocError> {
     }
 }
 
-fn assert_rows<R: Abort + AllocGlobal>(rt: &R, rows: &str) -> Result<(), AllocError> {
-    for row in rows.lines() {
-        assert!(rt; is_read(rt.alloc(), row)?, "{row}");
-    }
-    Ok(())
-}
-
 #[test]
 fn stanzas_of_the_architecture_are_read_up_to_the_first_refusal(
     rt: HostRuntime,
 ) -> Result<(), AllocError> {
-    assert_rows(&rt, READ)?;
-    assert_rows(&rt, ESSENTIAL)?;
-    assert_rows(&rt, REFUSED)
+    for row in READ.lines() {
+        let row = spelled(rt.alloc(), row)?;
+        assert!(rt; is_read(rt.alloc(), row.as_str())?, "{row}");
+    }
+    Ok(())
 }
 
 const FOUR_STANZAS: &[u8] =
@@ -274,4 +243,32 @@ fn a_refused_growth_is_want_of_memory_in_pieces_too(rt: HostRuntime) -> Result<(
 fn a_device_that_fails_is_no_fault_of_the_index(rt: HostRuntime) {
     let error = KeptIndex::read_from(rt.alloc(), &mut Broken { failures: 0 }, ARCH, 1, 0).err();
     assert!(rt; error == Some(StreamError::Read));
+}
+
+fn is_named(row: &str) -> bool {
+    let (text, wanted) = row.split_once('→').unwrap_or((row, ""));
+    match read_alone(text.as_bytes(), ARCH) {
+        Some(indexed) => indexed.name() == wanted.as_bytes(),
+        None => wanted == "-",
+    }
+}
+
+// A text, and the name of its package, or `-`. `$` stands for a newline.
+const ALONE: &str = "\
+Package: x$Version: 1$Architecture: all$→x
+$ $Package: x$Version: 1$Architecture: amd64→x
+Package: x$Version: 1$Architecture: all$$Package: y$Version: 1$Architecture: all$→-
+Package: x$Version: 1$Architecture: i386$→-
+Package: x$Version: 1$→-
+Package: x$Version: 1$Architecture: all$$y$→-
+→-
+";
+
+#[test]
+fn one_stanza_that_counts_is_a_package(rt: HostRuntime) -> Result<(), AllocError> {
+    for row in ALONE.lines() {
+        let row = spelled(rt.alloc(), row)?;
+        assert!(rt; is_named(row.as_str()), "{row}");
+    }
+    Ok(())
 }

@@ -1,10 +1,9 @@
 //! What the clauses do not say: printed refusals, worked texts, and that the calls succeed. The texts and what actions
 //! leave were worked out by hand from dpkg(1) and Debian Policy 5; the architecture is amd64.
+use crate::shown::spelled;
 use plantext::read_step;
-use rows::unescaped;
 use status::{ApplyError, Database, StatusRecord, Step};
 use std::alloc::{AllocError, Global};
-use std::str;
 use std::test::Fail;
 
 const ARCH: &[u8] = b"amd64";
@@ -87,13 +86,19 @@ fn is_left(alloc: Global, row: &str) -> Result<bool, Fail> {
 }
 
 fn holds(alloc: Global, row: &str) -> Result<bool, Fail> {
-    let row = unescaped(alloc, row)?;
-    is_left(alloc, str::from_utf8(row.as_slice())?)
+    let row = spelled(alloc, row)?;
+    is_left(alloc, row.as_str())
 }
 
 // The status file, the text or the refusal that is wanted, and the steps, each with what is handed in; `$` stands for a
 // newline.
 const LEFT: &str = "\
+Status: hold ok installed$Version:1$package: q$Architecture: all→package: q$Status: hold ok half-configured$Version: 1$Config-Version: 1$Architecture: all$$→deconfigure q$→
+Package: q$Status: install ok half-configured$Config-Version: 0$Version: 1$Architecture: all$Tag:$ a$→Package: q$Status: install ok installed$Version: 1$Architecture: all$Tag:$ a$$→configure q$→
+Package: q$Status: install ok triggers-awaited$Version: 1$Triggers-Awaited: z$Architecture: all$→Package: q$Status: install ok half-configured$Version: 1$Config-Version: 1$Architecture: all$$→configure q$→→deconfigure q$→
+Package: q$Status: install ok installed$Version: 1$Triggers-Awaited: z$Architecture: all$→Package: q$Status: deinstall ok config-files$Version: 1$Config-Version: 1$Triggers-Awaited: z$Architecture: all$$→remove q$→
+Package: q$Status: hold reinstreq installed$Architecture: all$Version: 1$Essential: yes$→Package: q$Status: hold reinstreq half-configured$Architecture: all$Version: 1$Config-Version: 1$Essential: yes$$→deconfigure q$→
+Package: q$Status: purge ok unpacked$Architecture: all$Version: 1$Config-Version: 0$→Package: q$Status: purge ok installed$Architecture: all$Version: 1$$→configure q$→
 →Package: foo$Status: install ok unpacked$Version: 1.0$Architecture: all$Depends: bar$Description: x$ y$$→unpack foo 1.0$→Package: foo$Version: 1.0$Architecture: all$Depends: bar$Filename: pool/foo.deb$Size: 10$Description: x$ y$
 Package: q$Status: install ok installed$Architecture: all$Version: 1$Conffiles:$ /etc/q 0$$Package: z$Status: install ok installed$Version:   1$Architecture: all$$→Package: q$Status: install ok half-configured$Architecture: all$Version: 1$Config-Version: 1$Conffiles:$ /etc/q 0$$Package: z$Status: install ok installed$Version:   1$Architecture: all$$→deconfigure q$→
 Package: q$Status: install ok installed$Architecture: all$Version: 1$Conffiles:$ /etc/q 0$$Package: z$Status: install ok installed$Version:   1$Architecture: all$$→Package: q$Status: install ok unpacked$Architecture: all$Version: 2$Config-Version: 1$Conffiles:$ /etc/q 0$$Package: z$Status: install ok installed$Version:   1$Architecture: all$$→deconfigure q$→→unpack q 2$→Package: q$Architecture: all$Version: 2$
@@ -246,5 +251,41 @@ fn is_refused(alloc: Global, step: &Step) -> Result<bool, Fail> {
 fn a_refused_name_is_lent(rt: HostRuntime) -> Result<(), Fail> {
     let step = read_step(rt.alloc(), b"remove a\n")?;
     assert!(rt; is_refused(rt.alloc(), &step)?);
+    Ok(())
+}
+
+const UNPACKED: &[u8] = b"Package: x\nVersion: 2\nArchitecture: all\nDepends: y, z\n";
+
+fn is_unpacked(record: &StatusRecord<'_>) -> bool {
+    record.stands()
+        && !record.is_installed()
+        && !record.is_held()
+        && !record.is_essential()
+        && record.name() == b"x".as_slice()
+        && record.version().is_some()
+        && record.config_version().is_none()
+}
+
+fn has_two_dependencies(alloc: Global, record: &StatusRecord<'_>) -> Result<bool, AllocError> {
+    if !record.is_present() {
+        return Ok(false);
+    }
+    let pkg = record.pkg(alloc)?;
+    Ok(pkg.depends().len() == 2)
+}
+
+fn has_its_package(alloc: Global) -> Result<bool, Fail> {
+    let mut db = Database::read(alloc, b"", ARCH)?;
+    let step = read_step(alloc, b"unpack x 2\n")?;
+    db.apply(alloc, &step, Some(UNPACKED))?;
+    let Some(record) = db.record(b"x") else {
+        return Ok(false);
+    };
+    Ok(is_unpacked(&record) && has_two_dependencies(alloc, &record)?)
+}
+
+#[test]
+fn an_unpacked_record_has_its_package(rt: HostRuntime) -> Result<(), Fail> {
+    assert!(rt; has_its_package(rt.alloc())?);
     Ok(())
 }

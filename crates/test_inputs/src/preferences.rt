@@ -1,7 +1,9 @@
-//! Each public call once, refusals as they are printed, and want of memory.
-use crate::texts::is_printed;
+//! Preferences files (apt_preferences(5)): each public call once, refusals as they are printed, and want of memory. What is read
+//! and refused is shown by the scenarios.
+use crate::shown::is_printed;
 use debversion::Version;
 use pins::{Origin, Prefs, PrefsError, PrefsFault, PrefsField};
+use rules::{Pin, PinnedNames, Preference, ReleaseItem, ReleaseKey};
 use stanza::StanzaError;
 use std::alloc::{AllocError, Global};
 
@@ -24,9 +26,79 @@ fn is_the_example(read: Result<Prefs, PrefsError>) -> bool {
 }
 
 #[test]
-fn the_readme_example(rt: HostRuntime) {
+fn the_readme_example_of_pins(rt: HostRuntime) {
     let text = b"Package: foo\nPin: version 1.*\nPin-Priority: 1001\n";
     assert!(rt; is_the_example(Prefs::read(rt.alloc(), text, Some(b"stable"))));
+}
+
+const KINDS: &[u8] =
+    b"Explanation: one\nExplanation: two\nPackage: a  b\nPin: version 1\nFoo: bar\nPin-Priority: +05\n\n\
+Package: perl\nPin: version 5.32*\nPin-Priority: 1001\n\n\
+pin-priority: -1\nPACKAGE: *\n# a comment\nPin: release n=bookworm, o=Debian Backports\n\n\
+Package: *\nPin: origin \"ftp.de.debian.org\"\nPin-Priority: 999";
+
+fn are_a_and_b(names: &PinnedNames) -> bool {
+    match names {
+        PinnedNames::Listed(names) => match names.as_slice() {
+            [a, b] => a.as_bytes() == b"a".as_slice() && b.as_bytes() == b"b".as_slice(),
+            _ => false,
+        },
+        PinnedNames::Every => false,
+    }
+}
+
+fn is_item(item: &ReleaseItem, key: ReleaseKey, value: &[u8]) -> bool {
+    item.key == key && item.value.as_bytes() == value
+}
+
+fn is_of_bookworm(items: &[ReleaseItem]) -> bool {
+    match items {
+        [name, origin] => {
+            is_item(name, ReleaseKey::Codename, b"bookworm")
+                && is_item(origin, ReleaseKey::Origin, b"Debian Backports")
+        }
+        _ => false,
+    }
+}
+
+fn is_by_version(record: &Preference) -> bool {
+    are_a_and_b(&record.names)
+        && matches!(&record.pin, Pin::Version(version) if version.as_bytes() == b"1".as_slice())
+        && record.priority == 5
+}
+
+fn is_by_beginning(record: &Preference) -> bool {
+    matches!(&record.pin, Pin::VersionBeginning(text) if text.as_bytes() == b"5.32".as_slice())
+        && record.priority == 1001
+}
+
+fn is_by_release(record: &Preference) -> bool {
+    matches!(&record.names, PinnedNames::Every)
+        && matches!(&record.pin, Pin::Release(items) if is_of_bookworm(items.as_slice()))
+        && record.priority == -1
+}
+
+fn is_by_host(record: &Preference) -> bool {
+    matches!(&record.pin, Pin::Origin(host) if host.as_bytes() == b"ftp.de.debian.org".as_slice())
+        && record.priority == 999
+}
+
+fn are_of_each_kind(records: &[Preference]) -> bool {
+    match records {
+        [version, beginning, release, host] => {
+            is_by_version(version)
+                && is_by_beginning(beginning)
+                && is_by_release(release)
+                && is_by_host(host)
+        }
+        _ => false,
+    }
+}
+
+#[test]
+fn each_stanza_is_a_record(rt: HostRuntime) {
+    let read = Prefs::read(rt.alloc(), KINDS, None);
+    assert!(rt; matches!(&read, Ok(prefs) if are_of_each_kind(prefs.records())));
 }
 
 // Whether the target is this one, and there are no records.
