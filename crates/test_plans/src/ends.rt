@@ -79,9 +79,7 @@ pub(crate) fn is_against(
 // The states of `lib 1` and of `app 1; Depends: lib`, and what is against them with `install lib` and `install app`.
 const ENDS: &str = "\
 |installed$Package: lib|installed$Package: app$Depends: lib→end install lib$install app→nothing
-|unpacked$Package: lib|half-configured$Package: app$Depends: lib→end install lib$install app→Unfinished app
 |config-files$Package: lib|installed$Package: app$Depends: lib→end install lib$install app→Relation app
-|installed$Package: lib|config-files$Package: app$Depends: lib→end install lib$install app→Goal 2
 ";
 
 #[test]

@@ -5,7 +5,6 @@ use crate::devices::{Broken, Few};
 use fetch::{FetchError, FetchedStanzas};
 use index::Index;
 use pins::Prefs;
-use rows::unescaped;
 use rules::{Release, Text};
 use std::alloc::{AllocError, Global};
 use universe::Universe;
@@ -89,18 +88,17 @@ fn holds(
         return Ok(false);
     };
     let number = number.parse::<usize>().unwrap_or(0);
-    let text = unescaped(alloc, text)?;
-    let shown = unescaped(alloc, shown)?;
     Ok(
-        fetched_as(alloc, stanzas, number, text.as_slice(), most, word)
-            && shown_of(alloc, stanzas)?.as_slice() == shown.as_slice(),
+        fetched_as(alloc, stanzas, number, text.as_bytes(), most, word)
+            && shown_of(alloc, stanzas)?.as_slice() == shown.as_bytes(),
     )
 }
 
 fn all_hold(alloc: Global, universe: &Universe<'_, '_>, most: usize) -> Result<bool, AllocError> {
     let mut stanzas = FetchedStanzas::new(alloc, universe)?;
     for row in ROWS.lines() {
-        if !holds(alloc, &mut stanzas, row, most)? {
+        let row = row.replace(alloc, "$", "\n")?;
+        if !holds(alloc, &mut stanzas, row.as_str(), most)? {
             return Ok(false);
         }
     }

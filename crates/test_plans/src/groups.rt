@@ -88,37 +88,15 @@ fn are_named(names: &[Name], wanted: &str) -> bool {
 }
 
 // The packages; the line of the group; and behind the second arrow the first rule that its configuring fails, whether no
-// part of it could be configured by itself, and the names of its greatest part that could. In this order: rings of two and
-// three; a ring and a third package; two packages that are fine alone, and two of which one is; what hangs on a ring;
-// Depends and Pre-Depends met by an installed package; Pre-Depends met by a member alone; members that break one another,
-// and one broken by an installed package; a member that is installed, and one that isn't there; Depends met by a package
-// outside the group that is only unpacked; one package, and one that needs what isn't there; of a ring and a third package
-// the ring, all three, and one of the ring.
+// part of it could be configured by itself, and the names of its greatest part that could. More groups stand in the scenarios.
 const GROUPS: &str = "\
-|unpacked$Package: a$Depends: b|unpacked$Package: b$Depends: a→group configure a b$→allowed true: a b
-|unpacked$Package: a$Depends: b|unpacked$Package: b$Depends: c|unpacked$Package: c$Depends: a→group configure a b c$→allowed true: a b c
-|unpacked$Package: a$Depends: b|unpacked$Package: b$Depends: c|unpacked$Package: c$Depends: a→group configure a b$→F4 true:
-|unpacked$Package: a$Depends: b|unpacked$Package: b$Depends: a|unpacked$Package: c→group configure a b c$→F5 false: a b c
-|unpacked$Package: a|unpacked$Package: b→group configure a b$→F5 false: a b
-|unpacked$Package: a|unpacked$Package: b$Depends: a→group configure a b$→F5 false: a b
-|unpacked$Package: a|unpacked$Package: b$Depends: x→group configure a b$→F4 false: a
-|unpacked$Package: a$Depends: b|unpacked$Package: b$Depends: a|unpacked$Package: c$Depends: a→group configure a b c$→F5 false: a b c
-|unpacked$Package: a$Depends: b|unpacked$Package: b$Depends: a, x|unpacked$Package: c$Depends: a→group configure a b c$→F4 true:
-|unpacked$Package: a$Depends: b, x|unpacked$Package: b$Depends: a|installed$Package: x→group configure a b$→allowed true: a b
-|unpacked$Package: a$Depends: b$Pre-Depends: x|unpacked$Package: b$Depends: a|installed$Package: x→group configure a b$→allowed true: a b
-|unpacked$Package: a$Depends: b|unpacked$Package: b$Pre-Depends: a→group configure a b$→F1 true:
-|unpacked$Package: a|unpacked$Package: b$Pre-Depends: a→group configure a b$→F1 false: a
-|unpacked$Package: a$Depends: b$Breaks: b|unpacked$Package: b$Depends: a→group configure a b$→F3 true:
-|unpacked$Package: a$Depends: b|unpacked$Package: b$Depends: a|installed$Package: x$Breaks: b→group configure a b$→F3 true:
-|unpacked$Package: a$Depends: b|unpacked$Package: b$Depends: a$Breaks: b→group configure a b$→allowed true: a b
-|unpacked$Package: a$Depends: b|installed$Package: b$Depends: a→group configure a b$→F9 false: a
-|unpacked$Package: a|unpacked$Package: b→group configure a x$→F9 false: a
-|unpacked$Package: a$Depends: b|unpacked$Package: b→group configure a$→F4 true:
-|unpacked$Package: a→group configure a$→allowed true: a
-|unpacked$Package: a$Depends: x→group configure a$→F4 true:
 |unpacked$Package: a$Depends: b|unpacked$Package: b$Depends: a|unpacked$Package: c→group configure a b$→allowed true: a b
 |unpacked$Package: a$Depends: b|unpacked$Package: b$Depends: a|unpacked$Package: c→group configure a b c$→F5 false: a b c
-|unpacked$Package: a$Depends: b|unpacked$Package: b$Depends: a|unpacked$Package: c→group configure a$→F4 true:
+|unpacked$Package: a|unpacked$Package: b$Depends: x→group configure a b$→F4 false: a
+|unpacked$Package: a$Depends: b, x|unpacked$Package: b$Depends: a→group configure a b$→F4 true:
+|unpacked$Package: a|unpacked$Package: b$Pre-Depends: a→group configure a b$→F1 false: a
+|unpacked$Package: a$Depends: b|unpacked$Package: b$Depends: a|installed$Package: x$Breaks: b→group configure a b$→F3 true:
+|unpacked$Package: a$Depends: b|installed$Package: b$Depends: a→group configure a b$→F9 false: a
 ";
 
 #[test]

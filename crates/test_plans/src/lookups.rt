@@ -109,17 +109,9 @@ pub(crate) fn is_found(
 const PROVIDERS: &str = "\
 providers mail→1 4
 providers sh→1 2
-providers web→0
 providers a→0 1
-providers b→2
-providers c→3
-providers s→5
 providers old→
 providers ma→
-providers mailx→
-providers z→
-providers 0→
-providers →
 ";
 
 // No pair has the number 0, the first and the last pair stand and are in no index, and there is no seventh.
@@ -127,28 +119,18 @@ const STANZAS: &str = "\
 stanza 0→none
 stanza 1→none
 stanza 2→a 2
-stanza 3→b 3
-stanza 4→c 1
-stanza 5→mail 1
-stanza 6→none
 stanza 7→none
 stanza 4294967295→none
 ";
 
 // The first `a` isn't admitted, and 1.50 is no spelling of 1.5.
 const NUMBERS: &str = "\
-number a 1.5→1
 number a 0:1.5→1
-number a 2→2
-number b 3→3
 number c 1→4
-number mail 1→5
 number s 2-0→6
 number a 1.0→none
 number a 1.50→none
-number b 2→none
 number ab 1→none
-number z 1→none
 ";
 
 // The start knows the two names of the status file alone.
@@ -156,20 +138,13 @@ const STARTS: &str = "\
 start a→1.5
 start s→2
 start b→none
-start ab→none
 start →none
 ";
 
 const CANDIDATES: &str = "\
 candidate a→2
-candidate b→3
-candidate c→1
-candidate mail→1
 candidate s→2
 candidate ab→none
-candidate m→none
-candidate t→none
-candidate 0→none
 candidate →none
 ";
 

@@ -189,76 +189,29 @@ fn are_candidates(universe: &Universe<'_, '_>, wanted: &str) -> bool {
     words.next().is_none()
 }
 
-// Two indices, the preferences, a request with its goal on the third line, and the universe. The candidate has the
-// greatest priority, and of equal priorities the greatest version; what is asked for by its version is admitted; of equal
-// versions the earlier counts.
+// The text of a status file, two indices, the preferences, a request with its goal on the third line, and the universe. The
+// candidate has the greatest priority, and of equal priorities the greatest version; what is asked for by its version is admitted;
+// of equal versions the one that stands counts, or else the earlier one. A name that is held keeps its version.
 const UNIVERSES: &str = "\
 →build no no;;→|
-→build one two;;→a=2 b=3 | a=2 b=3
-→build one two-;;→a=1.0 b=3 | a=1.0 b=3
-→build one two--;;→a=1.0 b=3 | a=1.0 b=3
 →build two- equal--;;→a=1.00 b=3 | a=1.00 b=3
-→build one equal;;→a=1.0 | a=1.0
-→build equal one;;→a=1.00 | a=1.00
 →build one two-;;$$install a (= 2)→a=1.0 a=2 b=3 | a=1.0 b=3
-→build one two-;;$$install a (= 0:1.00-0)→a=1.0 b=3 | a=1.0 b=3
-→build one two-;;$$install a (>> 1.0)→a=1.0 b=3 | a=1.0 b=3
 →build one two-;;$$install c (= 2)→E17 UnknownName 3
-";
-
-// The same behind the text of a status file. What stands is admitted, and no version below it is a candidate; it has the
-// priority 100. A name that is held keeps its version. A name with configuration files is known, one that is
-// not-installed isn't. What is half-installed or to be installed again doesn't stand. Of equal versions the one that stands
-// counts.
-const STARTS: &str = "\
-Package: a$Status: install ok installed$Version: 1.5$Architecture: all$→build one two;;→a=1.5 a=2 b=3 | a=2 b=3
-Package: a$Status: install ok installed$Version: 1.5$Architecture: all$→build one two-;;→a=1.5 b=3 | a=1.5 b=3
-Package: a$Status: install ok unpacked$Version: 1.5$Architecture: all$→build one two--;;→a=1.5 a=2 b=3 | a=2 b=3
-Package: a$Status: hold ok installed$Version: 1.5$Architecture: all$→build one two;;→a=1.5 b=3 | a=2 b=3
-Package: a$Status: hold ok installed$Version: 1.5$Architecture: all$→build one two;;$$install a (= 1.0)→a=1.5 b=3 | a=2 b=3
 Package: a$Status: install ok installed$Version: 1.5$Architecture: all$→build one two;;$$install a (= 1.0)→a=1.0 a=1.5 a=2 b=3 | a=2 b=3
+Package: a$Status: hold ok installed$Version: 1.5$Architecture: all$→build one two;;→a=1.5 b=3 | a=2 b=3
 Package: a$Status: deinstall ok half-configured$Version: 1.00$Architecture: all$→build one no;;→a=1.00 | a=1.00
-Package: a$Status: install reinstreq installed$Version: 1.5$Architecture: all$→build one no;;→a=1.0 | a=1.0
-Package: a$Status: install ok half-installed$Version: 1.5$Architecture: all$→build one no;;→a=1.0 | a=1.0
-Package: c$Status: install ok installed$Version: 2$Architecture: all$→build one no;;→a=1.0 c=2 | a=1.0 c=2
 Package: c$Status: deinstall ok config-files$Config-Version: 1$→build one no;;$$install c (= 2)→a=1.0 | a=1.0
-Package: c$Status: unknown ok not-installed$→build one no;;$$install c (= 2)→E17 UnknownName 3
+Package: a$Status: install ok installed$Version: 1.5$Architecture: all→build one two;Package: a$Pin: version 1.0$Pin-Priority: 1000$;→a=1.0 a=1.5 a=2 b=3 | a=1.0 b=3
 ";
 
-// The same where a 1.5 stands, with a preferences file. A record for the name decides, or else the greatest priority; a
-// downgrade needs 1000; a priority of 0 or less is never chosen.
-const PREFERENCES: &str = "\
-Package: a$Status: install ok installed$Version: 1.5$Architecture: all→build one two;;→a=1.5 a=2 b=3 | a=2 b=3
-Package: a$Status: install ok installed$Version: 1.5$Architecture: all→build one two;Package: a$Pin: version 1.5$Pin-Priority: 501$;→a=1.5 b=3 | a=1.5 b=3
-Package: a$Status: install ok installed$Version: 1.5$Architecture: all→build one two;Package: a$Pin: version 1.0$Pin-Priority: 1000$;→a=1.0 a=1.5 b=3 | a=1.0 b=3
-Package: a$Status: install ok installed$Version: 1.5$Architecture: all→build one two;Package: a$Pin: version 1.0$Pin-Priority: 999$;→a=1.5 a=2 b=3 | a=2 b=3
-Package: a$Status: install ok installed$Version: 1.5$Architecture: all→build one two;Package: *$Pin: version 2$Pin-Priority: -1$;→a=1.5 b=3 | a=1.5 b=3
-Package: a$Status: install ok installed$Version: 1.5$Architecture: all→build one two;Package: *$Pin: version 3$Pin-Priority: 0$;→a=1.5 a=2 | a=2
-Package: a$Status: install ok installed$Version: 1.5$Architecture: all→build one two;Package: a b$Pin: version 9*$Pin-Priority: -1$;→a=1.5 a=2 b=3 | a=2 b=3
-";
-
-// The same where a request may ask for all versions: then each one that may be chosen is admitted, for names that aren't
-// held. What is lower than what stands needs 1000, and a priority of 0 or less is never enough; the candidates stay the
-// same.
+// The same where a request may ask for all versions: then each one that may be chosen is admitted, for names that aren't held;
+// the candidates stay the same.
 const ALL_VERSIONS: &str = "\
 →build stable testing;;install foo→foo=1 libx=2 | foo=1 libx=2
-→build stable testing;;all-versions$install foo→foo=1 libx=1 libx=2 | foo=1 libx=2
 →build testing stable;;install foo$all-versions→foo=1 libx=1 libx=2 | foo=1 libx=2
-→build one two;;→a=2 b=3 | a=2 b=3
-→build one two;;all-versions→a=1.0 a=2 b=3 | a=2 b=3
-→build one two-;;all-versions→a=1.0 a=2 b=3 | a=1.0 b=3
-→build one equal two;;all-versions→a=1.0 a=2 b=3 | a=2 b=3
-→build one two;Package: a$Pin: version 1.0$Pin-Priority: 0$;all-versions→a=2 b=3 | a=2 b=3
 →build one two;Package: *$Pin: version 2$Pin-Priority: -1$;all-versions→a=1.0 b=3 | a=1.0 b=3
-→build one no;;all-versions$install c (= 2)→E17 UnknownName 2
 Package: a$Status: install ok installed$Version: 1.5$Architecture: all→build one two;;all-versions→a=1.5 a=2 b=3 | a=2 b=3
-Package: a$Status: install ok installed$Version: 1.5$Architecture: all→build one two;Package: a$Pin: version 1.0$Pin-Priority: 999$;all-versions→a=1.5 a=2 b=3 | a=2 b=3
-Package: a$Status: install ok installed$Version: 1.5$Architecture: all→build one two;Package: a$Pin: version 1.0$Pin-Priority: 1000$;all-versions→a=1.0 a=1.5 a=2 b=3 | a=1.0 b=3
-Package: a$Status: install ok installed$Version: 1.5$Architecture: all→build one two;Package: a$Pin: version 1.5$Pin-Priority: 501$;all-versions→a=1.5 a=2 b=3 | a=1.5 b=3
-Package: a$Status: install ok installed$Version: 1.5$Architecture: all→build one two;Package: a$Pin: version 1.5$Pin-Priority: -1$;all-versions→a=1.5 a=2 b=3 | a=2 b=3
-Package: a$Status: install ok installed$Version: 1.5$Architecture: all→build one two;;all-versions$install a (= 1.0)→a=1.0 a=1.5 a=2 b=3 | a=2 b=3
 Package: a$Status: hold ok installed$Version: 1.5$Architecture: all→build one two;;all-versions→a=1.5 b=3 | a=2 b=3
-Package: a$Status: hold ok config-files$Config-Version: 1$→build one two;;all-versions→b=3 | a=2 b=3
 ";
 
 fn holds(alloc: Global, row: &str) -> Result<bool, Fail> {
@@ -277,18 +230,8 @@ pub(crate) fn all_hold(alloc: Global, table: &str) -> Result<(), Fail> {
 }
 
 #[test]
-fn candidates_are_those_of_the_preferences(rt: HostRuntime) -> Result<(), Fail> {
-    all_hold(rt.alloc(), PREFERENCES)
-}
-
-#[test]
-fn pairs_and_candidates_are_those_of_the_indices(rt: HostRuntime) -> Result<(), Fail> {
-    all_hold(rt.alloc(), UNIVERSES)
-}
-
-#[test]
 fn what_stands_is_admitted_and_kept_from_downgrades(rt: HostRuntime) -> Result<(), Fail> {
-    all_hold(rt.alloc(), STARTS)
+    all_hold(rt.alloc(), UNIVERSES)
 }
 
 #[test]

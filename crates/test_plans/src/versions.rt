@@ -107,76 +107,41 @@ fn is_spelled_so(alloc: Global, priority: Option<i32>, wanted: &str) -> Result<b
     }
 }
 
-// Two indices, the preferences and a name, and its versions with their priorities. Those of 0 and less are left out; of
-// equal versions the earlier counts.
+// The text of a status file, two indices, the preferences and a name, and its versions with their priorities. Those of 0 and less
+// are left out; of equal versions the earlier counts; what is lower than what stands needs 1000.
 const VERSIONS: &str = "\
-→eligible stable testing;;libx→1@500 2@500
-→eligible testing stable;;libx→1@500 2@500
-→eligible stable testing;;foo→1@500
-→eligible stable testing;;lib→
-→eligible no no;;a→
-→eligible one two;;a→1.0@500 2@500
 →eligible two one;;a→1.0@500 2@500
-→eligible one two-;;a→1.0@500 2@1
 →eligible one-- two-;;a→1.0@100 2@1
-→eligible one equal;;a→1.0@500
 →eligible equal- one;;a→1.00@500
-→eligible one two;Package: a$Pin: version 1.0$Pin-Priority: 1$;a→1.0@1 2@500
-→eligible one two;Package: a$Pin: version 1.0$Pin-Priority: 0$;a→2@500
 →eligible one two;Package: *$Pin: version 2$Pin-Priority: -1$;a→1.0@500
-";
-
-// The same behind the text of a status file. What stands has the priority 100, or that of an index which has it; what is
-// lower needs 1000; a version that doesn't stand keeps nothing out; a hold changes nothing here.
-const BESIDE_A_START: &str = "\
-Package: a$Status: install ok installed$Version: 1.5$Architecture: all→eligible one two;;a→1.5@100 2@500
-Package: a$Status: install ok unpacked$Version: 1.00$Architecture: all→eligible one two;;a→1.00@500 2@500
-Package: a$Status: install ok installed$Version: 3$Architecture: all→eligible one two;;a→3@100
+→eligible no no;;a→
 Package: a$Status: install ok installed$Version: 1.5$Architecture: all→eligible one two;Package: a$Pin: version 1.0$Pin-Priority: 999$;a→1.5@100 2@500
-Package: a$Status: install ok installed$Version: 1.5$Architecture: all→eligible one two;Package: a$Pin: version 1.0$Pin-Priority: 1000$;a→1.0@1000 1.5@100 2@500
+Package: a$Status: hold ok installed$Version: 1.5$Architecture: all→eligible one two;Package: a$Pin: version 1.0$Pin-Priority: 1000$;a→1.0@1000 1.5@100 2@500
 Package: a$Status: install ok installed$Version: 1.5$Architecture: all→eligible one two;Package: a$Pin: version 1.5$Pin-Priority: -1$;a→2@500
-Package: a$Status: hold ok installed$Version: 1.5$Architecture: all→eligible one two;;a→1.5@100 2@500
-Package: a$Status: install ok half-installed$Version: 1.5$Architecture: all→eligible one two;;a→1.0@500 2@500
-Package: a$Status: install ok installed$Version: 1.5$Architecture: all→eligible one two;;b→3@500
 ";
 
-// Two indices, the preferences, a name and a version, and its priority: also where it is 0 or less, or where the version is
-// lower than what stands. A pin looks at the text of the earlier of equal versions, or of the one that stands. What is in no
-// index and doesn't stand has none.
+// The same with a version of the name, and its priority: also where it is 0 or less, or where the version is lower than what
+// stands. A pin looks at the text of the earlier of equal versions, or of the one that stands. What is in no index and doesn't
+// stand has none.
 const PRIORITIES: &str = "\
-→priority one two;;a 1.0→500
-→priority one two-;;a 2→1
 →priority one two--;;a 0:2→100
 →priority one two;;a 3→none
-→priority one two;;b 2→none
-→priority one two;;c 1→none
-→priority no no;;a 1→none
-→priority one- equal--;;a 1.0→100
 →priority one two;Package: a$Pin: version 1.0$Pin-Priority: -1$;a 1.0→-1
-→priority one two;Package: *$Pin: version 2$Pin-Priority: 0$;a 2→0
 →priority equal one;Package: a$Pin: version 1.00*$Pin-Priority: 7$;a 1.0→7
 →priority one equal;Package: a$Pin: version 1.00*$Pin-Priority: 7$;a 1.0→500
 Package: a$Status: install ok installed$Version: 1.00$Architecture: all→priority one equal;Package: a$Pin: version 1.00*$Pin-Priority: 7$;a 1.0→7
-Package: a$Status: install ok installed$Version: 1.5$Architecture: all→priority one two;;a 1.5→100
 Package: a$Status: install ok installed$Version: 1.5$Architecture: all→priority one two;;a 1.0→500
-Package: a$Status: install ok unpacked$Version: 2$Architecture: all→priority one two-;;a 2→100
 Package: a$Status: install ok half-installed$Version: 1.5$Architecture: all→priority one two;;a 1.5→none
-Package: b$Status: install ok installed$Version: 2$Architecture: all→priority one two;;a 2→500
 ";
 
-// Two indices, the preferences and a name, and its candidate: the version with the greatest priority, of several such the
-// highest, and none below the one that stands unless it has 1000.
+// The same with a name alone, and its candidate: the version with the greatest priority, of several such the highest, and none
+// below the one that stands unless it has 1000.
 const PREFERRED: &str = "\
 →prefers one two;;a→2@500
 →prefers one two-;;a→1.0@500
-→prefers one-- two-;;a→1.0@100
-→prefers equal one;;a→1.00@500
 →prefers one two;;c→none
-→prefers one two;Package: a$Pin: version *$Pin-Priority: 0$;a→none
-→prefers one two;Package: a$Pin: version 1.0$Pin-Priority: 501$;a→1.0@501
 Package: a$Status: install ok installed$Version: 1.5$Architecture: all→prefers one two-;;a→1.5@100
 Package: a$Status: install ok installed$Version: 1.5$Architecture: all→prefers one two-;Package: a$Pin: version 1.0$Pin-Priority: 1000$;a→1.0@1000
-Package: c$Status: install ok installed$Version: 1.5$Architecture: all→prefers one two;;c→1.5@100
 ";
 
 #[test]
@@ -192,9 +157,4 @@ fn a_version_has_this_priority_where_it_is_available(rt: HostRuntime) -> Result<
 #[test]
 fn versions_that_may_be_chosen_ascend_with_their_priorities(rt: HostRuntime) -> Result<(), Fail> {
     all_hold(rt.alloc(), VERSIONS)
-}
-
-#[test]
-fn what_is_lower_than_what_stands_needs_a_thousand(rt: HostRuntime) -> Result<(), Fail> {
-    all_hold(rt.alloc(), BESIDE_A_START)
 }

@@ -1,11 +1,14 @@
-//! Which packages match an atom, by the rules of Policy 7.1 and 7.5.
+//! Who has or provides a name, and which packages match an atom, by the rules of Policy 7.1 and 7.5. Positions were counted in the
+//! text of the packages.
+use index::Providers as Lists;
 use providers::{Providers, Ticks};
 use relation::{Atom, Pkg, parse_atoms};
 use stanza::{Stanza, Stanzas};
 use std::alloc::{AllocError, Global};
 
-const FIVE_STANZAS: &[u8] =
-    b"Package: v\nVersion: 1\n\nPackage: v\nVersion: 2\n\nPackage: v\nVersion: 3\n\nPackage: w\nVersion: 1\nProvides: v (= 2), v\n\nPackage: u\nVersion: 1\nProvides: v\n";
+const SIX_STANZAS: &[u8] =
+    b"Package: v\nVersion: 1\n\nPackage: v\nVersion: 2\n\nPackage: v\nVersion: 3\n\n\
+Package: w\nVersion: 1\nProvides: v (= 2), v\n\nPackage: u\nVersion: 1\nProvides: v\n\nPackage: t\nVersion: 1\nProvides: v:i386\n";
 
 fn is_added<'a>(alloc: Global, pkgs: &mut Vec<Pkg<'a>>, stanza: &Stanza<'a>) -> bool {
     match Pkg::from_stanza(alloc, stanza, b"amd64") {
@@ -55,19 +58,10 @@ fn is_matched(
     }
 }
 
-fn is_named(
-    alloc: Global,
-    providers: &Providers<'_>,
-    name: &[u8],
-    wanted: &[usize],
-) -> Result<bool, AllocError> {
-    Ok(providers.of(alloc, name)?.as_slice() == wanted)
-}
-
 fn are_found(alloc: Global, pkgs: &[&Pkg<'_>]) -> Result<bool, AllocError> {
     let providers = Providers::of_packages(alloc, pkgs)?;
     Ok(
-        is_named(alloc, &providers, b"v", &[0, 1, 2, 3, 4])?
+        providers.of(alloc, b"v")?.as_slice() == [0, 1, 2, 3, 4].as_slice()
             && is_matched(alloc, &providers, b"v", &[0, 1, 2, 3, 4])?
             && is_matched(alloc, &providers, b"v (>= 2)", &[1, 2, 3])?
             && is_matched(alloc, &providers, b"v (= 2)", &[1, 3])?
@@ -75,25 +69,40 @@ fn are_found(alloc: Global, pkgs: &[&Pkg<'_>]) -> Result<bool, AllocError> {
     )
 }
 
-fn are_found_among(alloc: Global, pkgs: &[Pkg<'_>]) -> Result<bool, AllocError> {
+// The same of the lists of `index`.
+fn are_listed(alloc: Global, pkgs: &[&Pkg<'_>]) -> Result<bool, AllocError> {
+    let lists = Lists::build(alloc, pkgs)?;
+    Ok(
+        lists.of(alloc, b"v")?.as_slice() == [0, 1, 2, 3, 4].as_slice()
+            && lists.of(alloc, b"w")?.as_slice() == [3].as_slice()
+            && lists.of(alloc, b"no")?.is_empty(),
+    )
+}
+
+fn lent<'p, 'a>(alloc: Global, pkgs: &'p [Pkg<'a>]) -> Result<Vec<&'p Pkg<'a>>, AllocError> {
     let mut lent = Vec::new(alloc);
     for pkg in pkgs {
         lent.push(pkg)?;
     }
-    are_found(alloc, lent.as_slice())
-}
-
-fn is_as_said(alloc: Global) -> Result<bool, AllocError> {
-    let mut pkgs = Vec::new(alloc);
-    if are_added(alloc, &mut pkgs, FIVE_STANZAS) {
-        are_found_among(alloc, pkgs.as_slice())
-    } else {
-        Ok(false)
-    }
+    Ok(lent)
 }
 
 #[test]
 fn an_atom_is_matched_by_these_packages(rt: HostRuntime) -> Result<(), AllocError> {
-    assert!(rt; is_as_said(rt.alloc())?);
+    let mut pkgs = Vec::new(rt.alloc());
+    assert!(rt; are_added(rt.alloc(), &mut pkgs, SIX_STANZAS));
+    let lent = lent(rt.alloc(), pkgs.as_slice())?;
+    assert!(rt; are_found(rt.alloc(), lent.as_slice())?);
+    Ok(())
+}
+
+#[test]
+fn a_name_is_provided_by_its_own_package_and_in_each_version(
+    rt: HostRuntime,
+) -> Result<(), AllocError> {
+    let mut pkgs = Vec::new(rt.alloc());
+    assert!(rt; are_added(rt.alloc(), &mut pkgs, SIX_STANZAS));
+    let lent = lent(rt.alloc(), pkgs.as_slice())?;
+    assert!(rt; are_listed(rt.alloc(), lent.as_slice())?);
     Ok(())
 }
