@@ -1,6 +1,5 @@
 //! What universes are made of small indices, who provides a name and which stanzas are fetched, which rules steps fail, which
-//! groups are configured together, what is against ends, and which records have a name after actions: each public call with a
-//! sample, and sources that fail. What plans show of all this stands in the folder `scenarios`. This crate has tests alone, so that
+//! groups are configured together, and what is against ends: each public call with a sample, and sources that fail. What plans show of all this stands in the folder `scenarios`. This crate has tests alone, so that
 //! the crates that judge plans aren't proved once more with each of them.
 #![tactic(auto)]
 
@@ -20,8 +19,6 @@ mod lookups;
 mod packages;
 #[cfg(test)]
 mod provided;
-#[cfg(test)]
-mod records;
 #[cfg(test)]
 mod steps;
 #[cfg(test)]

@@ -82,9 +82,7 @@ fn is_answer_over(
         "eligible" => are_eligible(alloc, records, words, wanted),
         "prefers" => is_preferred(alloc, records, words, wanted),
         "priority" => is_priority(alloc, records, words, wanted),
-        "providers" | "stanza" | "number" | "start" | "candidate" => is_looked_up(
-            alloc, records, asked, wanted,
-        ),
+        "look" => is_looked_up(alloc, records, asked),
         _ => is_judged(alloc, records, asked, wanted),
     }
 }

@@ -83,12 +83,11 @@ pub(crate) fn is_looked_up(
     alloc: Global,
     records: &[&StatusRecord<'_>],
     asked: &str,
-    wanted: &str,
 ) -> Result<bool, Fail>
     requires { HasDistinctNames (records_of (map (λ r. r.now) records.now)) }
 {
     let prefs = Prefs::without_records(alloc, None)?;
-    says_by(alloc, records, "asked", &prefs, "", asked, wanted)
+    says_by(alloc, records, "asked", &prefs, "", asked, "")
 }
 
 fn says_by(
@@ -147,7 +146,7 @@ fn says(
     wanted: &str,
 ) -> Result<bool, Fail> {
     match asked.split_once(' ') {
-        Some((kind, word)) => is_found(alloc, universe, kind, word, wanted),
+        Some((_, word)) => Ok(is_found(alloc, universe, word)?),
         None => Ok(wanted.split('∨').any(|one| has_these(universe, one))),
     }
 }
@@ -201,7 +200,7 @@ Package: a$Status: install ok installed$Version: 1.5$Architecture: all$→build 
 Package: a$Status: hold ok installed$Version: 1.5$Architecture: all$→build one two;;→a=1.5 b=3 | a=2 b=3
 Package: a$Status: deinstall ok half-configured$Version: 1.00$Architecture: all$→build one no;;→a=1.00 | a=1.00
 Package: c$Status: deinstall ok config-files$Config-Version: 1$→build one no;;$$install c (= 2)→a=1.0 | a=1.0
-Package: a$Status: install ok installed$Version: 1.5$Architecture: all→build one two;Package: a$Pin: version 1.0$Pin-Priority: 1000$;→a=1.0 a=1.5 a=2 b=3 | a=1.0 b=3
+Package: a$Status: install ok installed$Version: 1.5$Architecture: all→build one two;Package: a$Pin: version 1.0$Pin-Priority: 1000$;→a=1.0 a=1.5 b=3 | a=1.0 b=3
 ";
 
 // The same where a request may ask for all versions: then each one that may be chosen is admitted, for names that aren't held;

@@ -1,6 +1,6 @@
 //! What `search` answers of lists of clauses, with a checker of refutations of this crate's own; what selections of small
-//! universes are settled to; and how selections that no search would find are put in order. This crate has tests alone, so that
-//! the crates that search aren't proved once more with each of them.
+//! universes are settled to; which records have a name while steps are taken; and how selections that no search would find are put
+//! in order. This crate has tests alone, so that the crates that search and order aren't proved once more with each of them.
 #![tactic(auto)]
 
 #[cfg(test)]
@@ -9,6 +9,8 @@ mod answers;
 mod calls;
 #[cfg(test)]
 mod clauses_true;
+#[cfg(test)]
+mod holders;
 #[cfg(test)]
 mod orders;
 #[cfg(test)]

@@ -1,10 +1,8 @@
 //! Packages of stanzas, their refusals, and which package matches which atom.
-use crate::shown::{
-    is_printed, spelled, write_atoms, write_clauses, write_items, write_part, write_printed,
-};
+use crate::shown::is_printed;
 use relation::{
-    Atom, Pkg, PkgError, PkgFault, PkgFields, RelationError, parse_atoms, parse_clauses,
-    parse_provides,
+    Atom, Clause, Pkg, PkgError, PkgFault, PkgFields, Provided, RelationError, parse_atoms,
+    parse_clauses, parse_provides,
 };
 use relation_text::RelationFault;
 use stanza::{Stanza, Stanzas};
@@ -12,95 +10,97 @@ use std::alloc::{AllocError, Global};
 
 const ARCH: &[u8] = b"amd64";
 
-// The clauses that a package needs.
-fn write_needs(shown: &mut Vec<u8>, pkg: &Pkg<'_>) -> Result<(), AllocError> {
-    write_clauses(shown, pkg.pre_depends())?;
-    shown.extend_from_slice(b"/")?;
-    write_clauses(shown, pkg.depends())
+const EACH: &[u8] = b"VERSION: 1:2-3\nprovides: p (= 1), q:i386\nBreaks: r (<< 2)\nConflicts: s\n\
+Depends:\n t | u,\n v:i386\nPre-Depends: w\npackage: A\n";
+
+fn is_atom(atom: &Atom<'_>, name: &[u8], version: Option<&[u8]>) -> bool {
+    atom.name() == name
+        && match atom.restriction() {
+            Some((_, given)) => version == Some(given.text()),
+            None => version.is_none(),
+        }
 }
 
-// The atoms of a package, and the items that it provides.
-fn write_others(shown: &mut Vec<u8>, pkg: &Pkg<'_>) -> Result<(), AllocError> {
-    shown.extend_from_slice(b"/")?;
-    write_atoms(shown, pkg.conflicts())?;
-    shown.extend_from_slice(b"/")?;
-    write_atoms(shown, pkg.breaks())?;
-    shown.extend_from_slice(b"/")?;
-    write_items(shown, pkg.provides())
-}
-
-fn write_pkg(shown: &mut Vec<u8>, pkg: &Pkg<'_>) -> Result<(), AllocError> {
-    write_part(shown, pkg.name(), b" ")?;
-    write_part(shown, pkg.version().text(), b" ")?;
-    write_needs(shown, pkg)?;
-    write_others(shown, pkg)
-}
-
-fn write_read(alloc: Global, shown: &mut Vec<u8>, stanza: &Stanza<'_>) -> Result<(), AllocError> {
-    match Pkg::from_stanza(alloc, stanza, ARCH) {
-        Ok(pkg) => write_pkg(shown, &pkg),
-        Err(error) => write_printed(alloc, shown, &error),
+fn are_provided(items: &[Provided<'_>]) -> bool {
+    match items {
+        [p, q] => {
+            p.name() == b"p".as_slice()
+                && p.version().is_some()
+                && !p.is_foreign()
+                && q.is_foreign()
+                && q.version().is_none()
+        }
+        _ => false,
     }
 }
 
-// What the check of the relation fields refuses.
-fn write_checked(
+fn are_needed(clauses: &[Clause<'_>]) -> bool {
+    match clauses {
+        [first, second] => match (first.as_slice(), second.as_slice()) {
+            ([t, u], [v]) => is_atom(t, b"t", None) && is_atom(u, b"u", None) && v.is_foreign(),
+            _ => false,
+        },
+        _ => false,
+    }
+}
+
+fn has_each_field(pkg: &Pkg<'_>) -> bool {
+    pkg.name() == b"A".as_slice()
+        && pkg.version().text() == b"1:2-3".as_slice()
+        && pkg.pre_depends().len() == 1
+        && are_needed(pkg.depends())
+        && matches!(pkg.conflicts(), [s] if is_atom(s, b"s", None))
+        && matches!(pkg.breaks(), [r] if is_atom(r, b"r", Some(b"2")))
+        && are_provided(pkg.provides())
+}
+
+fn is_each(alloc: Global, text: &[u8]) -> bool {
+    match Stanzas::new(text).next() {
+        Some(Ok(stanza)) => {
+            PkgFields::in_stanza(&stanza).check_relations().is_ok()
+                && matches!(&Pkg::from_stanza(alloc, &stanza, ARCH), Ok(pkg) if has_each_field(pkg))
+        }
+        _ => false,
+    }
+}
+
+// Whether the package is refused so, and its relation fields by themselves so, or not at all.
+fn is_refused(
     alloc: Global,
-    shown: &mut Vec<u8>,
-    stanza: &Stanza<'_>,
-) -> Result<(), AllocError> {
-    match PkgFields::in_stanza(stanza).check_relations() {
-        Ok(()) => Ok(()),
-        Err(fault) => {
-            shown.extend_from_slice(b" ")?;
-            write_printed(alloc, shown, &fault)
-        }
-    }
-}
-
-// The package of the last stanza of a text, or its refusal as it is printed.
-fn write_last(alloc: Global, shown: &mut Vec<u8>, text: &[u8]) -> Result<(), AllocError> {
-    for item in Stanzas::new(text) {
-        shown.clear();
-        match item {
-            Ok(stanza) => {
-                write_read(alloc, shown, &stanza)?;
-                write_checked(alloc, shown, &stanza)?;
-            }
-            Err(fault) => write_printed(alloc, shown, &fault)?,
-        }
-    }
-    Ok(())
-}
-
-fn is_last(alloc: Global, text: &[u8], wanted: &str) -> Result<bool, AllocError> {
-    let mut shown = Vec::new(alloc);
-    write_last(alloc, &mut shown, text)?;
-    Ok(shown.as_slice() == wanted.as_bytes())
-}
-
-// `$` stands for a newline.
-const PACKAGES: &str = "\
-VERSION: 1:2-3$provides: p (= 1), q$Breaks: r (<< 2)$Conflicts: s$Depends:$ t | u,$ v:i386$Pre-Depends: w$package: A→A 1:2-3 [w]/[t,u][v!]/s/r<<2/p=1,q
-Package: a$→E9 MissingField 1 Version
-Version: 1_$Package: ab-.+C/$→E8 BadName 2 6
-Package: a$Version: 1_0$Depends: b_$→E6 BadVersion 2 BadByte E7 BadRelation 3 1
-Package: a$Version: 1$Pre-Depends: b |$→E8 BadName 3 3 E8 BadName 3 3
-";
-
-fn is_shown(alloc: Global, row: &str) -> Result<bool, AllocError> {
-    let Some((text, wanted)) = row.split_once('→') else {
+    text: &[u8],
+    wanted: &str,
+    relations: Option<&str>,
+) -> Result<bool, AllocError> {
+    let Some(Ok(stanza)) = Stanzas::new(text).next() else {
         return Ok(false);
     };
-    is_last(alloc, text.as_bytes(), wanted)
+    let checked = match PkgFields::in_stanza(&stanza).check_relations() {
+        Ok(()) => relations.is_none(),
+        Err(fault) => is_printed(alloc, &fault, relations.unwrap_or(""))?,
+    };
+    match Pkg::from_stanza(alloc, &stanza, ARCH) {
+        Ok(_) => Ok(false),
+        Err(error) => Ok(checked && is_printed(alloc, &error, wanted)?),
+    }
 }
 
 #[test]
 fn a_package_is_read_from_its_fields(rt: HostRuntime) -> Result<(), AllocError> {
-    for row in PACKAGES.lines() {
-        let row = spelled(rt.alloc(), row)?;
-        assert!(rt; is_shown(rt.alloc(), row.as_str())?, "{row}");
-    }
+    let alloc = rt.alloc();
+    assert!(rt; is_each(alloc, EACH));
+    let missing = b"Package: a\n";
+    assert!(rt; is_refused(alloc, missing, "E9 MissingField 1 Version", None)?);
+    let both = b"Package: a\nVersion: 1_0\nDepends: b_\n";
+    assert!(rt;
+        is_refused(
+            alloc,
+            both,
+            "E6 BadVersion 2 BadByte",
+            Some("E7 BadRelation 3 1")
+        )?
+    );
+    let bar = b"Package: a\nVersion: 1\nPre-Depends: b |\n";
+    assert!(rt; is_refused(alloc, bar, "E8 BadName 3 3", Some("E8 BadName 3 3"))?);
     Ok(())
 }
 

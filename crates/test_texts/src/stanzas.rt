@@ -210,7 +210,7 @@ fn the_readme_example_of_stanza(rt: HostRuntime) {
 // `$` stands for a newline.
 const PLAIN: &str = "\
 $ $\t\t$→
-Package: a$ \t$Package: b$Conffiles:$ /etc/b 0$X: é→1<Package: a$>Package=a@1;3<Package: b$Conffiles:$ /etc/b 0$X: é>Package=b@3;Conffiles=$ /etc/b 0@4;X=é@6;
+A: 1$ \t$B: 2$C:$ /d 0$X: é→1<A: 1$>A=1@1;3<B: 2$C:$ /d 0$X: é>B=2@3;C=$ /d 0@4;X=é@6;
 A:\t 1 \t$→1<A:\t 1 \t$>A=1@1;
 A: 1\r$→1<A: 1\r$>A=1\r@1;
 A:$ .$\t b $B: 2$→1<A:$ .$\t b $B: 2$>A=$ .$\t b@1;B=2@4;

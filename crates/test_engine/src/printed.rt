@@ -1,5 +1,4 @@
-// The lines of documents, by hand as RFC 8259 has them: the members of an object stand in the order of the bytes of their keys.
-
+//! The lines of documents, by hand as RFC 8259 has them: the members of an object stand in the order of the bytes of their keys.
 use documents::{
     Archives, Members, candidate_value, document, no_candidate_value, put_bad_line, put_sentences,
     put_steps, put_undecided, put_verdict, read_archives,

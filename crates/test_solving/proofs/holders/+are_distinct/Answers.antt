@@ -3,7 +3,7 @@ use Rattle.std.proofs.Common.{◌≡◌, ◌≢◌, ℕ, List, ◌∷◌, length
 use Rattle.std.specs.List.{All}
 use Rattle.std.proofs.lemmas.List.Kept.{AllPairs-cons}
 use Rattle.rules.specs.Database.{Record, HasDistinctNames}
-use Rattle.test_plans.proofs.records.+are_distinct.Goals as goal
+use Rattle.test_solving.proofs.holders.+are_distinct.Goals as goal
 
 none : (records : List Record) → length records ≡ 0 → HasDistinctNames records
 unfolding HasDistinctNames
