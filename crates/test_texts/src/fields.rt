@@ -1,122 +1,124 @@
 //! Values of relation fields (Policy 7.1): what they spell, and that a parser refuses what the check refuses. Most values that are
-//! refused are shown by the scenarios. Offsets were counted in the row.
-use crate::shown::{is_printed, spelled, write_atoms, write_clauses, write_items, write_printed};
-use relation::{Form, parse_atoms, parse_clauses, parse_provides};
+//! refused are shown by the scenarios. Offsets were counted in the value.
+use crate::shown::is_printed;
+use relation::{Atom, Clause, Form, Op, Provided, parse_atoms, parse_clauses, parse_provides};
 use relation_text::{RelationFault, check};
 use std::alloc::{AllocError, Global};
-use std::process::Abort;
 
 const ARCH: &[u8] = b"amd64";
 
-fn write_as_clauses(alloc: Global, shown: &mut Vec<u8>, value: &[u8]) -> Result<(), AllocError> {
-    match parse_clauses(alloc, value, ARCH) {
-        Ok(clauses) => write_clauses(shown, clauses.as_slice()),
-        Err(error) => write_printed(alloc, shown, &error),
+// Whether the atom has this name and this restriction.
+fn is_atom(atom: &Atom<'_>, name: &[u8], wanted: Option<(Op, &[u8])>) -> bool {
+    atom.name() == name
+        && match (atom.restriction(), wanted) {
+            (Some((op, version)), Some((sign, text))) => op == sign && version.text() == text,
+            (None, None) => true,
+            _ => false,
+        }
+}
+
+fn are_alternatives(atoms: &[Atom<'_>]) -> bool {
+    match atoms {
+        [a, b] => {
+            is_atom(a, b"a", None) && is_atom(b, b"b", Some((Op::StrictlyEarlier, b"2".as_slice())))
+        }
+        _ => false,
     }
 }
 
-fn write_as_atoms(alloc: Global, shown: &mut Vec<u8>, value: &[u8]) -> Result<(), AllocError> {
-    match parse_atoms(alloc, value, ARCH) {
-        Ok(atoms) => write_atoms(shown, atoms.as_slice()),
-        Err(error) => write_printed(alloc, shown, &error),
+fn is_alone(atoms: &[Atom<'_>], name: &[u8], op: Op, version: &[u8], is_foreign: bool) -> bool {
+    match atoms {
+        [atom] => is_atom(atom, name, Some((op, version))) && atom.is_foreign() == is_foreign,
+        _ => false,
     }
 }
 
-fn write_as_items(alloc: Global, shown: &mut Vec<u8>, value: &[u8]) -> Result<(), AllocError> {
-    match parse_provides(alloc, value, ARCH) {
-        Ok(items) => write_items(shown, items.as_slice()),
-        Err(error) => write_printed(alloc, shown, &error),
+// Whether these are the clauses of the value in the test below.
+fn are_clauses(clauses: &[Clause<'_>]) -> bool {
+    match clauses {
+        [first, second, third, fourth] => {
+            is_alone(
+                first.as_slice(),
+                b"python3",
+                Op::LaterOrEqual,
+                b"3.5",
+                false,
+            ) && are_alternatives(second.as_slice())
+                && is_alone(third.as_slice(), b"c", Op::EarlierOrEqual, b"1", false)
+                && is_alone(fourth.as_slice(), b"d", Op::ExactlyEqual, b"1:2-3", true)
+        }
+        _ => false,
     }
 }
 
-// What a value spells, or its refusal as it is printed.
-fn write_value(
-    alloc: Global,
-    shown: &mut Vec<u8>,
-    form: Form,
-    value: &[u8],
-) -> Result<(), AllocError> {
-    match form {
-        Form::Clauses => write_as_clauses(alloc, shown, value),
-        Form::Atoms => write_as_atoms(alloc, shown, value),
-        Form::Provides => write_as_items(alloc, shown, value),
+// White space is free between parts, empty items are skipped, and `<` is `<=`.
+#[test]
+fn clauses_are_what_commas_part_and_bars_part_their_atoms(rt: HostRuntime) {
+    let value = b"python3:any (>= 3.5), ,\n a | b\t(<<\n2 ), c(< 1),d:i386 (= 1:2-3),";
+    let clauses = parse_clauses(rt.alloc(), value, ARCH);
+    assert!(rt; matches!(&clauses, Ok(clauses) if are_clauses(clauses.as_slice())));
+    assert!(rt; check(Form::Clauses, value).is_ok());
+    let none = parse_clauses(rt.alloc(), b" , ,\n,", ARCH);
+    assert!(rt; matches!(&none, Ok(clauses) if clauses.is_empty()));
+}
+
+fn are_items(items: &[Provided<'_>]) -> bool {
+    match items {
+        [a, b] => {
+            a.name() == b"a".as_slice()
+                && a.version().is_none()
+                && !a.is_foreign()
+                && matches!(b.version(), Some(version) if version.text() == b"3".as_slice())
+                && b.is_foreign()
+        }
+        _ => false,
     }
 }
 
-fn is_parsed(alloc: Global, form: Form, value: &[u8], wanted: &str) -> Result<bool, AllocError> {
-    let mut shown = Vec::new(alloc);
-    write_value(alloc, &mut shown, form, value)?;
-    Ok(shown.as_slice() == wanted.as_bytes())
+#[test]
+fn atoms_and_items_are_what_commas_part(rt: HostRuntime) {
+    let atoms = parse_atoms(rt.alloc(), b"a, b:i386 (<< 2) ,, c(> 1),", ARCH);
+    assert!(rt; matches!(&atoms, Ok(atoms) if atoms.len() == 3));
+    let items = parse_provides(rt.alloc(), b"a, b:i386 (= 3)", ARCH);
+    assert!(rt; matches!(&items, Ok(items) if are_items(items.as_slice())));
 }
 
-// Whether the refusal of the check, if there is one, is printed so.
+// Whether the check refuses the value, and this fault is printed so.
 fn is_checked(alloc: Global, form: Form, value: &[u8], wanted: &str) -> Result<bool, AllocError> {
     match check(form, value) {
-        Ok(()) => Ok(true),
+        Ok(()) => Ok(false),
         Err(fault) => is_printed(alloc, &fault, wanted),
     }
 }
 
-fn is_value(alloc: Global, form: Form, value: &[u8], wanted: &str) -> Result<bool, AllocError> {
-    Ok(is_parsed(alloc, form, value, wanted)? && is_checked(alloc, form, value, wanted)?)
-}
-
-// The value before the arrow spells what is behind it, or is refused so, by the parser and by the check alike.
-fn is_read(alloc: Global, form: Form, row: &str) -> Result<bool, AllocError> {
-    let Some((text, wanted)) = row.split_once('→') else {
-        return Ok(false);
+// Whether the parser refuses the value, and this fault is printed so.
+fn is_unparsed(alloc: Global, form: Form, value: &[u8], wanted: &str) -> Result<bool, AllocError> {
+    let refused = match form {
+        Form::Clauses => parse_clauses(alloc, value, ARCH).err(),
+        Form::Atoms => parse_atoms(alloc, value, ARCH).err(),
+        Form::Provides => parse_provides(alloc, value, ARCH).err(),
     };
-    is_value(alloc, form, text.as_bytes(), wanted)
-}
-
-fn assert_rows<R: Abort + AllocGlobal>(rt: &R, form: Form, rows: &str) -> Result<(), AllocError> {
-    for row in rows.lines() {
-        let row = spelled(rt.alloc(), row)?;
-        assert!(rt; is_read(rt.alloc(), form, row.as_str())?, "{row}");
+    match refused {
+        Some(error) => is_printed(alloc, &error, wanted),
+        None => Ok(false),
     }
+}
+
+fn is_refused(alloc: Global, form: Form, value: &[u8], wanted: &str) -> Result<bool, AllocError> {
+    Ok(is_checked(alloc, form, value, wanted)? && is_unparsed(alloc, form, value, wanted)?)
+}
+
+#[test]
+fn a_value_is_refused_at_its_least_offset(rt: HostRuntime) -> Result<(), AllocError> {
+    let alloc = rt.alloc();
+    assert!(rt; is_refused(alloc, Form::Clauses, b"a | , b", "E8 BadName 4")?);
+    assert!(rt; is_refused(alloc, Form::Clauses, b"a_, b (= -)", "E7 BadRelation 1")?);
+    assert!(rt; is_refused(alloc, Form::Atoms, b"a | b", "E7 BadRelation 2")?);
+    assert!(rt; is_refused(alloc, Form::Provides, b"a (>= 1)", "E7 BadRelation 3")?);
+    // At the end of a value white space is passed over, and a field ends before it.
+    assert!(rt; is_refused(alloc, Form::Clauses, b"a |  ", "E8 BadName 5")?);
+    assert!(rt; is_refused(alloc, Form::Clauses, b"\0", "E8 BadName 0")?);
     Ok(())
-}
-
-// `$` stands for a newline.
-const CLAUSES: &str = "\
-python3:any (>= 3.5), a | b (<< 2), c (> 1)→[python3>=3.5][a,b<<2][c>=1]
- , ,$,→
-$ a\t($>=\t1 ) |$ b ,→[a>=1,b]
-a (< 1)→[a<=1]
-a (= 1:2.0~rc1+b-3~)→[a=1:2.0~rc1+b-3~]
-a:native (= 1)→[a=1]
-a:hurd-i386(= 1) | b→[a!=1,b]
-a:Any→[a!]
-a | , b→E8 BadName 4
-a_, b (= -)→E7 BadRelation 1
-";
-
-#[test]
-fn clauses_are_what_commas_part_and_bars_part_their_atoms(
-    rt: HostRuntime,
-) -> Result<(), AllocError> {
-    assert_rows(&rt, Form::Clauses, CLAUSES)
-}
-
-const ATOMS: &str = "\
-→
-a, b:i386 (<< 2) ,, c(> 1),→a,b!<<2,c>=1
-a | b→E7 BadRelation 2
-";
-
-#[test]
-fn atoms_have_no_alternatives(rt: HostRuntime) -> Result<(), AllocError> {
-    assert_rows(&rt, Form::Atoms, ATOMS)
-}
-
-const PROVIDES: &str = "\
-a, b (= 1.0) , c:any(=2), d:i386 (= 3)→a,b=1.0,c=2,d!=3
-a (>= 1)→E7 BadRelation 3
-";
-
-#[test]
-fn provides_takes_one_operator(rt: HostRuntime) -> Result<(), AllocError> {
-    assert_rows(&rt, Form::Provides, PROVIDES)
 }
 
 #[test]

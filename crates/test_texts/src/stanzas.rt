@@ -1,58 +1,9 @@
 //! Control texts, each with its stanzas and its fault, after Debian Policy 5.1 and by hand: whole, and piece by piece, where each
-//! cutting of a text gives what the whole text gives.
+//! cutting of a text in three gives the same.
 use crate::shown::{spelled, write_part, write_printed};
-use stanza::{Field, Form, ReadFailed, ReadStanza, Reader, Source, Stanza, Stanzas};
+use stanza::{Form, ReadFailed, ReadStanza, Reader, Source, Stanza, StanzaError, Stanzas};
 use std::alloc::{AllocError, Global};
 use std::process::Abort;
-
-// A field as `NAME=VALUE@LINE;`.
-fn write_field(alloc: Global, shown: &mut Vec<u8>, field: &Field<'_>) -> Result<(), AllocError> {
-    write_part(shown, field.name(), b"=")?;
-    write_part(shown, field.value(), b"@")?;
-    write_printed(alloc, shown, &field.line())?;
-    shown.extend_from_slice(b";")
-}
-
-// A stanza as `LINE<BYTES>` and its fields.
-fn write_stanza(alloc: Global, shown: &mut Vec<u8>, stanza: &Stanza<'_>) -> Result<(), AllocError> {
-    write_printed(alloc, shown, &stanza.line())?;
-    write_part(shown, b"<", stanza.raw())?;
-    shown.extend_from_slice(b">")?;
-    for field in stanza.fields() {
-        write_field(alloc, shown, &field)?;
-    }
-    Ok(())
-}
-
-// The stanzas of a text and the fault after them.
-fn write_stanzas(
-    alloc: Global,
-    shown: &mut Vec<u8>,
-    stanzas: Stanzas<'_>,
-) -> Result<(), AllocError> {
-    for item in stanzas {
-        match item {
-            Ok(stanza) => write_stanza(alloc, shown, &stanza)?,
-            Err(fault) => write_printed(alloc, shown, &fault)?,
-        }
-    }
-    Ok(())
-}
-
-fn is_shown_whole(
-    alloc: Global,
-    text: &[u8],
-    form: Form,
-    wanted: &[u8],
-) -> Result<bool, AllocError> {
-    let stanzas = match form {
-        Form::Plain => Stanzas::new(text),
-        Form::Commented => Stanzas::with_comments(text),
-    };
-    let mut shown = Vec::new(alloc);
-    write_stanzas(alloc, &mut shown, stanzas)?;
-    Ok(shown.as_slice() == wanted)
-}
 
 // A text that is given in three pieces.
 #[derive(Drop)]
@@ -93,7 +44,8 @@ impl Source for Pieces<'_> {
     }
 }
 
-fn write_read_stanza(
+// A stanza as `LINE<BYTES>`, and each of its fields as `NAME=VALUE@LINE;`.
+fn write_stanza(
     alloc: Global,
     shown: &mut Vec<u8>,
     stanza: &ReadStanza<'_>,
@@ -139,7 +91,7 @@ fn read_in_pieces(
             }
         }
         match reader.stanza() {
-            Some(stanza) => write_read_stanza(alloc, &mut shown, &stanza)?,
+            Some(stanza) => write_stanza(alloc, &mut shown, &stanza)?,
             None => break,
         }
     }
@@ -165,14 +117,10 @@ fn is_shown_in_pieces(
     Ok(true)
 }
 
-// The text before the arrow is shown in pieces as is said behind it, and whole too where the reader has room for all of it.
+// The text before the arrow is shown in pieces as is said behind it.
 fn is_shown(alloc: Global, form: Form, most: usize, row: &str) -> Result<bool, AllocError> {
     let (text, wanted) = row.split_once('→').unwrap_or((row, ""));
-    let (text, wanted) = (text.as_bytes(), wanted.as_bytes());
-    if most >= text.len() && !is_shown_whole(alloc, text, form, wanted)? {
-        return Ok(false);
-    }
-    is_shown_in_pieces(alloc, text, form, most, wanted)
+    is_shown_in_pieces(alloc, text.as_bytes(), form, most, wanted.as_bytes())
 }
 
 fn assert_rows<R: Abort + AllocGlobal>(
@@ -320,6 +268,30 @@ Explanation: y$explanation: y$#x$N64: y→E4 DuplicateField 104
 fn a_field_is_repeated_among_many(rt: HostRuntime) -> Result<(), AllocError> {
     assert_among_many(&rt, Form::Plain, AMONG_MANY)?;
     assert_among_many(&rt, Form::Commented, AMONG_MANY_COMMENTED)
+}
+
+// Whether the fields are those of the stanza, in the order of their lines.
+fn has_its_fields(stanza: &Stanza<'_>) -> bool {
+    let mut fields = stanza.fields();
+    match (fields.next(), fields.next(), fields.next()) {
+        (Some(first), Some(second), None) => {
+            first.name() == b"A".as_slice()
+                && first.value() == b"1\n x".as_slice()
+                && (first.line(), second.line()) == (3, 5)
+                && second.name() == b"B".as_slice()
+        }
+        _ => false,
+    }
+}
+
+#[test]
+fn a_whole_text_has_its_stanzas_up_to_its_fault(rt: HostRuntime) {
+    let mut stanzas = Stanzas::new(b"\n \t\nA: 1\n x\nB: 2\n\nA: 1\na: 2\n\nC: 3\n");
+    assert!(rt; matches!(stanzas.next(), Some(Ok(stanza)) if has_its_fields(&stanza)));
+    assert!(rt;
+        matches!(stanzas.next(), Some(Err(fault)) if fault == StanzaError::DuplicateField(8))
+    );
+    assert!(rt; stanzas.next().is_none());
 }
 
 fn has_value(stanza: &Stanza<'_>, name: &[u8], wanted: &[u8]) -> bool {
