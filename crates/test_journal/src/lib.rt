@@ -1,8 +1,22 @@
-//! What the bytes of a journal are read as, and what crashes and failing calls leave of one, row by row (docs/FORMATS.md,
-//! "Journal file"). This crate has tests alone, so that `journal` isn't proved once more with each of them.
+//! Callers of `disk` that know nothing but its contracts, with what they promise of a crash; and tests: what crashes and failing
+//! calls leave of a file in memory, of a journal (docs/FORMATS.md, "Journal file") and of a plan that a journal takes. They stand in
+//! a crate of their own, so that `disk`, `journal` and `apply` aren't proved once more with each of them. Begin with `callers.rt`.
 #![tactic(auto)]
 
+mod callers;
 #[cfg(test)]
-mod crashes;
+mod disk_crashes;
 #[cfg(test)]
-mod files;
+mod disk_failures;
+#[cfg(test)]
+mod disk_files;
+#[cfg(test)]
+mod fuses;
+#[cfg(test)]
+mod journal_crashes;
+#[cfg(test)]
+mod journal_files;
+#[cfg(test)]
+mod plans;
+
+pub use callers::{unwritten, written};

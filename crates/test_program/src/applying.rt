@@ -1,8 +1,7 @@
 //! A plan that is carried out over files in memory: what is put in the place of the output, and that nothing is where the journal
 //! or the output fails or the plan isn't good.
-use crate::memory::{Memory, Printed, run_line};
+use crate::memory::{Memory, Printed, run_line, spelled};
 use disk::{Failing, Fuse};
-use rows::unescaped;
 use std::alloc::{AllocError, Global};
 use std::test::Fail;
 
@@ -41,7 +40,7 @@ fn the_status_file_behind_a_plan_is_put_in_its_place(rt: HostRuntime) -> Result<
     let alloc = rt.alloc();
     let mut host = host_with(alloc, PLAN)?;
     assert!(rt; applied(alloc, &mut host)?.is(alloc, "0 applied 4$|")?);
-    let end = unescaped(alloc, END)?;
+    let end = spelled(alloc, END)?;
     assert!(rt; host.put_text() == Some(end.as_slice()));
     // (the index is opened a second time, for the stanzas that are unpacked)
     assert!(rt; host.opened() == b"status sources index request plan index ".as_slice());

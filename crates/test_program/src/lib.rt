@@ -1,6 +1,6 @@
 //! What a call of the program shows and a command line over files doesn't: which files are opened and in which order, words
-//! that are empty or no text, failing readers and writers, the calls below `run`, and those over texts in memory. What the
-//! program answers over files stands in the folder `scenarios`. This crate has tests alone, so that `cli` isn't proved once
+//! that are empty or no text, failing readers and writers, and the calls below `run`. What the program answers over files stands in
+//! the folder `scenarios`. This crate has tests alone, so that `cli` isn't proved once
 //! more with each of them.
 #![tactic(auto)]
 
@@ -8,8 +8,6 @@
 mod applying;
 #[cfg(test)]
 mod comparing;
-#[cfg(test)]
-mod formats;
 #[cfg(test)]
 mod judging;
 #[cfg(test)]
@@ -20,7 +18,5 @@ mod opening;
 mod scenario;
 #[cfg(test)]
 mod streams;
-#[cfg(test)]
-mod texts;
 #[cfg(test)]
 mod words;

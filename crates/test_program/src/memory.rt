@@ -5,9 +5,13 @@ ghost use Rattle.inputs.specs.declared.shelf.ReadError.TheVariants as ReadError;
 
 use cli::{Host, PutError, ReadError, ReadFailed, Source, run};
 use disk::{Fuse, MemoryDisk};
-use rows::unescaped;
 use std::alloc::{AllocError, Global};
 use std::test::Fail;
+
+/// The text with a newline for each `$`.
+pub(crate) fn spelled(alloc: Global, text: &str) -> Result<Vec<u8>, AllocError> {
+    Ok(text.replace(alloc, "$", "\n")?.into_bytes())
+}
 
 #[derive(Drop)]
 struct File<'a> {
@@ -43,7 +47,7 @@ impl<'a> Memory<'a> {
 
     /// Adds a file, in whose text `$` stands for a newline.
     pub(crate) fn add(&mut self, alloc: Global, path: &'a str, text: &str) -> Result<(), Fail> {
-        let text = unescaped(alloc, text)?;
+        let text = spelled(alloc, text)?;
         self.files.push(File { path, text })?;
         Ok(())
     }
@@ -198,7 +202,7 @@ pub(crate) struct Printed {
 impl Printed {
     /// Whether this was printed: the exit status, standard output, a bar, and standard error.
     pub(crate) fn is(&self, alloc: Global, wanted: &str) -> Result<bool, AllocError> {
-        let wanted = unescaped(alloc, wanted)?;
+        let wanted = spelled(alloc, wanted)?;
         Ok(self.is_spelled(wanted.as_slice()))
     }
 

@@ -1,18 +1,23 @@
-//! Control texts, plans and requests: what they are read as, and plans as they are written, row by row. This crate has tests
-//! alone, so that none of their readers is proved once more with each of them.
+//! Control texts, versions, relation fields, plans, requests and refutations: each public call of their readers and writers, and
+//! each refused growth. What a command line shows of such texts stands in the folder `scenarios`. This crate has tests alone, so
+//! that none of the readers is proved once more with each of them.
 #![tactic(auto)]
 
 #[cfg(test)]
 mod collecting;
 #[cfg(test)]
+mod fields;
+#[cfg(test)]
+mod packages;
+#[cfg(test)]
 mod plans;
 #[cfg(test)]
-mod reading;
+mod refutations;
 #[cfg(test)]
 mod requests;
 #[cfg(test)]
+mod shown;
+#[cfg(test)]
 mod stanzas;
 #[cfg(test)]
-mod texts;
-#[cfg(test)]
-mod written;
+mod versions;
