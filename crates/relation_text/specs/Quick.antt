@@ -1,10 +1,11 @@
 -- A quick reading of a relation field's value: the automaton of `Shape`, which also remembers in a version (Policy 5.6.12
 -- and 7.1) what stands before the next byte. It accepts no value that is refused, and refuses some that aren't: with an
 -- epoch of two digits or more, with a colon in an upstream version, and with a hyphen at its front.
-use Rattle.std.specs.Prelude.{◌≡◌, ℕ, ◌<◌, ◌/◌, ◌%◌, true, ◌||◌, List, [], ◌∷◌, length, slice_index, slice_index_or, if◌then◌else◌}
+use Rattle.std.specs.Prelude.{◌≡◌, ℕ, ◌<◌, ◌/◌, ◌%◌, true, Bool, ◌&&◌, ◌||◌, List, [], ◌∷◌, length, nat_lt, slice_index, slice_index_or, if◌then◌else◌}
 use Rattle.std.specs.Char.{is_ascii_digit}
 use Rattle.rules.specs.Version.{is_colon, is_hyphen}
 use Rattle.relation_text.specs.Place.{is_end}
+use Rattle.relation_text.specs.Refusal.{most_atoms}
 use Rattle.relation_text.specs.Shape.{next}
 use Rattle.relation_text.specs.declared.quick.State.{State}
 use Rattle.relation_text.specs.declared.quick.State.TheVariants.{At, OneDigit, BehindEpoch, BehindHyphen}
@@ -63,6 +64,11 @@ quick_after form state (b ∷ bytes) = quick_after form (quick_next form state b
 -- the bytes lead from the state to a place where a value may end
 abbrev pub QuickEnds : Form → State → List ℕ → Type 0
 QuickEnds form state bytes = is_end (place_of (quick_after form state bytes)) ≡ true
+
+-- the quick reading accepts the value: it has fewer bytes than a field may have atoms, and they lead to a place where a value
+-- may end
+abbrev pub quick_accepts : Form → List ℕ → Bool
+quick_accepts form value = nat_lt (length value) most_atoms && is_end (place_of (quick_after form (At Between) value))
 
 -- the states, in the order of their numbers
 abbrev pub states : List State

@@ -1,7 +1,7 @@
 //! The quick test of a value by tables, in front of the exact one.
 ghost use Rattle.std.specs.Prelude.{◌≡◌, ◌<◌, IfOk, IsTrue, MatchResult, None, Some};
 ghost use Rattle.relation_text.specs.Quick as Spec;
-ghost use Rattle.relation_text.specs.Quick.{IsTable, quick_after};
+ghost use Rattle.relation_text.specs.Quick.{IsTable, quick_accepts, quick_after};
 ghost use Rattle.relation_text.specs.Refusal.{fault_of};
 ghost use Rattle.relation_text.specs.declared.quick.State.TheVariants.{At};
 ghost use Rattle.relation_text.specs.declared.shape.Form.TheVariants as form_is;
@@ -81,9 +81,11 @@ impl Acceptor {
         number
     }
 
-    /// Whether the tables accept the value, which then isn't refused. One look a byte.
+    /// Whether the tables accept the value, which then isn't refused: where it has fewer than 65,535 bytes, and the quick
+    /// reading of them comes to an end. One look a byte.
     pub fn accepts(&self, form: Form, value: &[u8]) -> bool
-        ensures { IsTrue result → fault_of form value.now ≡ None }
+        ensures exact { result ≡ quick_accepts form value.now }
+        ensures sound { IsTrue result → fault_of form value.now ≡ None }
     {
         value.len() < MOST_ATOMS && is_end(place_of(state_of(self.number_after(form, value))))
     }
