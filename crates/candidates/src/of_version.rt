@@ -47,7 +47,7 @@ fn kept_among<'a>(standing: Option<Version<'a>>, places: &[Place<'_, 'a>]) -> Op
 {
     match (standing, places) {
         (Some(version), _) => Some(version),
-        (None, [first, ..]) => Some(first.version().again()),
+        (None, [first, ..]) => Some(first.version()),
         (None, []) => None,
     }
 }

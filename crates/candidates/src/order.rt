@@ -41,8 +41,8 @@ impl<'p, 'a> Found<'p, 'a> {
     }
 
     /// The version of the package.
-    pub fn version(&self) -> &Version<'a>
-        ensures { result.now ≡ self.now.pkg.version }
+    pub fn version(&self) -> Version<'a>
+        ensures { result ≡ self.now.pkg.version }
     {
         self.entry.version()
     }
@@ -154,7 +154,7 @@ impl Ord for Found<'_, '_> {
 
     fn cmp(&self, other: &Self) -> Ordering {
         match self.name().cmp(other.name()) {
-            Ordering::Equal => self.version().cmp(other.version()),
+            Ordering::Equal => self.version().cmp(&other.version()),
             decided => decided,
         }
     }

@@ -50,8 +50,8 @@ impl<'p, 'a> Place<'p, 'a> {
     }
 
     /// The version of the package.
-    pub fn version(&self) -> &Version<'a>
-        ensures { result.now ≡ self.now.listed.pkg.version }
+    pub fn version(&self) -> Version<'a>
+        ensures { result ≡ self.now.listed.pkg.version }
     {
         self.entry.version()
     }
@@ -81,7 +81,7 @@ impl<'p, 'a> Place<'p, 'a> {
     fn is_of(&self, name: &[u8], version: &Version<'_>) -> bool
         ensures { result ≡ is_of name.now version.now self.now.listed.pkg }
     {
-        self.name() == name && self.version() == version
+        self.name() == name && self.version() == *version
     }
 
     // Whether it has the name and the version of another.
@@ -264,7 +264,7 @@ impl Ord for Place<'_, '_> {
 
     fn cmp(&self, other: &Self) -> Ordering {
         match self.name_cmp(other) {
-            Ordering::Equal => self.version().cmp(other.version()),
+            Ordering::Equal => self.version().cmp(&other.version()),
             decided => decided,
         }
     }

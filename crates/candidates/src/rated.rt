@@ -64,7 +64,7 @@ fn kept<'a>(standing: Option<Version<'a>>, first: &Place<'_, 'a>) -> Version<'a>
 {
     match standing {
         Some(version) => version,
-        None => first.version().again(),
+        None => first.version(),
     }
 }
 
@@ -96,7 +96,7 @@ fn eligible_of<'a>(
     ensures { IfOk result (λ chosen. IsEligibleOfRun prefs.now known.now first.now run.now chosen) }
 {
     let record = record_of(known, first.name());
-    let standing = standing_in(record, first.version());
+    let standing = standing_in(record, &first.version());
     let offer = offer_of(alloc, prefs, standing, first, run)?;
     Ok(eligible_beside(record, offer))
 }

@@ -13,7 +13,7 @@ use universe::Start;
 // Whether the pair of this number is of this version.
 fn is_in_version(part: &Part<'_, '_, '_>, number: u32, version: Option<&Version<'_>>) -> bool {
     match (part.pair(number), version) {
-        (Some(pair), Some(version)) => pair.version() == version,
+        (Some(pair), Some(version)) => pair.version() == *version,
         _ => false,
     }
 }

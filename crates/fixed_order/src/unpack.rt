@@ -23,7 +23,7 @@ use universe::{Pair, Universe};
 fn is_away(start: &Records<'_, '_>, pair: &Pair<'_, '_>) -> bool
     ensures { result ≡ is_away start.now pair.now.pkg }
 {
-    !stands_as(start, pair.name(), pair.version())
+    !stands_as(start, pair.name(), &pair.version())
 }
 
 /// The pairs whose versions don't stand. Memory alone can fail. A look-up for each.
@@ -73,7 +73,7 @@ fn stanza_of<'a>(
 ) -> Result<Option<IndexPackage<'a>>, AllocError>
     ensures { IfOk result (λ listed. listed ≡ stanza_of universe.now pair.now.pkg) }
 {
-    match universe.listed_of(pair.name(), pair.version()) {
+    match universe.listed_of(pair.name(), &pair.version()) {
         None => Ok(None),
         Some(entry) => {
             let listed = entry.package(alloc)?;

@@ -45,13 +45,13 @@ impl<'a> Member<'a> {
     ) -> Result<Member<'a>, AllocError>
         ensures { IfOk result (λ member. member ≡ with_stanza universe.now pair.now) }
     {
-        let listed = match universe.listed_of(pair.name(), pair.version()) {
+        let listed = match universe.listed_of(pair.name(), &pair.version()) {
             None => None,
             Some(entry) => Some(entry.package(alloc)?),
         };
         Ok(Member {
             name: pair.name(),
-            version: pair.version().again(),
+            version: pair.version(),
             listed,
         })
     }

@@ -8,14 +8,14 @@ use std::alloc::{AllocError, Global};
 
 // The versions of each name in the indices so far.
 #[derive(Drop)]
-struct Listed<'k, 'a> {
+struct Listed<'a> {
     alloc: Global,
-    versions: IndexMap<&'a [u8], Vec<&'k Version<'a>>>,
+    versions: IndexMap<&'a [u8], Vec<Version<'a>>>,
 }
 
-impl<'k, 'a> Listed<'k, 'a> {
+impl<'a> Listed<'a> {
     // Adds the version of the stanza, and tells whether it wasn't there. Memory alone can fail.
-    fn add(&mut self, entry: &'k IndexEntry<'a>) -> Result<bool, AllocError> {
+    fn add(&mut self, entry: &IndexEntry<'a>) -> Result<bool, AllocError> {
         if let Some(versions) = self.versions.get_mut(&entry.name()) {
             if versions.iter().any(|version| *version == entry.version()) {
                 return Ok(false);
@@ -30,7 +30,7 @@ impl<'k, 'a> Listed<'k, 'a> {
     }
 
     // Adds the versions of the index, and tells whether one of them wasn't there. Memory alone can fail.
-    fn add_all(&mut self, index: &'k Index<'a>) -> Result<bool, AllocError> {
+    fn add_all(&mut self, index: &Index<'a>) -> Result<bool, AllocError> {
         let mut adds = false;
         for entry in index.packages() {
             if self.add(entry)? {

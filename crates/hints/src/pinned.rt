@@ -72,7 +72,7 @@ fn takes_name(names: &PinnedNames, name: &[u8]) -> bool {
 
 // Whether the record speaks of the version of this stanza, as far as its name and its version say.
 fn takes_entry(preference: &Preference, entry: &IndexEntry<'_>) -> bool {
-    takes_name(&preference.names, entry.name()) && takes_version(&preference.pin, entry.version())
+    takes_name(&preference.names, entry.name()) && takes_version(&preference.pin, &entry.version())
 }
 
 // Whether the record speaks of a version in the index.

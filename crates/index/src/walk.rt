@@ -1,14 +1,17 @@
 //! What is read of a stanza, found in one walk over its lines.
-ghost use Rattle.std.specs.Prelude.{◌≡◌, [], Err, MatchResult, Ok, codes};
+ghost use Rattle.std.specs.Prelude.{◌≡◌, ◌||◌, [], Err, MatchResult, Ok, Some};
 ghost use Rattle.std.specs.Option.{option_copied, option_or};
+ghost use Rattle.relation.specs.Kind.{IsOfKind};
+ghost use Rattle.relation.specs.PackageStanza.{field_of};
 ghost use Rattle.relation.specs.PkgText.{pkg_fault};
 ghost use Rattle.relation.specs.PkgValues.{values_of};
+ghost use Rattle.rules.specs.Stanza.{marks_essential};
 ghost use Rattle.index.specs.Streamed.{read_values, unless_refused};
-ghost use Rattle.index.specs.Walk.{found_in, found_of, value_if_named, with_field};
+ghost use Rattle.index.specs.Walk.{found_in, found_of, with_field};
 
 use crate::error::IndexFault;
-use relation::{Acceptor, PkgFields, PkgValues, counts_for, marks_essential};
-use stanza::{Field, ReadStanza, Stanza};
+use relation::{Acceptor, Kind, PkgFields, PkgValues, counts_for, kind_of, marks_essential};
+use stanza::{Field, FieldAt, ReadStanza, Stanza};
 use std::marker::Model;
 
 // The fields of the package, the value of Architecture, and whether the package is marked essential.
@@ -28,15 +31,21 @@ impl<'a> Model for Found<'a> {
     ghost view = { λ f. record { pkg = f.pkg; architecture = option_copied f.architecture; is_essential = f.is_essential } };
 }
 
-// The value of Architecture: the one found before, or that of the field, where it is called so.
-fn architecture_with<'a>(found: Option<&'a [u8]>, field: &Field<'a>) -> Option<&'a [u8]>
-    ensures { option_copied result ≡ option_or (option_copied found.entry) (value_if_named (codes "Architecture") field.now) }
+// The value of Architecture: the one found before, or that of the field.
+fn architecture_with<'a>(before: Option<&'a [u8]>, field: &Field<'a>) -> Option<&'a [u8]>
+    ensures { option_copied result ≡ option_or (option_copied before.entry) (Some field.now.value) }
 {
-    match found {
-        Some(_) => found,
-        None if field.name().eq_ignore_ascii_case(b"Architecture") => Some(field.value()),
-        None => None,
+    match before {
+        Some(_) => before,
+        None => Some(field.value()),
     }
+}
+
+// Whether the package was marked essential before, or the field marks it.
+fn is_marked(before: bool, field: &Field<'_>) -> bool
+    ensures { result ≡ (before || marks_essential (field_of field.now)) }
+{
+    before || marks_essential(field)
 }
 
 // The values of the fields, or their first refusal.
@@ -65,12 +74,35 @@ impl<'a> Found<'a> {
         }
     }
 
+    // Takes one more field of the stanza, which is of this kind.
+    fn add_of_kind(&mut self, kind: Kind, field: &Field<'a>)
+        requires { IsOfKind kind field.now.name }
+        ensures { self.new ≡ with_field self.old field.now }
+    {
+        match kind {
+            Kind::Architecture => self.architecture = architecture_with(self.architecture, field),
+            Kind::Essential => self.is_essential = is_marked(self.is_essential, field),
+            Kind::Protected => self.is_essential = is_marked(self.is_essential, field),
+            _ => self.pkg.add_of_kind(kind, field),
+        }
+    }
+
+    // Takes one more field of the stanza.
     fn add(&mut self, field: &Field<'a>)
         ensures { self.new ≡ with_field self.old field.now }
     {
-        self.pkg.add(field);
-        self.architecture = architecture_with(self.architecture, field);
-        self.is_essential = self.is_essential || marks_essential(field);
+        if let Some(kind) = kind_of(field.name()) {
+            self.add_of_kind(kind, field);
+        }
+    }
+
+    // The same of a field whose value isn't cut out: it is where something is read from it.
+    fn add_read(&mut self, field: &FieldAt<'a>)
+        ensures { self.new ≡ with_field self.old field.now }
+    {
+        if let Some(kind) = kind_of(field.name()) {
+            self.add_of_kind(kind, &field.field());
+        }
     }
 
     // What is found in the stanza.
@@ -83,13 +115,14 @@ impl<'a> Found<'a> {
         }
         found
     }
+
     // The same of a stanza that was read from a source.
     pub(crate) fn in_read(stanza: &ReadStanza<'a>) -> Found<'a>
         ensures { result ≡ found_of stanza.now }
     {
         let mut found = Found::new(stanza.line());
         for field in stanza.fields() {
-            found.add(&field.field());
+            found.add_read(&field);
         }
         found
     }

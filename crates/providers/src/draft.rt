@@ -112,7 +112,7 @@ impl<'a> Draft<'a> {
         self.push_seen(
             &SeenPkg::of_pair(pair),
             pair.name(),
-            pair.version(),
+            &pair.version(),
             provides.items(),
         )
     }

@@ -15,7 +15,7 @@ pub(crate) enum Cause<'c, 'a, 'i> {
     /// The name is held, in the version that stands, if one does.
     Held(Option<&'c Version<'a>>),
     /// This version fits and is in an index, but isn't admitted.
-    Unadmitted(&'c Version<'i>),
+    Unadmitted(Version<'i>),
     /// These pairs alone are of the name.
     Others(Vec<u32>),
     /// No pair is of the name, but these provide it.

@@ -16,17 +16,21 @@ fn has_item(items: &[Provided<'_>], name: &[u8]) -> bool {
 }
 
 // The version of the stanza, if it is of the name, meets the restriction, and isn't lower than the one before.
-fn higher_in<'k, 'i>(
-    entry: &'k IndexEntry<'i>,
+fn higher_in<'i>(
+    entry: &IndexEntry<'i>,
     wanted: &Wanted<'_>,
-    before: Option<&'k Version<'i>>,
-) -> Option<&'k Version<'i>> {
-    if entry.name() != wanted.name || !wanted.is_met_by(entry.version()) {
+    before: Option<Version<'i>>,
+) -> Option<Version<'i>> {
+    if entry.name() != wanted.name {
+        return before;
+    }
+    let version = entry.version();
+    if !wanted.is_met_by(&version) {
         return before;
     }
     match before {
-        Some(version) if version >= entry.version() => before,
-        _ => Some(entry.version()),
+        Some(highest) if highest >= version => Some(highest),
+        _ => Some(version),
     }
 }
 
@@ -72,7 +76,7 @@ impl<'k, 'u, 'p, 'a, 'i> Teller<'k, 'u, 'p, 'a, 'i> {
     }
 
     /// The highest version in the indices that is of the name and meets the restriction. Linear in the stanzas.
-    pub(crate) fn highest(&self, wanted: &Wanted<'_>) -> Option<&'k Version<'i>> {
+    pub(crate) fn highest(&self, wanted: &Wanted<'_>) -> Option<Version<'i>> {
         let mut highest = None;
         for index in self.indices {
             for entry in index.packages() {

@@ -24,7 +24,7 @@ pub(crate) fn push_versioned(
 
 /// Writes the name and the version of the pair.
 pub(crate) fn push_pair(text: &mut Vec<u8>, pair: &Pair<'_, '_>) -> Result<(), AllocError> {
-    push_versioned(text, pair.name(), pair.version())
+    push_versioned(text, pair.name(), &pair.version())
 }
 
 // The operator as relation fields have it (Policy 7.1).

@@ -103,7 +103,7 @@ fn is_upgrade_from(premises: &Premises<'_, '_, '_>, pair: &Pair<'_, '_>, start: 
         && is_lower_than_candidate(
             start.standing(),
             premises.candidate(start.name()),
-            pair.version(),
+            &pair.version(),
         )
 }
 

@@ -49,14 +49,14 @@ fn meets(version: &Version<'_>, restriction: &Option<Restriction>) -> bool
 fn is_meeting(pair: &Pair<'_, '_>, name: &[u8], restriction: &Option<Restriction>) -> bool
     ensures { IsTrue result ↔ ((pair.now.pkg.name ≡ name.now) × Meets pair.now.pkg.version restriction.now) }
 {
-    is_same(pair.name(), name) && meets(pair.version(), restriction)
+    is_same(pair.name(), name) && meets(&pair.version(), restriction)
 }
 
 // Whether the package is of the name and in the version.
 fn is_of(pair: &Pair<'_, '_>, name: &[u8], version: &Version<'_>) -> bool
     ensures { IsTrue result ↔ IsOf name.now version.now pair.now.pkg }
 {
-    is_same(pair.name(), name) && pair.version() == version
+    is_same(pair.name(), name) && pair.version() == *version
 }
 
 /// Whether the package of the pair is one that is sought.

@@ -32,7 +32,7 @@ fn is_held_at(start: &Start<'_>, pair: &Pair<'_, '_>) -> bool
 {
     is_same(start.name(), pair.name())
         && start.is_held()
-        && is_version(start.standing(), pair.version())
+        && is_version(start.standing(), &pair.version())
 }
 
 fn is_essential_at(start: &Start<'_>, name: &[u8]) -> bool

@@ -2,6 +2,7 @@ pub mod Error
 pub mod Refusal
 pub mod Value
 pub mod PkgText
+pub mod Kind
 pub mod PkgFields
 pub mod PkgValues
 pub mod PkgTexts

@@ -1,8 +1,10 @@
 //! The fields of a package, found in one walk over its stanza.
-ghost use Rattle.std.specs.Prelude.{◌≡◌, []};
-ghost use Rattle.stanza.specs.Field.{same_name};
-ghost use Rattle.relation.specs.PkgFields.{fields_in, fields_of, first_named, with_field};
+ghost use Rattle.std.specs.Prelude.{◌≡◌, [], Some};
+ghost use Rattle.std.specs.Option.{option_or};
+ghost use Rattle.relation.specs.Kind.{IsOfKind};
+ghost use Rattle.relation.specs.PkgFields.{fields_in, fields_of, with_field};
 
+use crate::kind::{Kind, kind_of};
 use stanza::{Field, Stanza};
 
 /// The fields that a package is read from, the first of each name, and the line on which their stanza begins.
@@ -19,17 +21,11 @@ pub struct PkgFields<'a> {
     pub(crate) provides: Option<Field<'a>>,
 }
 
-fn same_name(name: &[u8], other: &[u8]) -> bool
-    ensures { result ≡ same_name name.now other.now }
+// Takes the field, where none was found before.
+fn keep_first<'a>(place: &mut Option<Field<'a>>, field: &Field<'a>)
+    ensures { place.new ≡ option_or place.old (Some field.now) }
 {
-    name.eq_ignore_ascii_case(other)
-}
-
-// Takes the field, where it has the name and none was found before.
-fn note<'a>(name: &[u8], place: &mut Option<Field<'a>>, field: &Field<'a>)
-    ensures { place.new ≡ first_named name.now place.old field.now }
-{
-    if place.is_none() && same_name(field.name(), name) {
+    if place.is_none() {
         *place = Some(field.again());
     }
 }
@@ -51,17 +47,31 @@ impl<'a> PkgFields<'a> {
         }
     }
 
+    /// Takes one more field of the stanza, which is of this kind, where a package is read from it and it is the first of its
+    /// name.
+    pub fn add_of_kind(&mut self, kind: Kind, field: &Field<'a>)
+        requires { IsOfKind kind field.now.name }
+        ensures { self.new ≡ with_field self.old field.now }
+    {
+        match kind {
+            Kind::Package => keep_first(&mut self.name, field),
+            Kind::Version => keep_first(&mut self.version, field),
+            Kind::PreDepends => keep_first(&mut self.pre_depends, field),
+            Kind::Depends => keep_first(&mut self.depends, field),
+            Kind::Conflicts => keep_first(&mut self.conflicts, field),
+            Kind::Breaks => keep_first(&mut self.breaks, field),
+            Kind::Provides => keep_first(&mut self.provides, field),
+            Kind::Architecture | Kind::Essential | Kind::Protected => {}
+        }
+    }
+
     /// Takes one more field of the stanza, where a package is read from it and it is the first of its name.
     pub fn add(&mut self, field: &Field<'a>)
         ensures { self.new ≡ with_field self.old field.now }
     {
-        note(b"Package", &mut self.name, field);
-        note(b"Version", &mut self.version, field);
-        note(b"Pre-Depends", &mut self.pre_depends, field);
-        note(b"Depends", &mut self.depends, field);
-        note(b"Conflicts", &mut self.conflicts, field);
-        note(b"Breaks", &mut self.breaks, field);
-        note(b"Provides", &mut self.provides, field);
+        if let Some(kind) = kind_of(field.name()) {
+            self.add_of_kind(kind, field);
+        }
     }
 
     /// The fields of a package in its stanza. One walk over the stanza's lines.

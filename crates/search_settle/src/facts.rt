@@ -47,7 +47,7 @@ fn is_version(standing: Option<&Version<'_>>, version: &Version<'_>) -> bool
 fn is_standing_at(start: &Start<'_>, pair: &Pair<'_, '_>) -> bool
     ensures { IsTrue result ↔ ((start.now.name ≡ pair.now.pkg.name) × MatchOption start.now.standing ⊥ (SameVersion pair.now.pkg.version)) }
 {
-    is_same(start.name(), pair.name()) && is_version(start.standing(), pair.version())
+    is_same(start.name(), pair.name()) && is_version(start.standing(), &pair.version())
 }
 
 // Whether the pair is the version that stood.

@@ -2,7 +2,7 @@
 //! refused is shown by the scenarios.
 use crate::devices::{Broken, Few};
 use crate::shown::{is_printed, spelled, write_part};
-use index::{Index, IndexEntry, IndexError, KeptIndex, StreamError, read_alone};
+use index::{Index, IndexEntry, KeptIndex, StreamError, read_alone};
 use relation::Pkg;
 use rules::{IndexPlace, Release, Text};
 use std::alloc::{AllocError, Global};
@@ -64,15 +64,7 @@ fn is_index(alloc: Global, index: &Index<'_>, wanted: &str) -> Result<bool, Allo
     Ok(shown.as_slice() == wanted.as_bytes())
 }
 
-// Whether the text is read as this index, or its refusal is printed so.
-fn is_read_as(alloc: Global, text: &[u8], before: usize, wanted: &str) -> Result<bool, AllocError> {
-    match Index::read(alloc, text, release_of(alloc, b"h")?, ARCH, 1, before) {
-        Ok(index) => is_index(alloc, &index, wanted),
-        Err(error) => is_printed(alloc, &error, wanted),
-    }
-}
-
-// The same of the text where no reading gives more than so many bytes, and what is read of it is kept.
+// Whether the text is read as this index, or its refusal is printed so, where no reading gives more than so many bytes.
 fn is_kept_by(
     alloc: Global,
     text: &[u8],
@@ -100,15 +92,6 @@ fn is_kept_as(alloc: Global, text: &[u8], before: usize, wanted: &str) -> Result
     is_kept_by(alloc, text, usize::MAX, before, wanted)
 }
 
-fn is_read_and_kept_as(
-    alloc: Global,
-    text: &[u8],
-    before: usize,
-    wanted: &str,
-) -> Result<bool, AllocError> {
-    Ok(is_read_as(alloc, text, before, wanted)? && is_kept_as(alloc, text, before, wanted)?)
-}
-
 // The number of packages before, the text, and what is shown of it. That Protected says the same as Essential is this project's
 // own. `$` stands for a newline.
 const READ: &str = "\
@@ -127,7 +110,7 @@ fn is_read_behind(alloc: Global, before: usize, rest: &str) -> Result<bool, Allo
     let Some((text, wanted)) = rest.split_once('→') else {
         return Ok(false);
     };
-    is_read_and_kept_as(alloc, text.as_bytes(), before, wanted)
+    is_kept_as(alloc, text.as_bytes(), before, wanted)
 }
 
 fn is_read(alloc: Global, row: &str) -> Result<bool, AllocError> {
@@ -192,8 +175,9 @@ fn is_whole(alloc: Global, index: &Index<'_>) -> Result<bool, AllocError> {
 }
 
 fn is_read_whole(alloc: Global) -> Result<bool, AllocError> {
-    match Index::read(alloc, FOUR_STANZAS, release_of(alloc, b"h")?, ARCH, 7, 0) {
-        Ok(index) => is_whole(alloc, &index),
+    let mut text = FOUR_STANZAS;
+    match KeptIndex::read_from(alloc, &mut text, ARCH, 7, 0) {
+        Ok(kept) => is_whole(alloc, &Index::of(alloc, &kept, release_of(alloc, b"h")?)?),
         Err(_) => Ok(false),
     }
 }
@@ -206,19 +190,6 @@ fn an_index_has_its_names_once_and_its_release(rt: HostRuntime) -> Result<(), Al
 
 const TWO_STANZAS: &[u8] =
     b"Package: a\nVersion: 1\nArchitecture: all\nDepends: b, c | d\n\nPackage: b\nVersion: 1\nArchitecture: amd64\n";
-
-fn is_index_or_no_memory(alloc: Global) -> Result<bool, AllocError> {
-    match Index::read(alloc, TWO_STANZAS, release_of(alloc, b"")?, ARCH, 1, 0) {
-        Ok(index) => Ok(index.packages().len() == 2),
-        Err(error) => Ok(error == IndexError::OutOfMemory),
-    }
-}
-
-#[test]
-fn a_refused_growth_is_want_of_memory(rt: HostRuntime) -> Result<(), AllocError> {
-    assert!(rt; is_index_or_no_memory(rt.alloc())?);
-    Ok(())
-}
 
 fn is_kept_or_no_memory(alloc: Global) -> Result<bool, AllocError> {
     let mut source = TWO_STANZAS;

@@ -3,7 +3,7 @@
 //! where those of all were fetched. `$` stands for a newline. The rows act on one value, one after the other.
 use crate::devices::{Broken, Few};
 use fetch::{FetchError, FetchedStanzas};
-use index::Index;
+use index::{Index, KeptIndex};
 use pins::Prefs;
 use rules::{Release, Text};
 use std::alloc::{AllocError, Global};
@@ -113,29 +113,26 @@ fn all_hold_over(alloc: Global, indices: &[Index<'_>], most: usize) -> Result<bo
     }
 }
 
-fn push_index<'a>(
-    alloc: Global,
-    indices: &mut Vec<Index<'a>>,
-    text: &'a [u8],
-    number: usize,
-) -> Result<(), AllocError> {
+// What is kept of the text, as the index of this number.
+fn kept_of(alloc: Global, text: &[u8], number: usize) -> Result<KeptIndex, AllocError> {
+    let mut source = text;
+    KeptIndex::read_from(alloc, &mut source, ARCH, number, 0).map_err(|_| AllocError)
+}
+
+fn lent(alloc: Global, kept: &KeptIndex) -> Result<Index<'_>, AllocError> {
     let release = Release::without_keys(Text::copied_from(alloc, b"")?);
-    match Index::read(alloc, text, release, ARCH, number, 0) {
-        Ok(index) => indices.push(index).map_err(|_| AllocError),
-        Err(_) => Err(AllocError),
-    }
+    Index::of(alloc, kept, release)
 }
 
 #[test]
 fn stanzas_are_fetched_index_by_index(rt: HostRuntime) -> Result<(), AllocError> {
-    let mut indices = Vec::new(rt.alloc());
-    push_index(rt.alloc(), &mut indices, FIRST, 1)?;
-    push_index(rt.alloc(), &mut indices, SECOND, 2)?;
+    let (first, second) = (
+        kept_of(rt.alloc(), FIRST, 1)?,
+        kept_of(rt.alloc(), SECOND, 2)?,
+    );
+    let indices = [lent(rt.alloc(), &first)?, lent(rt.alloc(), &second)?];
     for most in 1..4 {
-        assert!(rt;
-            all_hold_over(rt.alloc(), indices.as_slice(), most)?,
-            "{most}"
-        );
+        assert!(rt; all_hold_over(rt.alloc(), &indices, most)?, "{most}");
     }
     Ok(())
 }

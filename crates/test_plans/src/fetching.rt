@@ -4,7 +4,7 @@ ghost use Rattle.std.specs.List.Sorted.{IsNonDecreasingBy};
 
 use crate::devices::{Broken, Few};
 use fetch::{FetchError, fetch, in_order};
-use index::{Index, IndexEntry};
+use index::{Index, IndexEntry, KeptIndex};
 use rules::{Release, Text};
 use std::alloc::{AllocError, Global};
 
@@ -81,17 +81,21 @@ fn fails_as(alloc: Global, index: &Index<'_>) -> Result<Option<FetchError>, Allo
     Ok(fetch(alloc, &mut Broken { failures: 0 }, ARCH, entries.as_slice()).err())
 }
 
-fn first_reading<'a>(alloc: Global) -> Result<Index<'a>, AllocError> {
+// What the first reading keeps.
+fn first_kept(alloc: Global) -> Result<KeptIndex, AllocError> {
+    let mut source = FIRST;
+    KeptIndex::read_from(alloc, &mut source, ARCH, 1, 0).map_err(|_| AllocError)
+}
+
+fn lent(alloc: Global, kept: &KeptIndex) -> Result<Index<'_>, AllocError> {
     let release = Release::without_keys(Text::copied_from(alloc, b"")?);
-    match Index::read(alloc, FIRST, release, ARCH, 1, 0) {
-        Ok(index) => Ok(index),
-        Err(_) => Err(AllocError),
-    }
+    Index::of(alloc, kept, release)
 }
 
 #[test]
 fn a_stanza_is_fetched_where_it_is_of_the_same_package(rt: HostRuntime) -> Result<(), AllocError> {
-    let index = first_reading(rt.alloc())?;
+    let kept = first_kept(rt.alloc())?;
+    let index = lent(rt.alloc(), &kept)?;
     for row in ROWS.lines() {
         let row = row.replace(rt.alloc(), "$", "\n")?;
         assert!(rt; is_fetched(rt.alloc(), &index, row.as_str())?, "{row}");
@@ -101,7 +105,8 @@ fn a_stanza_is_fetched_where_it_is_of_the_same_package(rt: HostRuntime) -> Resul
 
 #[test]
 fn a_device_that_fails_is_no_change(rt: HostRuntime) -> Result<(), AllocError> {
-    let index = first_reading(rt.alloc())?;
+    let kept = first_kept(rt.alloc())?;
+    let index = lent(rt.alloc(), &kept)?;
     assert!(rt; fails_as(rt.alloc(), &index)? == Some(FetchError::Read));
     Ok(())
 }

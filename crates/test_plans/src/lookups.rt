@@ -1,7 +1,7 @@
 //! What a universe is asked by name and by number. Who provides a name is counted by hand from Policy 7.5.
 use crate::packages::is_answered;
 use debversion::Version;
-use index::Providers;
+use providers::Providers;
 use std::alloc::{AllocError, Global};
 use std::test::Fail;
 use universe::{Universe, lend_packages};
@@ -23,7 +23,7 @@ Package: c\nVersion: 1\nArchitecture: all\nProvides: mail:i386\n";
 fn are_provided(alloc: Global, universe: &Universe<'_, '_>) -> Result<bool, AllocError> {
     let packages = universe.packages(alloc)?;
     let lent = lend_packages(alloc, packages.as_slice())?;
-    let providers = Providers::build(alloc, lent.as_slice())?;
+    let providers = Providers::of_packages(alloc, lent.as_slice())?;
     Ok(
         providers.of(alloc, b"mail")?.as_slice() == [1, 4].as_slice()
             && providers.of(alloc, b"sh")?.as_slice() == [1, 2].as_slice()

@@ -1,6 +1,5 @@
 //! Who has or provides a name, and which packages match an atom, by the rules of Policy 7.1 and 7.5. Positions were counted in the
 //! text of the packages.
-use index::Providers as Lists;
 use providers::{Providers, Ticks};
 use relation::{Atom, Pkg, parse_atoms};
 use stanza::{Stanza, Stanzas};
@@ -62,20 +61,12 @@ fn are_found(alloc: Global, pkgs: &[&Pkg<'_>]) -> Result<bool, AllocError> {
     let providers = Providers::of_packages(alloc, pkgs)?;
     Ok(
         providers.of(alloc, b"v")?.as_slice() == [0, 1, 2, 3, 4].as_slice()
+            && providers.of(alloc, b"w")?.as_slice() == [3].as_slice()
+            && providers.of(alloc, b"no")?.is_empty()
             && is_matched(alloc, &providers, b"v", &[0, 1, 2, 3, 4])?
             && is_matched(alloc, &providers, b"v (>= 2)", &[1, 2, 3])?
             && is_matched(alloc, &providers, b"v (= 2)", &[1, 3])?
             && is_matched(alloc, &providers, b"v (<< 1)", &[])?,
-    )
-}
-
-// The same of the lists of `index`.
-fn are_listed(alloc: Global, pkgs: &[&Pkg<'_>]) -> Result<bool, AllocError> {
-    let lists = Lists::build(alloc, pkgs)?;
-    Ok(
-        lists.of(alloc, b"v")?.as_slice() == [0, 1, 2, 3, 4].as_slice()
-            && lists.of(alloc, b"w")?.as_slice() == [3].as_slice()
-            && lists.of(alloc, b"no")?.is_empty(),
     )
 }
 
@@ -88,21 +79,12 @@ fn lent<'p, 'a>(alloc: Global, pkgs: &'p [Pkg<'a>]) -> Result<Vec<&'p Pkg<'a>>, 
 }
 
 #[test]
-fn an_atom_is_matched_by_these_packages(rt: HostRuntime) -> Result<(), AllocError> {
-    let mut pkgs = Vec::new(rt.alloc());
-    assert!(rt; are_added(rt.alloc(), &mut pkgs, SIX_STANZAS));
-    let lent = lent(rt.alloc(), pkgs.as_slice())?;
-    assert!(rt; are_found(rt.alloc(), lent.as_slice())?);
-    Ok(())
-}
-
-#[test]
-fn a_name_is_provided_by_its_own_package_and_in_each_version(
+fn a_name_is_provided_and_an_atom_matched_by_these_packages(
     rt: HostRuntime,
 ) -> Result<(), AllocError> {
     let mut pkgs = Vec::new(rt.alloc());
     assert!(rt; are_added(rt.alloc(), &mut pkgs, SIX_STANZAS));
     let lent = lent(rt.alloc(), pkgs.as_slice())?;
-    assert!(rt; are_listed(rt.alloc(), lent.as_slice())?);
+    assert!(rt; are_found(rt.alloc(), lent.as_slice())?);
     Ok(())
 }

@@ -7,7 +7,7 @@ ghost use Rattle.rules.specs.FileRecord.{records_of};
 use crate::lookups::{INDEX, is_found};
 use crate::packages::{ARCH, holds_as_spelled};
 use debversion::Version;
-use index::Index;
+use index::{Index, KeptIndex};
 use pins::Prefs;
 use rules::{Release, Text};
 use status_text::StatusRecord;
@@ -37,10 +37,14 @@ const FOO_LIBX_ONE: &[u8] =
 
 const LIBX_TWO: &[u8] = b"Package: libx\nVersion: 2\nArchitecture: all\n";
 
-// The index that the word names; behind a hyphen it is NotAutomatic, and behind two ButAutomaticUpgrades too.
-fn index_of<'a>(alloc: Global, word: &str, number: usize) -> Result<Index<'a>, Fail> {
-    let kind = word.trim_end_matches('-');
-    let text: &'static [u8] = match kind {
+// The word without its hyphens.
+fn kind_of(word: &str) -> &str {
+    word.trim_end_matches('-')
+}
+
+// What is kept of the index that the word names.
+fn kept_of(alloc: Global, word: &str, number: usize) -> Result<KeptIndex, Fail> {
+    let mut text: &[u8] = match kind_of(word) {
         "one" => A_ONE,
         "equal" => A_EQUAL,
         "two" => B_A_TWO,
@@ -49,16 +53,29 @@ fn index_of<'a>(alloc: Global, word: &str, number: usize) -> Result<Index<'a>, F
         "testing" => LIBX_TWO,
         _ => b"",
     };
-    let release = release_of(alloc, word.len().saturating_sub(kind.len()))?;
-    Ok(Index::read(alloc, text, release, ARCH, number, 0)?)
+    Ok(KeptIndex::read_from(alloc, &mut text, ARCH, number, 0)?)
 }
 
-/// The indices that the words name.
-pub(crate) fn indices_of<'a>(alloc: Global, words: &str) -> Result<Vec<Index<'a>>, Fail> {
-    let mut indices = Vec::new(alloc);
+/// What is kept of the indices that the words name.
+pub(crate) fn kept_indices(alloc: Global, words: &str) -> Result<Vec<KeptIndex>, Fail> {
+    let mut kept = Vec::new(alloc);
     for word in words.split_whitespace() {
-        let index = index_of(alloc, word, indices.len() + 1)?;
-        indices.push(index)?;
+        let index = kept_of(alloc, word, kept.len() + 1)?;
+        kept.push(index)?;
+    }
+    Ok(kept)
+}
+
+/// These indices, as the words name them: behind a hyphen one is NotAutomatic, and behind two ButAutomaticUpgrades too.
+pub(crate) fn lent_indices<'a>(
+    alloc: Global,
+    kept: &'a [KeptIndex],
+    words: &str,
+) -> Result<Vec<Index<'a>>, Fail> {
+    let mut indices = Vec::new(alloc);
+    for (index, word) in kept.iter().zip(words.split_whitespace()) {
+        let release = release_of(alloc, word.len().saturating_sub(kind_of(word).len()))?;
+        indices.push(Index::of(alloc, index, release)?)?;
     }
     Ok(indices)
 }
@@ -101,7 +118,8 @@ fn says_by(
 ) -> Result<bool, Fail>
     requires { HasDistinctNames (records_of (map (λ r. r.now) records.now)) }
 {
-    let indices = indices_of(alloc, indices)?;
+    let kept = kept_indices(alloc, indices)?;
+    let indices = lent_indices(alloc, kept.as_slice(), indices)?;
     says_over(
         alloc,
         records,
@@ -171,7 +189,7 @@ fn is_one(wanted: Option<&str>, name: &[u8], version: &Version<'_>) -> bool {
 fn are_pairs(universe: &Universe<'_, '_>, wanted: &str) -> bool {
     let mut words = wanted.split_whitespace();
     for pair in universe.pairs() {
-        if !is_one(words.next(), pair.name(), pair.version()) {
+        if !is_one(words.next(), pair.name(), &pair.version()) {
             return false;
         }
     }

@@ -25,7 +25,8 @@ pub(crate) fn are_eligible(
     let (indices, rest) = words.split_once(';').unwrap_or((words, ""));
     let (prefs, name) = rest.split_once(';').unwrap_or((rest, ""));
     let prefs = Prefs::read(alloc, prefs.as_bytes(), None)?;
-    let indices = indices_of(alloc, indices)?;
+    let kept = kept_indices(alloc, indices)?;
+    let indices = lent_indices(alloc, kept.as_slice(), indices)?;
     let offers = eligible(alloc, records, indices.as_slice(), &prefs, name.as_bytes())?;
     are_offers(alloc, offers.as_slice(), name.as_bytes(), wanted)
 }
@@ -64,7 +65,8 @@ pub(crate) fn is_preferred(
     let (indices, rest) = words.split_once(';').unwrap_or((words, ""));
     let (prefs, name) = rest.split_once(';').unwrap_or((rest, ""));
     let prefs = Prefs::read(alloc, prefs.as_bytes(), None)?;
-    let indices = indices_of(alloc, indices)?;
+    let kept = kept_indices(alloc, indices)?;
+    let indices = lent_indices(alloc, kept.as_slice(), indices)?;
     match candidate(alloc, records, indices.as_slice(), &prefs, name.as_bytes())? {
         None => Ok(wanted == "none"),
         Some(offer) => Ok(offer.name() == name.as_bytes() && is_spelled(alloc, &offer, wanted)?),
@@ -85,7 +87,8 @@ pub(crate) fn is_priority(
     let (prefs, pair) = rest.split_once(';').unwrap_or((rest, ""));
     let (name, text) = pair.split_once(' ').unwrap_or((pair, ""));
     let prefs = Prefs::read(alloc, prefs.as_bytes(), None)?;
-    let indices = indices_of(alloc, indices)?;
+    let kept = kept_indices(alloc, indices)?;
+    let indices = lent_indices(alloc, kept.as_slice(), indices)?;
     let Ok(version) = Version::parse(text.as_bytes()) else {
         return Ok(false);
     };

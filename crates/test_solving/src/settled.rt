@@ -6,7 +6,7 @@ ghost use Rattle.search_settle.specs.Encoded.{StandingArePresent};
 
 use crate::clauses_true::{all_numbers, makes_all_true};
 use encode::encode;
-use index::Index;
+use index::{Index, KeptIndex};
 use pins::Prefs;
 use reach::Part;
 use refutation::universe_has_needed_pairs;
@@ -68,9 +68,10 @@ fn settled_in(alloc: Global, index: &[u8], request: &str) -> Result<Vec<u32>, Fa
     let release = Release::without_keys(Text::copied_from(alloc, b"")?);
     let prefs = Prefs::without_records(alloc, None)?;
     let request = Request::read(alloc, request.as_bytes(), ARCH)?;
-    let mut indices = Vec::new(alloc);
-    indices.push(Index::read(alloc, index, release, ARCH, 1, 0)?)?;
-    settled_over(alloc, indices.as_slice(), &prefs, request)
+    let mut source = index;
+    let kept = KeptIndex::read_from(alloc, &mut source, ARCH, 1, 0)?;
+    let indices = [Index::of(alloc, &kept, release)?];
+    settled_over(alloc, &indices, &prefs, request)
 }
 
 const APART: &[u8] = b"\

@@ -74,11 +74,11 @@ impl<'p, 'a> Pair<'p, 'a> {
     }
 
     /// The version of the package that counts.
-    pub fn version(&self) -> &Version<'a>
-        ensures { result.now ≡ self.now.pkg.version }
+    pub fn version(&self) -> Version<'a>
+        ensures { result ≡ self.now.pkg.version }
     {
         match &self.standing {
-            Some(pkg) => pkg.version(),
+            Some(pkg) => pkg.version().again(),
             None => match self.listed {
                 Some(listed) => listed.version(),
                 None => unreachable!(),
@@ -141,7 +141,7 @@ impl Ord for Pair<'_, '_> {
 
     fn cmp(&self, other: &Self) -> Ordering {
         match self.name().cmp(other.name()) {
-            Ordering::Equal => self.version().cmp(other.version()),
+            Ordering::Equal => self.version().cmp(&other.version()),
             decided => decided,
         }
     }

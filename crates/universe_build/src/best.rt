@@ -55,7 +55,7 @@ pub fn is_best(best: &[Offer<'_>], place: usize, found: &Found<'_, '_>) -> bool
 {
     match offer_near(best, place, found.name()) {
         None => false,
-        Some(offer) => found.version() == offer.version(),
+        Some(offer) => found.version() == *offer.version(),
     }
 }
 

@@ -22,7 +22,7 @@ use universe::Pair;
 fn is_free(known: &Known<'_, '_>, found: &Found<'_, '_>) -> bool
     ensures { result ≡ is_free known.now found.now }
 {
-    candidates::is_free(known, found.name(), found.version())
+    candidates::is_free(known, found.name(), &found.version())
 }
 
 // Whether the stanza is of a version that is chosen or asked for. The best offer of its name is looked for at this place

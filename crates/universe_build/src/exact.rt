@@ -126,7 +126,7 @@ fn order_to(exact: &Exact<'_>, found: &Found<'_, '_>) -> Ordering
     ensures { result ≡ exact_cmp exact.now (exact_at found.now) }
 {
     match exact.name.cmp(found.name()) {
-        Ordering::Equal => exact.version.cmp(found.version()),
+        Ordering::Equal => exact.version.cmp(&found.version()),
         decided => decided,
     }
 }

@@ -5,6 +5,5 @@ use Rattle.index.proofs.walk.Found.in_read.Goals as goal
 
 pub loop-field-preserved : goal.loop-field-preserved
 loop-field-preserved c =
-    c.add.ensures ∙ ap (λ field. with_field c.loop-field.found field) c.field.ensures
-    ∙ ap (λ found. with_field found c.in-Some.field) c.loop-field.invariant
+    c.add_read.ensures ∙ ap (λ found. with_field found c.in-Some.field) c.loop-field.invariant
     ∙ sym (found_more c.args.stanza.now.line c.loop-field.yielded c.in-Some.field)
