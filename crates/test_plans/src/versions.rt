@@ -4,7 +4,7 @@ ghost use Rattle.std.specs.Prelude.{map};
 ghost use Rattle.rules.specs.Database.{HasDistinctNames};
 ghost use Rattle.rules.specs.FileRecord.{records_of};
 
-use crate::universes::{all_hold, indices_of};
+use crate::universes::{all_hold, kept_indices, lent_indices};
 use candidates::{Offer, candidate, eligible, priority};
 use debversion::Version;
 use pins::Prefs;
