@@ -2,7 +2,8 @@
 ghost use Rattle.std.specs.Prelude.{◌≡◌, [], IfErr, IfOk, IsTrue, MatchResult, None, Ok, Some, true};
 ghost use Rattle.std.specs.Option.{option_and_then};
 ghost use Rattle.relation.specs.PkgFields.{fields_of};
-ghost use Rattle.relation.specs.PkgText.{pkg_name_fault, pkg_of, pkg_version_fault, version_fault};
+ghost use Rattle.relation.specs.PkgText.{pkg_fault, pkg_name_fault, pkg_of, pkg_version_fault, version_fault};
+ghost use Rattle.relation.specs.PkgValues.{values_of};
 ghost use Rattle.rules.specs.Name.{is_name};
 ghost use Rattle.rules.specs.State.{is_present_state};
 ghost use Rattle.status_text.specs.Error.{IsStatusFault};
@@ -23,7 +24,7 @@ use crate::slot::Slot;
 use crate::walk::Found;
 use crate::words::Mark;
 use debversion::Version;
-use relation::{PkgFault, PkgFields};
+use relation::{Acceptor, PkgFault, PkgFields, PkgValues};
 use rules::State;
 use stanza::{Field, Stanza};
 
@@ -92,11 +93,27 @@ fn config_version_at<'a>(
     }
 }
 
+// The values of these fields, whose relation fields are tested by the tables where there are some.
+fn values_of<'a>(
+    fields: &PkgFields<'a>,
+    tables: Option<&Acceptor>,
+) -> Result<PkgValues<'a>, PkgFault>
+    ensures { MatchResult result
+        (λ values. (pkg_fault fields.now ≡ None) × (values ≡ values_of fields.now))
+        (λ fault. pkg_fault fields.now ≡ Some fault) }
+{
+    match tables {
+        None => fields.values(),
+        Some(acceptor) => fields.values_by(acceptor),
+    }
+}
+
 // The package of these fields in this state, whose relation fields are tested; none where it isn't present.
 fn package_at<'a>(
     fields: &PkgFields<'a>,
     state: State,
     arch: &'a [u8],
+    tables: Option<&Acceptor>,
 ) -> Result<Option<TestedPkg<'a>>, PkgFault>
     requires named { pkg_name_fault fields.now ≡ None }
     requires versioned { is_present_state state ≡ true → pkg_version_fault fields.now ≡ None }
@@ -106,7 +123,7 @@ fn package_at<'a>(
         (λ refused. Spec.relations_fault_at state fields.now ≡ Some refused) }
 {
     if state.is_present() {
-        let values = fields.values()?;
+        let values = values_of(fields, tables)?;
         Ok(Some(TestedPkg::new(values, arch)))
     } else {
         Ok(None)
@@ -119,6 +136,7 @@ fn rest_at<'a>(
     found: &Found<'a>,
     state: State,
     arch: &'a [u8],
+    tables: Option<&Acceptor>,
 ) -> Result<
     (
         Option<Version<'a>>,
@@ -137,7 +155,7 @@ fn rest_at<'a>(
 {
     let version = version_at(stanza, &found.pkg, state)?;
     let configured = config_version_at(&found.config_version, state, &version)?;
-    let tested = package_at(&found.pkg, state, arch)?;
+    let tested = package_at(&found.pkg, state, arch, tables)?;
     Ok((version, configured, tested))
 }
 
@@ -148,6 +166,7 @@ fn entry_of<'a>(
     name: &'a [u8],
     mark: Mark,
     arch: &'a [u8],
+    tables: Option<&Acceptor>,
 ) -> Result<StatusRecord<'a>, PkgFault>
     requires found { found.now ≡ found_of stanza.now }
     requires name { name.now ≡ name_in stanza.now }
@@ -157,7 +176,7 @@ fn entry_of<'a>(
         (λ entry. (Spec.later_fault mark.state stanza.now ≡ None) × (entry ≡ Spec.entry_of arch.now stanza.now mark))
         (λ refused. Spec.later_fault mark.state stanza.now ≡ Some refused) }
 {
-    let (version, configured, tested) = rest_at(stanza, found, mark.state, arch)?;
+    let (version, configured, tested) = rest_at(stanza, found, mark.state, arch, tables)?;
     Ok(StatusRecord::new(
         arch,
         stanza.again(),
@@ -178,6 +197,7 @@ fn read_new<'a>(
     name: &'a [u8],
     mark: Mark,
     arch: &'a [u8],
+    tables: Option<&Acceptor>,
 ) -> Result<StatusRecord<'a>, StatusError<'a>>
     requires found { found.now ≡ found_of stanza.now }
     requires name { name.now ≡ name_in stanza.now }
@@ -189,7 +209,7 @@ fn read_new<'a>(
     if !seen.insert(name)? {
         return Err(StatusFault::DuplicatePackage(PackageName::new(name)).into());
     }
-    let entry = entry_of(stanza, found, name, mark, arch)?;
+    let entry = entry_of(stanza, found, name, mark, arch, tables)?;
     Ok(entry)
 }
 
@@ -213,6 +233,7 @@ pub fn read_slot<'a>(
     seen: &mut Seen<'a>,
     stanza: &Stanza<'a>,
     arch: &'a [u8],
+    acceptor: &Acceptor,
 ) -> Result<Slot<'a, StatusRecord<'a>>, StatusError<'a>>
     ensures ok { IfOk result (λ slot. (Spec.read_slot arch.now seen.old stanza.now ≡ Ok slot) × (seen.new ≡ names_with seen.old slot)) }
     ensures err { IfErr result (λ e. IsStatusFault e (Spec.read_slot arch.now seen.old stanza.now)) }
@@ -223,7 +244,8 @@ pub fn read_slot<'a>(
     if !counts(arch, name, stanza, &found, mark.state)? {
         return Ok(Slot::Foreign(stanza.again()));
     }
-    Ok(Slot::Recorded(read_new(seen, stanza, &found, name, mark, arch)?))
+    let entry = read_new(seen, stanza, &found, name, mark, arch, Some(acceptor))?;
+    Ok(Slot::Recorded(entry))
 }
 
 /// The slot of a stanza that stands alone, or its first refusal.
@@ -239,6 +261,6 @@ pub fn slot_alone<'a>(
     if !counts(arch, name, stanza, &found, mark.state)? {
         return Ok(Slot::Foreign(stanza.again()));
     }
-    let entry = entry_of(stanza, &found, name, mark, arch)?;
+    let entry = entry_of(stanza, &found, name, mark, arch, None)?;
     Ok(Slot::Recorded(entry))
 }

@@ -16,6 +16,7 @@ use crate::error::{StatusError, StatusFault};
 use crate::record::StatusRecord;
 use crate::seen::Seen;
 use crate::slot::Slot;
+use relation::Acceptor;
 use rules::TEXT_BYTES;
 use stanza::{Stanza, StanzaError, Stanzas};
 use std::alloc::Global;
@@ -24,12 +25,13 @@ fn read_item<'a>(
     seen: &mut Seen<'a>,
     item: &Result<Stanza<'a>, StanzaError>,
     arch: &'a [u8],
+    acceptor: &Acceptor,
 ) -> Result<Slot<'a, StatusRecord<'a>>, StatusError<'a>>
     ensures ok { IfOk result (λ slot. (Spec.read_item arch.now seen.old item.now ≡ Ok slot) × (seen.new ≡ names_with seen.old slot)) }
     ensures err { IfErr result (λ e. IsStatusFault e (Spec.read_item arch.now seen.old item.now)) }
 {
     match item {
-        Ok(stanza) => read_slot(seen, stanza, arch),
+        Ok(stanza) => read_slot(seen, stanza, arch, acceptor),
         Err(refused) => Err(StatusFault::Stanza(*refused).into()),
     }
 }
@@ -44,10 +46,11 @@ fn slots_in<'a>(
     ensures distinct { IfOk result (λ slots. HasDistinctNames (records_of (entries_of slots.items))) }
     ensures err { IfErr result (λ e. IsStatusFault e (Spec.slots_in arch.now (items_of Plain text.now) [])) }
 {
+    let acceptor = Acceptor::new(alloc)?;
     let mut slots = Vec::new(alloc);
     let mut seen = Seen::new(alloc);
     for item in Stanzas::new(text) {
-        let slot = read_item(&mut seen, &item, arch)?;
+        let slot = read_item(&mut seen, &item, arch, &acceptor)?;
         slots.push(slot)?;
     }
     Ok(slots)
