@@ -110,15 +110,6 @@ fn a_plan_that_is_not_good_leaves_the_disk_alone(rt: HostRuntime) -> Result<(), 
 }
 
 #[test]
-fn a_file_that_is_no_journal_is_refused(rt: HostRuntime) -> Result<(), Fail> {
-    let alloc = rt.alloc();
-    let mut disk = MemoryDisk::new(alloc, b"DPJRNL0".to_vec(alloc)?);
-    let (answer, _) = installed(alloc, &mut disk, b"", PLAN)?;
-    assert_eq!(rt; answer.as_str(), "journal: E21 NotAJournal");
-    Ok(())
-}
-
-#[test]
 fn a_failing_call_is_gone_on_from(rt: HostRuntime) -> Result<(), Fail> {
     let alloc = rt.alloc();
     // The length and the bytes are read, three calls create the journal, and four add each step.

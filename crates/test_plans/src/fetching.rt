@@ -1,5 +1,6 @@
-//! What is fetched in a second reading of an index: the text at that reading, and what is fetched of the packages `a` and `b`, one
-//! behind the other, or `-` where the index has changed. `$` stands for a newline.
+//! What is fetched in a second reading, row by row: the text that an index is read as, the text at the second reading, the
+//! numbers of the stanzas that are wanted, and the texts that are fetched one behind the other, with `$` for a newline. Where
+//! the index has changed, `-` stands.
 ghost use Rattle.std.specs.List.Sorted.{IsNonDecreasingBy};
 
 use crate::devices::{Broken, Few};
@@ -10,32 +11,49 @@ use std::alloc::{AllocError, Global};
 
 const ARCH: &[u8] = b"amd64";
 
-const FIRST: &[u8] = b"Package: a\nVersion: 1\nArchitecture: all\nDepends: b|c\n\nPackage: x\n\
-Version: 1\nArchitecture: i386\n\nPackage: b\nVersion: 1\nArchitecture: all\nProvides: b, c\n";
-
 const ROWS: &str = "\
-$$Package: a$Version: 1$Architecture: all$Size: 7$Depends: b | c$$Package: y$$Package: b$Version: 1$Architecture: all$Provides: b, c$$x$→Package: a$Version: 1$Architecture: all$Size: 7$Depends: b | c$Package: b$Version: 1$Architecture: all$Provides: b, c$
-Package: a$Version: 1$Architecture: all$Depends: b|c$$Package: b$Version: 1$Architecture: all$Provides: b, c$→-
-Package: a$Version: 1.0$Architecture: all$Depends: b|c$$Package: y$$Package: b$Version: 1$Architecture: all$Provides: b, c$→-
-Package: a$Version: 1$Architecture: all$Depends: b|c$$Package: y$$Package: b$Version: 1$Architecture: all$Provides: c, b$→-
-Package: a$Version: 1$Architecture: all$Depends: b|c$$Package: y$$Package: b$Version: 1$Architecture: all$Provides: b, c$x$→-
-Package: a$Version: 1$Architecture: all$Pre-Depends: b|c$$Package: y$$Package: b$Version: 1$Architecture: all$Provides: b, c$→-
-Package: a$Version: 1$Architecture: all$Essential: yes$Depends: b|c$$Package: y$$Package: b$Version: 1$Architecture: all$Provides: b, c$→-
-x$→-
-→-
-";
+Package: a$Version: 1$Architecture: all$→Package: a$Version: 1$Architecture: all$→1→Package: a$Version: 1$Architecture: all$
+Package: a$Version: 1$Architecture: all$→$$Package: a$Version: 1$Architecture: all→1→Package: a$Version: 1$Architecture: all
+Package: a$Version: 1$Architecture: all$→Package: a$Version: 1$Architecture: all$Size: 7$$ x$→1→Package: a$Version: 1$Architecture: all$Size: 7$
+Package: a$Version: 1$Architecture: all$→Package: a$Version: 1$Architecture: all$$x$→1→Package: a$Version: 1$Architecture: all$
+Package: a$Version: 1$Architecture: all$→x$$Package: a$Version: 1$Architecture: all$→1→-
+Package: a$Version: 1$Architecture: all$→Package: a$Version: 1$Architecture: all$x$→1→-
+Package: a$Version: 1$Architecture: all$→Package: a$Version: 1$Architecture: all$→→
+Package: a$Version: 1$Architecture: all$→x$→→
+Package: a$Version: 1$Architecture: all$$Package: b$Version: 1$Architecture: all$→Package: a$Version: 1$Architecture: all$$Package: b$Version: 1$Architecture: all$→1 2→Package: a$Version: 1$Architecture: all$Package: b$Version: 1$Architecture: all$
+Package: a$Version: 1$Architecture: all$$Package: b$Version: 1$Architecture: all$→Package: c$$Package: b$Version: 1$Architecture: all$→2→Package: b$Version: 1$Architecture: all$
+Package: a$Version: 1$Architecture: all$$Package: b$Version: 1$Architecture: all$→Package: b$Version: 1$Architecture: all$→2→-
+Package: a$Version: 1$Architecture: all$$Package: b$Version: 1$Architecture: all$→Package: b$Version: 1$Architecture: all$$Package: a$Version: 1$Architecture: all$→1→-
+Package: a$Version: 1$Architecture: all$→→1→-
+Package: a$Version: 1$Architecture: all$→Package: a$Version: 1.0$Architecture: all$→1→-
+Package: a$Version: 1$Architecture: all$→Package: a$Version: 1$Architecture: i386$→1→-
+Package: a$Version: 1$Architecture: all$→Package: a$Version: 1$Architecture: all$Essential: yes$→1→-
+Package: a$Version: 1$Architecture: all$Depends: b$→Package: a$Version: 1$Architecture: all$→1→-
+Package: a$Version: 1$Architecture: all$Pre-Depends: b$→Package: a$Version: 1$Architecture: all$Depends: b$→1→-
+Package: a$Version: 1$Architecture: all$Conflicts: b (<< 2)$→Package: a$Version: 1$Architecture: all$Conflicts: b (<= 2)$→1→-
+Package: a$Version: 1$Architecture: all$Breaks: b:i386$→Package: a$Version: 1$Architecture: all$Breaks: b$→1→-
+Package: a$Version: 1$Architecture: all$Provides: b, c$→Package: a$Version: 1$Architecture: all$Provides: c, b$→1→-
+Package: a$Version: 1$Architecture: all$Depends: b|c$→Package: a$Version: 1$Architecture: all$Depends: b | c$→1→Package: a$Version: 1$Architecture: all$Depends: b | c$";
 
-// The packages of the index, the last first.
-fn reversed<'p, 'a>(
+// The numbers of stanzas, parted by spaces.
+fn is_among(number: usize, wanted: &str) -> bool {
+    wanted.split(' ').any(|word| word.parse::<usize>().is_ok_and(|found| found == number))
+}
+
+// Those of the packages whose stanzas have these numbers, the last first.
+fn picked<'p, 'a>(
     alloc: Global,
     index: &'p Index<'a>,
+    wanted: &str,
 ) -> Result<Vec<&'p IndexEntry<'a>>, AllocError> {
-    let mut entries = Vec::new(alloc);
+    let mut found = Vec::new(alloc);
     for entry in index.packages() {
-        entries.push(entry)?;
+        if is_among(entry.place().stanza, wanted) {
+            found.push(entry)?;
+        }
     }
-    entries.reverse();
-    Ok(entries)
+    found.reverse();
+    Ok(found)
 }
 
 // The texts one behind the other.
@@ -63,27 +81,26 @@ fn shown_of(
     }
 }
 
-// Whether the text gives this, however many bytes a reading gives.
-fn is_fetched(alloc: Global, index: &Index<'_>, row: &str) -> Result<bool, AllocError> {
-    let (text, wanted) = row.split_once('→').unwrap_or((row, ""));
-    let entries = in_order(reversed(alloc, index)?)?;
+// Whether this is fetched, however many bytes a reading gives.
+fn is_fetched(
+    alloc: Global,
+    index: &Index<'_>,
+    text: &[u8],
+    numbers: &str,
+    wanted: &[u8],
+) -> Result<bool, AllocError> {
+    let entries = in_order(picked(alloc, index, numbers)?)?;
     for most in 1..9 {
-        let shown = shown_of(alloc, entries.as_slice(), text.as_bytes(), most)?;
-        if shown.as_slice() != wanted.as_bytes() {
+        if shown_of(alloc, entries.as_slice(), text, most)?.as_slice() != wanted {
             return Ok(false);
         }
     }
-    Ok(true)
+    Ok(shown_of(alloc, entries.as_slice(), text, usize::MAX)?.as_slice() == wanted)
 }
 
-fn fails_as(alloc: Global, index: &Index<'_>) -> Result<Option<FetchError>, AllocError> {
-    let entries = in_order(reversed(alloc, index)?)?;
-    Ok(fetch(alloc, &mut Broken { failures: 0 }, ARCH, entries.as_slice()).err())
-}
-
-// What the first reading keeps.
-fn first_kept(alloc: Global) -> Result<KeptIndex, AllocError> {
-    let mut source = FIRST;
+// What the first reading keeps of the text.
+fn kept_of(alloc: Global, text: &[u8]) -> Result<KeptIndex, AllocError> {
+    let mut source = text;
     KeptIndex::read_from(alloc, &mut source, ARCH, 1, 0).map_err(|_| AllocError)
 }
 
@@ -92,21 +109,49 @@ fn lent(alloc: Global, kept: &KeptIndex) -> Result<Index<'_>, AllocError> {
     Index::of(alloc, kept, release)
 }
 
+fn is_row(
+    alloc: Global,
+    first: &str,
+    second: &str,
+    numbers: &str,
+    wanted: &str,
+) -> Result<bool, AllocError> {
+    let kept = kept_of(alloc, first.as_bytes())?;
+    let index = lent(alloc, &kept)?;
+    is_fetched(alloc, &index, second.as_bytes(), numbers, wanted.as_bytes())
+}
+
+fn holds(alloc: Global, row: &str) -> Result<bool, AllocError> {
+    let Some((first, rest)) = row.split_once('→') else {
+        return Ok(false);
+    };
+    let Some((second, rest)) = rest.split_once('→') else {
+        return Ok(false);
+    };
+    let Some((numbers, wanted)) = rest.split_once('→') else {
+        return Ok(false);
+    };
+    is_row(alloc, first, second, numbers, wanted)
+}
+
 #[test]
 fn a_stanza_is_fetched_where_it_is_of_the_same_package(rt: HostRuntime) -> Result<(), AllocError> {
-    let kept = first_kept(rt.alloc())?;
-    let index = lent(rt.alloc(), &kept)?;
     for row in ROWS.lines() {
         let row = row.replace(rt.alloc(), "$", "\n")?;
-        assert!(rt; is_fetched(rt.alloc(), &index, row.as_str())?, "{row}");
+        assert!(rt; holds(rt.alloc(), row.as_str())?, "{row}");
     }
     Ok(())
 }
 
+fn fails_as(alloc: Global) -> Result<Option<FetchError>, AllocError> {
+    let kept = kept_of(alloc, b"Package: a\nVersion: 1\nArchitecture: all\n")?;
+    let index = lent(alloc, &kept)?;
+    let entries = in_order(picked(alloc, &index, "1")?)?;
+    Ok(fetch(alloc, &mut Broken { failures: 0 }, ARCH, entries.as_slice()).err())
+}
+
 #[test]
 fn a_device_that_fails_is_no_change(rt: HostRuntime) -> Result<(), AllocError> {
-    let kept = first_kept(rt.alloc())?;
-    let index = lent(rt.alloc(), &kept)?;
-    assert!(rt; fails_as(rt.alloc(), &index)? == Some(FetchError::Read));
+    assert!(rt; fails_as(rt.alloc())? == Some(FetchError::Read));
     Ok(())
 }

@@ -253,7 +253,9 @@ fn assert_among_many<R: Abort + AllocGlobal>(
 
 const AMONG_MANY: &str = "\
 n100: y→
+n0: y→E4 DuplicateField 101
 N63: y→E4 DuplicateField 101
+A: y$N99: y→E4 DuplicateField 102
 A: y$B: y$a: y→E4 DuplicateField 103
 Explanation: y$A: y$explanation: y→E4 DuplicateField 103
 ";
