@@ -37,7 +37,7 @@ fn offered_cmp(offer: &Offer<'_>, version: &Version<'_>, ticks: &mut Ticks) -> O
 {
     match offer.version() {
         None => Ordering::Less,
-        Some(offered) => ticks.compare(offered, version),
+        Some(offered) => ticks.compare(&offered, version),
     }
 }
 

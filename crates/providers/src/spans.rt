@@ -9,14 +9,14 @@ use crate::offer::Offer;
 use indexmap::IndexMap;
 use std::alloc::{AllocError, Global};
 
-// How many at the front are of the name.
-fn run_len(offers: &[Offer<'_>], name: &[u8]) -> usize
-    ensures value { result ≡ prefix_len (is_offer_of name.now) offers.now }
+// How many at the front are of the name of this one.
+fn run_len(first: &Offer<'_>, offers: &[Offer<'_>]) -> usize
+    ensures value { result ≡ prefix_len (is_offer_of first.now.name) offers.now }
     ensures within { result ≤ length offers.now }
 {
     offers
         .iter()
-        .take_while(|offer| offer.name() == name)
+        .take_while(|offer| offer.is_named_as(first))
         .count()
 }
 
@@ -32,9 +32,9 @@ fn enter<'a>(
     ensures further { IfOk result (λ end. start < end) }
     ensures before { IfOk result (λ end. IsTableUpTo offers.now end spans.new.entries) }
 {
-    let name = offers[start].name();
-    let end = start + run_len(offers.split_at(start).1, name);
-    spans.insert(name, (start, end))?;
+    let first = &offers[start];
+    let end = start + run_len(first, offers.split_at(start).1);
+    spans.insert(first.name(), (start, end))?;
     Ok(end)
 }
 
