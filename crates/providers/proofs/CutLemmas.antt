@@ -102,10 +102,14 @@ filter_alike p q same (x ∷ xs) = elim (cases_Bool (q x)) [
   | inr fails ↦ rw (same x, fails) (filter_alike p q same xs)
 ]
 
--- a test that all pass keeps all
-pub filter_all : {X : Type 0} (p : X → Bool) → ((x : X) → p x ≡ true) → (xs : List X) → filter p xs ≡ xs
-filter_all p passes [] = refl
-filter_all p passes (x ∷ xs) = rw (passes x) (ap (λ ys. x ∷ ys) (filter_all p passes xs))
+-- tests that agree on each element keep the same
+pub filter_agreeing : {X : Type 0} (p q : X → Bool) (xs : List X) → ((x : X) → Contains xs x → p x ≡ q x) → filter p xs ≡ filter q xs
+filter_agreeing p q [] same = refl
+filter_agreeing p q (x ∷ xs) same = elim (cases_Bool (q x)) [
+  | inl passes ↦ rw (same x (Contains-head x xs), passes)
+      (ap (λ ys. x ∷ ys) (filter_agreeing p q xs (λ y within. same y (Contains-rest x xs y within))))
+  | inr fails ↦ rw (same x (Contains-head x xs), fails) (filter_agreeing p q xs (λ y within. same y (Contains-rest x xs y within)))
+]
 
 -- what a test keeps is no longer
 pub filter_shorter : {X : Type 0} (p : X → Bool) (xs : List X) → length (filter p xs) ≤ length xs

@@ -9,6 +9,7 @@ ghost use Rattle.providers.specs.Offers.{IsReadable, is_offer_of, offer_cmp, own
 ghost use Rattle.providers.specs.OfferLaws.{offer_cmp_total};
 
 use crate::prefix::{order_of, prefix_of};
+use crate::ticks::Ticked;
 use debversion::Version;
 use relation::Provided;
 use std::cmp::Ordering;
@@ -99,8 +100,8 @@ impl<'a> Offer<'a> {
         self.text.is_empty()
     }
 
-    /// The version, if there is one, which is read from its text.
-    pub(crate) fn version(&self) -> Option<Version<'a>>
+    // The version, if there is one, which is read from its text.
+    fn read(&self) -> Option<Version<'a>>
         ensures { result ≡ self.now.version }
     {
         if self.is_unversioned() {
@@ -110,6 +111,13 @@ impl<'a> Offer<'a> {
             Ok(version) => Some(version),
             Err(_) => unreachable!(),
         }
+    }
+
+    /// The version, if there is one, which is compared through a count alone.
+    pub(crate) fn version(&self) -> Option<Ticked<'a>>
+        ensures { result ≡ self.now.version }
+    {
+        self.read().map(Ticked::of)
     }
 
     /// The place of the package.
@@ -153,7 +161,7 @@ impl<'a> Offer<'a> {
         ensures { result ≡ ordering_then (option_cmp version_cmp self.now.version other.now.version)
             (ordering_then (nat_cmp self.now.place other.now.place) (option_cmp name_cmp self.now.version other.now.version)) }
     {
-        match version_cmp(self.version().as_ref(), other.version().as_ref()) {
+        match version_cmp(self.read().as_ref(), other.read().as_ref()) {
             Ordering::Equal => self.later_cmp(other),
             decided => decided,
         }

@@ -3,8 +3,9 @@ ghost use Rattle.std.specs.Prelude.{◌≡◌, ◌↔◌, ◌++◌, ◌+◌, ◌
 ghost use Rattle.std.specs.List.Sorted.{IsStrictlyIncreasing};
 ghost use Rattle.index.specs.Providers.{IsProviderAt, providers_of};
 ghost use Rattle.universe.specs.Universe.{packages_of};
-ghost use Rattle.providers.specs.Matching.{IsMatchAt};
+ghost use Rattle.providers.specs.Matching.{HasToCompare, IsMatchAt};
 ghost use Rattle.providers.specs.Offers.{AreOrdered, item_offers_of, own_offers_of, versioned_of};
+ghost use Rattle.providers.specs.Range.{IsCounted};
 
 use crate::draft::Draft;
 use crate::offer::Offer;
@@ -148,6 +149,7 @@ impl<'a> Providers<'a> {
         ensures matching { IfOk result (λ places. (place : ℕ) → Contains places.items place ↔ IsMatchAt self.now atom.now place) }
         ensures ascending { IfOk result (λ places. IsStrictlyIncreasing places.items) }
         ensures counted { (d : ℕ) → length (versioned_of atom.now.name self.now) < 2 ^ d → ticks.new ≤ ticks.old + 2 * d }
+        ensures compared { HasToCompare atom.now self.now → IsCounted ticks.old ticks.new }
     {
         if atom.is_foreign() {
             return Ok(Vec::new(alloc));
