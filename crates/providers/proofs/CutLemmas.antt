@@ -1,14 +1,17 @@
 -- Lists in order, cut at a point: what stands in front and behind, and what an order keeps.
-use Rattle.std.proofs.Common.{◌≡◌, ℕ, zero, suc, ◌≤◌, Bool, true, false, not, ◌&&◌, List, [], ◌∷◌, take, drop, get_or, length, ltb, refl, sym, ap, subst, ◌∙◌, arith}
+use Rattle.std.proofs.Common.{◌≡◌, ℕ, zero, suc, ◌+◌, ◌≤◌, Bool, true, false, not, cond, ◌&&◌, List, [], ◌∷◌, take, drop, get_or, length, ltb, refl, sym, ap, subst, ◌∙◌, arith, one-add}
 use Rattle.std.specs.Cmp.{IsTotalOrder}
-use Rattle.std.specs.List.{AllPairs, filter}
+use Rattle.std.specs.List.{AllPairs, Contains, filter, prefix_len}
 use Rattle.std.specs.List.Sorted.{IsPartitionPoint, IsPartitionedBy, IsStrictlySortedBy}
 use Rattle.std.specs.Ordering.{is_le, is_lt, ordering_then}
 use Rattle.std.specs.declared.cmp.Ordering.{Ordering}
 use Rattle.std.specs.declared.cmp.Ordering.TheVariants.{Less, Equal, Greater}
 use Rattle.std.proofs.lemmas.Bool.{cases_Bool, ltb-false, ltb-true}
 use Rattle.std.proofs.lemmas.Cmp.{alike_right}
-use Rattle.std.proofs.lemmas.Map.Keys.{Less-from_sorted}
+use Rattle.std.proofs.lemmas.List.{take-append-drop}
+use Rattle.std.proofs.lemmas.List.Elements.{Contains-append_right}
+use Rattle.std.proofs.lemmas.Map.Keys.{Less-from_sorted, sorted_tail}
+use Rattle.rules.specs.ElementLaws.{Contains-filter, Contains-head, Contains-rest}
 use mathlib.Core.Logic.{inl, inr}
 
 -- what stands before the point passes, and what stands behind it doesn't
@@ -99,10 +102,14 @@ filter_alike p q same (x ∷ xs) = elim (cases_Bool (q x)) [
   | inr fails ↦ rw (same x, fails) (filter_alike p q same xs)
 ]
 
--- a test that all pass keeps all
-pub filter_all : {X : Type 0} (p : X → Bool) → ((x : X) → p x ≡ true) → (xs : List X) → filter p xs ≡ xs
-filter_all p passes [] = refl
-filter_all p passes (x ∷ xs) = rw (passes x) (ap (λ ys. x ∷ ys) (filter_all p passes xs))
+-- tests that agree on each element keep the same
+pub filter_agreeing : {X : Type 0} (p q : X → Bool) (xs : List X) → ((x : X) → Contains xs x → p x ≡ q x) → filter p xs ≡ filter q xs
+filter_agreeing p q [] same = refl
+filter_agreeing p q (x ∷ xs) same = elim (cases_Bool (q x)) [
+  | inl passes ↦ rw (same x (Contains-head x xs), passes)
+      (ap (λ ys. x ∷ ys) (filter_agreeing p q xs (λ y within. same y (Contains-rest x xs y within))))
+  | inr fails ↦ rw (same x (Contains-head x xs), fails) (filter_agreeing p q xs (λ y within. same y (Contains-rest x xs y within)))
+]
 
 -- what a test keeps is no longer
 pub filter_shorter : {X : Type 0} (p : X → Bool) (xs : List X) → length (filter p xs) ≤ length xs
@@ -111,3 +118,40 @@ filter_shorter p (x ∷ xs) = elim (cases_Bool (p x)) [
   | inl passes ↦ rw passes (omega (arith, filter_shorter p xs))
   | inr fails ↦ rw fails (omega (arith, filter_shorter p xs))
 ]
+
+-- a test that none passes keeps none
+pub filter_none : {X : Type 0} (p : X → Bool) (xs : List X) → ((x : X) → Contains xs x → p x ≡ false) → filter p xs ≡ []
+filter_none p [] fails = refl
+filter_none {X} p (x ∷ xs) fails =
+    ap (λ (b : Bool). cond b (x ∷ filter p xs) (filter p xs)) (fails x (Contains-head x xs))
+    ∙ filter_none p xs (λ y within. fails y (Contains-rest x xs y within))
+
+-- Fronts
+
+-- a front that passes is kept
+pub filter_front : {X : Type 0} (p : X → Bool) (xs : List X) → filter p (take (prefix_len p xs) xs) ≡ take (prefix_len p xs) xs
+filter_front p [] = refl
+filter_front {X} p (x ∷ xs) = at (p x) refl (filter_front p xs)
+  where
+    at : (b : Bool) → p x ≡ b → filter p (take (prefix_len p xs) xs) ≡ take (prefix_len p xs) xs
+        → filter p (take (cond b (1 + prefix_len p xs) 0) (x ∷ xs)) ≡ take (cond b (1 + prefix_len p xs) 0) (x ∷ xs)
+    at true passes rest = rw one-add (
+        ap (λ (b : Bool). cond b (x ∷ filter p (take (prefix_len p xs) xs)) (filter p (take (prefix_len p xs) xs))) passes
+        ∙ ap (λ (ys : List X). x ∷ ys) rest)
+    at false passes rest = refl
+
+-- each of such a front passes
+pub front_passes_each : {X : Type 0} (p : X → Bool) (xs : List X) (x : X) → Contains (take (prefix_len p xs) xs) x → p x ≡ true
+front_passes_each p xs x within =
+    (Contains-filter p (take (prefix_len p xs) xs) x (subst (λ (ys : List _). Contains ys x) (sym (filter_front p xs)) within)).1
+
+-- what is in order stays so without its front
+pub sorted_behind : {X : Type 0} (R : X → X → Ordering) (n : ℕ) (xs : List X) → IsStrictlySortedBy R xs → IsStrictlySortedBy R (drop n xs)
+sorted_behind R zero xs up = up
+sorted_behind R (suc n) [] up = up
+sorted_behind R (suc n) (x ∷ xs) up = sorted_behind R n xs (sorted_tail R x xs up)
+
+-- what stands behind a front stands in the whole
+pub within_drop : {X : Type 0} (n : ℕ) (xs : List X) (x : X) → Contains (drop n xs) x → Contains xs x
+within_drop n xs x within = subst (λ (ys : List _). Contains ys x) (take-append-drop n xs)
+    (Contains-append_right (take n xs) (drop n xs) x within)

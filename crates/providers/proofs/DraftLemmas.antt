@@ -2,8 +2,8 @@
 use Rattle.std.proofs.Common.{◌≡◌, ℕ, ◌+◌, ◌<◌, List, [], ◌∷◌, ◌++◌, get_or, length, map, take, sym, ap, ◌∙◌}
 use Rattle.std.proofs.lemmas.List.{map-append, take_more}
 use Rattle.rules.specs.Package.{Pkg}
-use Rattle.providers.proofs.OfferLemmas.{offers_of-push}
-use Rattle.providers.specs.Offers.{Offer, offers_at, offers_of}
+use Rattle.providers.proofs.OfferLemmas.{each_of-push}
+use Rattle.providers.specs.Offers.{Offer, each_from}
 
 -- the packages of the items so far, and that of the next
 pub more_packages : {X : Type 0} (pkg_of : X → Pkg) (items : List X) (i : ℕ) (item : X) (pkg : Pkg) (before after : List Pkg)
@@ -15,8 +15,8 @@ more_packages {X} pkg_of items i item pkg before after within is of put so_far =
     ∙ sym (map-append pkg_of (take i items) (get_or items i item ∷ []))
     ∙ sym (ap (map pkg_of) (take_more items i item within))
 
--- what they offer
-pub more_offers : (before after : List Pkg) (pkg : Pkg) (offers more : List Offer) → after ≡ before ++ pkg ∷ []
-    → more ≡ offers ++ offers_at (length before) pkg → offers ≡ offers_of before → more ≡ offers_of after
-more_offers before after pkg offers more put offered so_far =
-    offered ∙ ap (λ (os : List Offer). os ++ offers_at (length before) pkg) so_far ∙ sym (offers_of-push before pkg) ∙ sym (ap offers_of put)
+-- what they offer in one way
+pub more_offers : (offers : ℕ → Pkg → List Offer) (before after : List Pkg) (pkg : Pkg) (old new : List Offer) → after ≡ before ++ pkg ∷ []
+    → new ≡ old ++ offers (length before) pkg → old ≡ each_from offers 0 before → new ≡ each_from offers 0 after
+more_offers offers before after pkg old new put offered so_far =
+    offered ∙ ap (λ (os : List Offer). os ++ offers (length before) pkg) so_far ∙ sym (each_of-push offers before pkg) ∙ sym (ap (each_from offers 0) put)

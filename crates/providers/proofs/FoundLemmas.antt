@@ -1,5 +1,5 @@
 -- What is found among the offers of packages, in order: who matches, and how many versions are looked among.
-use Rattle.std.proofs.Common.{◌≡◌, ◌↔◌, ℕ, ◌≤◌, false, List, Contains, Result, Ok, Err, IfOk, length, map, is_some, refl, sym, ap, subst, ◌∙◌}
+use Rattle.std.proofs.Common.{◌≡◌, ◌↔◌, ℕ, ◌<◌, ◌≤◌, false, List, Contains, Result, Ok, Err, IfOk, length, map, is_some, refl, sym, ap, subst, ◌∙◌}
 use Rattle.std.specs.List.{filter}
 use Rattle.std.specs.List.Sorted.{IsStrictlyIncreasing, IsStrictlySortedBy}
 use Rattle.std.specs.Ordering.{nat_cmp}
@@ -10,7 +10,7 @@ use Rattle.index.specs.Providers.{IsProviderAt, plain_atom, providers_of}
 use Rattle.rules.proofs.Rising.{AllPairs-rising, same_rising}
 use Rattle.rules.specs.Package.{Atom, Pkg}
 use Rattle.providers.proofs.OfferLemmas.{places_match}
-use Rattle.providers.proofs.RunLemmas.{IsRun-of_name, all_meet, fitting_is, versioned_fewer}
+use Rattle.providers.proofs.RunLemmas.{IsRun-of_name, all_meet, fitting_is, versioned_fewer, versioned_some}
 use Rattle.providers.specs.Matching.{IsMatchAt, fits, meets}
 use Rattle.providers.specs.Offers.{AreOrdered, Offer, is_offer_of, offer_cmp, offers_of, versioned_of}
 use Rattle.providers.specs.Range.{IsRun}
@@ -38,6 +38,10 @@ module _ (packages kept : List Pkg) (offers slice : List Offer) (are : AreOrdere
     pub run_counts : length (filter (λ offer. is_some offer.version) run) ≤ length (versioned_of name packages)
     run_counts = subst (λ (offers : List Offer). length (filter (λ offer. is_some offer.version) offers) ≤ length (versioned_of name packages)) (sym cut)
         (versioned_fewer name packages slice are_now)
+
+    pub run_has_versions : 0 < length (versioned_of name packages) → 0 < length (filter (λ offer. is_some offer.version) run)
+    run_has_versions some = subst (λ (offers : List Offer). 0 < length (filter (λ offer. is_some offer.version) offers)) (sym cut)
+        (versioned_some name packages slice are_now some)
 
   pub found_match : (atom : Atom) (run fitting : List Offer) → run ≡ filter (is_offer_of atom.name) slice → fitting ≡ filter (meets atom.restriction) run
       → atom.foreign ≡ false → (place : ℕ) → Contains (places_in fitting) place ↔ IsMatchAt packages atom place

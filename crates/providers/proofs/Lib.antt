@@ -1,7 +1,8 @@
 pub mod CutLemmas
 pub mod HalvingLemmas
-pub mod OrderLemmas
+pub mod PrefixLemmas
 pub mod OfferLemmas
+pub mod OrderLemmas
 pub mod RunLemmas
 pub mod DraftLemmas
 pub mod SpanLemmas

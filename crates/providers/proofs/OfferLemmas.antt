@@ -3,32 +3,61 @@ use Rattle.std.proofs.Common.{◌≡◌, ◌↔◌, ℕ, zero, suc, ◌+◌, Boo
 use Rattle.std.specs.List.{Any, filter, flat_map}
 use Rattle.std.proofs.lemmas.Bool.{cases_Bool}
 use Rattle.std.proofs.lemmas.List.{append-nil}
+use Rattle.std.specs.List.Sorted.{IsPermutation}
+use Rattle.std.proofs.lemmas.List.Sorted.{IsPermutation-append_comm, IsPermutation-append_left, IsPermutation-append_right, IsPermutation-cons, IsPermutation-refl, IsPermutation-trans}
 use Rattle.std.proofs.lemmas.List.Elements.{Contains-append_cases, Contains-append_left, Contains-append_right}
 use Rattle.rules.specs.ElementLaws.{Any-elim, Any-intro, Contains-cons, Contains-filter, Contains-filter_intro, Contains-head, Contains-map, Contains-map_intro, Contains-nil, Contains-rest}
 use Rattle.rules.specs.NamedLaws.{bytes_eq-same, bytes_eq-true}
 use Rattle.rules.specs.Package.{Atom, FitsByName, FitsByProvides, FitsProvided, Matches, Meets, MeetsAsProvided, Pkg, Provided}
+use Rattle.rules.specs.VersionFault.{first_fault}
+use Rattle.rules.specs.declared.bad_version.BadVersion.TheVariants.{Empty}
 use Rattle.rules.specs.declared.goal.Restriction.{Restriction}
 use Rattle.providers.specs.Matching.{IsMatchAt, fits, is_meeting}
-use Rattle.providers.specs.Offers.{Offer, offers_at, offers_by, offers_from, offers_of, own_offer, provided_offer}
+use Rattle.providers.specs.Offers.{Offer, each_from, item_offers_at, item_offers_of, offers_at, offers_by, offers_of, own_offer, own_offers_at, own_offers_of, provided_offer, version_in}
+
+-- the text of a version is kept as it
+pub version_in-text : (text version : List ℕ) → text ≡ version → first_fault version ≡ None → version_in text ≡ Some version
+unfolding first_fault
+version_in-text text [] is faultless = absurd (let e : Some Empty ≡ None = faultless in cc)
+version_in-text text (byte ∷ rest) is faultless = ap version_in is
 
 -- One package more
 
-pub offers_from-push : (first : ℕ) (packages : List Pkg) (pkg : Pkg)
-    → offers_from first (packages ++ pkg ∷ []) ≡ offers_from first packages ++ offers_at (first + length packages) pkg
-offers_from-push first [] pkg =
+pub each_from-push : (offers : ℕ → Pkg → List Offer) (first : ℕ) (packages : List Pkg) (pkg : Pkg)
+    → each_from offers first (packages ++ pkg ∷ []) ≡ each_from offers first packages ++ offers (first + length packages) pkg
+each_from-push offers first [] pkg =
     let same : first ≡ first + 0 = omega arith in
-    append-nil (offers_at first pkg) ∙ ap (λ (place : ℕ). offers_at place pkg) same
-offers_from-push first (head ∷ later) pkg =
+    append-nil (offers first pkg) ∙ ap (λ (place : ℕ). offers place pkg) same
+each_from-push offers first (head ∷ later) pkg =
     let same : (first + 1) + length later ≡ first + length (head ∷ later) = omega arith in
-    ap (λ (rest : List Offer). offers_at first head ++ rest)
-    (offers_from-push (first + 1) later pkg ∙ ap (λ (place : ℕ). offers_from (first + 1) later ++ offers_at place pkg) same)
-    ∙ sym (append_assoc (offers_at first head) (offers_from (first + 1) later) (offers_at (first + length (head ∷ later)) pkg))
+    ap (λ (rest : List Offer). offers first head ++ rest)
+    (each_from-push offers (first + 1) later pkg ∙ ap (λ (place : ℕ). each_from offers (first + 1) later ++ offers place pkg) same)
+    ∙ sym (append_assoc (offers first head) (each_from offers (first + 1) later) (offers (first + length (head ∷ later)) pkg))
 
-pub offers_of-push : (packages : List Pkg) (pkg : Pkg)
-    → offers_of (packages ++ pkg ∷ []) ≡ offers_of packages ++ offers_at (length packages) pkg
-offers_of-push packages pkg =
+-- where no package stands in front
+pub each_of-push : (offers : ℕ → Pkg → List Offer) (packages : List Pkg) (pkg : Pkg)
+    → each_from offers 0 (packages ++ pkg ∷ []) ≡ each_from offers 0 packages ++ offers (length packages) pkg
+each_of-push offers packages pkg =
     let same : 0 + length packages ≡ length packages = omega arith in
-    offers_from-push 0 packages pkg ∙ ap (λ (place : ℕ). offers_of packages ++ offers_at place pkg) same
+    each_from-push offers 0 packages pkg ∙ ap (λ (place : ℕ). each_from offers 0 packages ++ offers place pkg) same
+
+-- own names, and behind them items, are what packages offer in another order
+parted_from : (place : ℕ) (packages : List Pkg)
+    → IsPermutation (each_from offers_at place packages) (each_from own_offers_at place packages ++ each_from item_offers_at place packages)
+parted_from place [] = IsPermutation-refl []
+parted_from place (pkg ∷ later) =
+    let items = item_offers_at place pkg in
+    let own_later = each_from own_offers_at (place + 1) later in
+    let items_later = each_from item_offers_at (place + 1) later in
+    IsPermutation-cons (own_offer place pkg.name pkg.version) (items ++ each_from offers_at (place + 1) later) (own_later ++ (items ++ items_later))
+    (IsPermutation-trans (items ++ each_from offers_at (place + 1) later) (items ++ (own_later ++ items_later)) (own_later ++ (items ++ items_later))
+    (IsPermutation-append_right items (each_from offers_at (place + 1) later) (own_later ++ items_later) (parted_from (place + 1) later))
+    (subst (λ (xs : List Offer). IsPermutation xs (own_later ++ (items ++ items_later))) (append_assoc items own_later items_later)
+    (subst (λ (ys : List Offer). IsPermutation ((items ++ own_later) ++ items_later) ys) (append_assoc own_later items items_later)
+    (IsPermutation-append_left items_later (items ++ own_later) (own_later ++ items) (IsPermutation-append_comm items own_later)))))
+
+pub offers_parted : (packages : List Pkg) → IsPermutation (offers_of packages) (own_offers_of packages ++ item_offers_of packages)
+offers_parted packages = parted_from 0 packages
 
 -- What fits
 
@@ -145,24 +174,24 @@ pkg_from atom place pkg (inr some) = Any-elim (λ item. FitsProvided item atom) 
 abbrev IsFitAt : List Pkg → Atom → ℕ → Type 0
 IsFitAt packages atom place = (pkg : Pkg) × (slice_get packages place ≡ Some pkg) × FitsSome pkg atom
 
-list_to : (atom : Atom) (first : ℕ) (packages : List Pkg) (offer : Offer) → Contains (offers_from first packages) offer → fits atom offer ≡ true
+list_to : (atom : Atom) (first : ℕ) (packages : List Pkg) (offer : Offer) → Contains (each_from offers_at first packages) offer → fits atom offer ≡ true
     → (behind : ℕ) × (offer.place ≡ first + behind) × IsFitAt packages atom behind
 list_to atom first [] offer within passes = absurd (Contains-nil offer within)
-list_to atom first (pkg ∷ later) offer within passes = elim (Contains-append_cases (offers_at first pkg) (offers_from (first + 1) later) offer within) [
+list_to atom first (pkg ∷ later) offer within passes = elim (Contains-append_cases (offers_at first pkg) (each_from offers_at (first + 1) later) offer within) [
   | inl here ↦ let found = pkg_to atom first pkg offer here passes in (0, omega (arith, found.0), (pkg, refl, found.1))
   | inr rest ↦ let found = list_to atom (first + 1) later offer rest passes in (suc found.0, omega (arith, found.1), found.2)
 ]
 
 list_from : (atom : Atom) (first : ℕ) (packages : List Pkg) (behind : ℕ) → IsFitAt packages atom behind
-    → IsOffered atom (offers_from first packages) (first + behind)
+    → IsOffered atom (each_from offers_at first packages) (first + behind)
 list_from atom first [] behind found = absurd (let e : None ≡ Some found.0 = found.1 in cc)
 list_from atom first (pkg ∷ later) zero (found, is, fit) =
     let same : pkg ≡ found = cc in
     let here = pkg_from atom first pkg (subst (λ (p : Pkg). FitsSome p atom) (sym same) fit) in
-    (here.0, Contains-append_left (offers_at first pkg) (offers_from (first + 1) later) here.0 here.1, here.2, omega (arith, here.3))
+    (here.0, Contains-append_left (offers_at first pkg) (each_from offers_at (first + 1) later) here.0 here.1, here.2, omega (arith, here.3))
 list_from atom first (pkg ∷ later) (suc behind) found =
     let there = list_from atom (first + 1) later behind found in
-    (there.0, Contains-append_right (offers_at first pkg) (offers_from (first + 1) later) there.0 there.1, there.2, omega (arith, there.3))
+    (there.0, Contains-append_right (offers_at first pkg) (each_from offers_at (first + 1) later) there.0 there.1, there.2, omega (arith, there.3))
 
 -- Matches
 

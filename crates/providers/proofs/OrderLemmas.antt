@@ -1,5 +1,5 @@
 -- Offers that are sorted and freed of repetitions: the same ones, and no more than there were.
-use Rattle.std.proofs.Common.{◌≡◌, ℕ, ◌≤◌, Bool, true, false, cond, List, [], ◌∷◌, Option, Some, None, length, eqb, ltb, refl, sym, ap, subst, ◌∙◌, arith}
+use Rattle.std.proofs.Common.{◌≡◌, ℕ, ◌≤◌, Bool, true, false, cond, List, [], ◌∷◌, ◌++◌, Option, Some, None, length, eqb, ltb, refl, sym, ap, subst, ◌∙◌, arith}
 use Rattle.std.specs.Cmp.{eq_by_cmp_equiv}
 use Rattle.std.specs.List.{dedup, dedup_from, filter}
 use Rattle.std.specs.List.Sorted.{IsPermutation, IsSorted}
@@ -15,7 +15,9 @@ use Rattle.std.proofs.lemmas.Map.Text.{is_eq-slice_cmp}
 use Rattle.rules.specs.Name.{name_cmp}
 use Rattle.rules.specs.NamedLaws.{bytes_eq-true}
 use Rattle.rules.specs.Version.{version_cmp}
-use Rattle.providers.specs.Offers.{AreOrdered, Offer, offer_cmp}
+use Rattle.rules.specs.Package.{Pkg}
+use Rattle.providers.specs.Offers.{AreOrdered, Offer, item_offers_of, offer_cmp, offers_of, own_offers_of}
+use Rattle.providers.proofs.OfferLemmas.{offers_parted}
 use Rattle.providers.specs.OfferLaws.{offer_cmp_total}
 use mathlib.Core.Logic.{inl, inr}
 
@@ -107,3 +109,22 @@ AreOrdered-from_sort offers sorted ordered up moved same = subst (AreOrdered off
       let here : length (filter p (dedup (eq_by_cmp offer_cmp) sorted)) ≤ length (filter p sorted) = dedup_fewer (eq_by_cmp offer_cmp) p sorted in
       omega (arith, here, passing_moved p offers sorted moved);
 })
+
+-- the same holds of offers that stood in another order
+pub AreOrdered-moved : (offers moved ordered : List Offer) → IsPermutation offers moved → AreOrdered moved ordered → AreOrdered offers ordered
+AreOrdered-moved offers moved ordered by are = record {
+  ascending = are.ascending;
+  same = λ offer. (
+    λ within. Contains-permutation moved offers offer (IsPermutation-sym offers moved by) ((are.same offer).0 within),
+    λ within. (are.same offer).1 (Contains-permutation offers moved offer by within),
+  );
+  fewer = λ p. omega (arith, are.fewer p, passing_moved p offers moved by);
+}
+
+-- and of the offers of packages, which stood with own names in front of items
+pub ordered_offers : (packages : List Pkg) (own items ordered : List Offer) → own ≡ own_offers_of packages → items ≡ item_offers_of packages
+    → AreOrdered (own ++ items) ordered → AreOrdered (offers_of packages) ordered
+ordered_offers packages own items ordered own_is items_is are =
+    AreOrdered-moved (offers_of packages) (own_offers_of packages ++ item_offers_of packages) ordered (offers_parted packages)
+    (subst (λ (xs : List Offer). AreOrdered (own_offers_of packages ++ xs) ordered) items_is
+    (subst (λ (xs : List Offer). AreOrdered (xs ++ items) ordered) own_is are))

@@ -1,16 +1,21 @@
 -- The offers of a name among offers in order, those of them that have a version, and the range that meets a restriction.
-use Rattle.std.proofs.Common.{◌≡◌, ℕ, ◌≤◌, Bool, true, false, not, ◌&&◌, ◌⊎◌, List, [], ◌∷◌, Option, Some, None, length, get_or, is_some, refl, sym, ap, subst, ◌∙◌, arith}
+use Rattle.std.proofs.Common.{◌≡◌, ℕ, ◌+◌, ◌<◌, ◌≤◌, Bool, true, false, cond, not, ◌&&◌, List, [], ◌∷◌, ◌++◌, Option, Some, None, length, take, drop, get_or, is_some, refl, sym, ap, subst, ◌∙◌, arith, one-add}
 use Rattle.std.specs.Cmp.{Equal-is}
 use Rattle.std.specs.Cmp.Lexicographic.{nat_list_cmp_total, options_total}
-use Rattle.std.specs.List.{All, filter}
+use Rattle.std.specs.List.{All, Contains, filter, prefix_len}
 use Rattle.std.specs.List.Sorted.{IsPartitionedBy, IsStrictlySortedBy}
 use Rattle.std.specs.Option.{option_cmp}
-use Rattle.std.specs.Ordering.{is_eq, is_le, is_lt, nat_cmp, ordering_then}
+use Rattle.std.specs.Ordering.{is_eq, is_le, is_lt, nat_cmp, ordering_reverse, ordering_then}
 use Rattle.std.specs.declared.cmp.Ordering.{Ordering}
 use Rattle.std.specs.declared.cmp.Ordering.TheVariants.{Less, Equal, Greater}
-use Rattle.std.proofs.lemmas.List.Elements.{filter_passes}
+use Rattle.std.proofs.lemmas.Bool.{cases_Bool, true≢false}
+use Rattle.std.proofs.lemmas.List.{append-nil, take-append-drop}
+use Rattle.std.proofs.lemmas.List.Elements.{All-contains, All-filter, filter-append, filter_passes}
 use Rattle.std.proofs.lemmas.List.Kept.{AllPairs-filter, IsStrictlySortedBy-filter}
+use Rattle.std.proofs.lemmas.Map.Keys.{sorted_tail}
 use Rattle.std.proofs.lemmas.Map.Text.{is_eq-slice_cmp}
+use Rattle.std.proofs.lemmas.Map.Views.{All-after_first}
+use Rattle.rules.specs.ElementLaws.{Contains-cons, Contains-filter, Contains-filter_intro, Contains-head, Contains-nil, Contains-rest}
 use Rattle.rules.specs.Name.{name_cmp}
 use Rattle.rules.specs.NamedLaws.{bytes_eq-same, bytes_eq-true}
 use Rattle.rules.specs.Package.{Atom, Pkg}
@@ -18,11 +23,11 @@ use Rattle.rules.specs.Version.{is_met, version_cmp}
 use Rattle.rules.specs.VersionOrderLaws.{version_cmp_total}
 use Rattle.rules.specs.declared.goal.Restriction.{Restriction}
 use Rattle.rules.specs.declared.op.Op.{Op}
-use Rattle.rules.specs.declared.op.Op.TheVariants.{StrictlyEarlier, EarlierOrEqual, ExactlyEqual, LaterOrEqual, StrictlyLater}
-use Rattle.providers.proofs.CutLemmas.{before_keeps, filter_alike, filter_all, filter_twice, first_not_greater, pairs_sorted, parted, up_to_keeps}
+use Rattle.rules.specs.declared.op.Op.TheVariants.{ExactlyEqual, LaterOrEqual, StrictlyLater}
+use Rattle.providers.proofs.CutLemmas.{before_keeps, filter_agreeing, filter_alike, filter_front, filter_none, filter_twice, first_not_greater, pairs_sorted, parted, up_to_keeps}
 use Rattle.providers.specs.Matching.{fits, is_meeting, meets}
 use Rattle.providers.specs.Offers.{AreOrdered, Offer, is_offer_of, is_versioned_of, offer_cmp, offers_of, versioned_of}
-use Rattle.providers.specs.Range.{IsRun, is_early_enough, is_in_front, is_late_enough, offered_early_enough, offered_late_enough, stands_in_front}
+use Rattle.providers.specs.Range.{AreVersioned, IsRun, is_in_front, stands_in_front}
 use Rattle.providers.specs.declared.range.Cut.{Cut}
 use Rattle.providers.specs.declared.range.Cut.TheVariants.{Before, Behind}
 use mathlib.Core.Logic.{inl, inr}
@@ -37,30 +42,66 @@ rest_cmp a b = ordering_then (option_cmp version_cmp a.version b.version)
 name_not_greater : (a b : Offer) → offer_cmp a b ≡ Less → is_le (name_cmp a.name b.name) ≡ true
 name_not_greater a b below = first_not_greater (name_cmp a.name b.name) (rest_cmp a b) below
 
-pub parted_up_to : (offers : List Offer) (name : List ℕ) → IsStrictlySortedBy offer_cmp offers
-    → IsPartitionedBy (λ offer. is_le (name_cmp offer.name name)) offers
-parted_up_to offers name up = parted (λ (a b : Offer). offer_cmp a b ≡ Less) (λ (offer : Offer). is_le (name_cmp offer.name name)) offers
-    (pairs_sorted offer_cmp offers up)
-    (λ a b below passes. up_to_keeps name_cmp nat_list_cmp_total a.name b.name name (name_not_greater a b below) passes)
-
-pub parted_before : (offers : List Offer) (name : List ℕ) → IsStrictlySortedBy offer_cmp offers
-    → IsPartitionedBy (λ offer. is_lt (name_cmp offer.name name)) offers
-parted_before offers name up = parted (λ (a b : Offer). offer_cmp a b ≡ Less) (λ (offer : Offer). is_lt (name_cmp offer.name name)) offers
-    (pairs_sorted offer_cmp offers up)
-    (λ a b below passes. before_keeps name_cmp nat_list_cmp_total a.name b.name name (name_not_greater a b below) passes)
-
--- those up to the name that aren't before it are those of the name
-pub run_is : (name : List ℕ) (offers : List Offer)
-    → filter (λ offer. not (is_lt (name_cmp offer.name name))) (filter (λ offer. is_le (name_cmp offer.name name)) offers) ≡ filter (is_offer_of name) offers
-run_is name offers =
-    filter_twice (λ (offer : Offer). is_le (name_cmp offer.name name)) (λ (offer : Offer). not (is_lt (name_cmp offer.name name))) offers
-    ∙ filter_alike (λ (offer : Offer). is_le (name_cmp offer.name name) && not (is_lt (name_cmp offer.name name))) (is_offer_of name)
-    (λ offer. tied (name_cmp offer.name name) ∙ is_eq-slice_cmp offer.name name) offers
+-- names that aren't before each other are equal
+neither_before : (a b : List ℕ) → is_le (name_cmp a b) ≡ true → is_le (name_cmp b a) ≡ true → a ≡ b
+neither_before a b one other = by (name_cmp a b) refl one
   where
-    tied : (o : Ordering) → (is_le o && not (is_lt o)) ≡ is_eq o
-    tied Less = refl
-    tied Equal = refl
-    tied Greater = refl
+    by : (o : Ordering) → name_cmp a b ≡ o → is_le o ≡ true → a ≡ b
+    by Less e h = absurd (let f : false ≡ true = sym (ap is_le (nat_list_cmp_total.antisymm b a ∙ ap ordering_reverse e)) ∙ other in cc)
+    by Equal e h = bytes_eq-true a b (sym (is_eq-slice_cmp a b) ∙ ap is_eq e)
+    by Greater e h = absurd (let f : false ≡ true = h in cc)
+
+-- behind the offers of a name at the front of offers in order, none of which is before it, there are none of it
+pub behind_run : (name : List ℕ) (offers : List Offer) → IsStrictlySortedBy offer_cmp offers
+    → ((offer : Offer) → Contains offers offer → is_le (name_cmp name offer.name) ≡ true)
+    → (offer : Offer) → Contains (drop (prefix_len (is_offer_of name) offers) offers) offer → is_offer_of name offer ≡ false
+behind_run name [] up low offer within = absurd (Contains-nil offer within)
+behind_run name (x ∷ xs) up low offer within = at (is_offer_of name x) refl within
+    (behind_run name xs (sorted_tail offer_cmp x xs up) (λ o inside. low o (Contains-rest x xs o inside)) offer)
+  where
+    named : is_offer_of name offer ≡ true → Contains (x ∷ xs) offer → x.name ≡ name
+    named same there = elim (Contains-cons x xs offer there) [
+      | inl is ↦ ap (λ (o : Offer). o.name) is ∙ bytes_eq-true offer.name name same
+      | inr behind ↦
+          let below : offer_cmp x offer ≡ Less = All-contains (λ o. offer_cmp x o ≡ Less) xs offer (All-after_first offer_cmp x xs up) behind in
+          neither_before x.name name
+          (ap (λ (n : List ℕ). is_le (name_cmp x.name n)) (sym (bytes_eq-true offer.name name same)) ∙ name_not_greater x offer below)
+          (low x (Contains-head x xs))
+    ]
+
+    at : (b : Bool) → is_offer_of name x ≡ b
+        → Contains (drop (cond b (1 + prefix_len (is_offer_of name) xs) 0) (x ∷ xs)) offer
+        → (Contains (drop (prefix_len (is_offer_of name) xs) xs) offer → is_offer_of name offer ≡ false) → is_offer_of name offer ≡ false
+    at true passes there rest = rest (rw one-add at there)
+    at false fails there rest = elim (cases_Bool (is_offer_of name offer)) [
+      | inl same ↦ absurd (true≢false (sym (bytes_eq-same x.name name (named same there)) ∙ fails))
+      | inr other ↦ other
+    ]
+
+-- no offer of offers in order is of a name before that of the first
+pub first_is_least : (first : Offer) (rest : List Offer) → IsStrictlySortedBy offer_cmp (first ∷ rest)
+    → (offer : Offer) → Contains (first ∷ rest) offer → is_le (name_cmp first.name offer.name) ≡ true
+first_is_least first rest up offer within = elim (Contains-cons first rest offer within) [
+  | inl is ↦ ap is_le ((Equal-is (name_cmp first.name offer.name)).0
+      (is_eq-slice_cmp first.name offer.name ∙ bytes_eq-same first.name offer.name (ap (λ (o : Offer). o.name) is)))
+  | inr behind ↦ name_not_greater first offer
+      (All-contains (λ o. offer_cmp first o ≡ Less) rest offer (All-after_first offer_cmp first rest up) behind)
+]
+
+-- the offers of the first name at the front of offers in order are all of it, where none stands before these offers
+pub run_is : (before left : List Offer) (name : List ℕ) → ((offer : Offer) → Contains before offer → is_offer_of name offer ≡ false)
+    → ((offer : Offer) → Contains (drop (prefix_len (is_offer_of name) left) left) offer → is_offer_of name offer ≡ false)
+    → take (prefix_len (is_offer_of name) left) left ≡ filter (is_offer_of name) (before ++ left)
+run_is before left name apart none =
+    let p = is_offer_of name in
+    let n : ℕ = prefix_len p left in
+    sym (filter-append p before left
+    ∙ ap (λ (xs : List Offer). xs ++ filter p left) (filter_none p before apart)
+    ∙ ap (filter p) (sym (take-append-drop n left))
+    ∙ filter-append p (take n left) (drop n left)
+    ∙ ap (λ (xs : List Offer). filter p (take n left) ++ xs) (filter_none p (drop n left) none)
+    ∙ append-nil (filter p (take n left))
+    ∙ filter_front p left)
 
 -- Versions
 
@@ -110,52 +151,35 @@ parted_cut cut version offers run = parted (λ (a b : Offer). is_le (option_cmp 
 
 -- Ranges
 
-met_between : (op : Op) (ordering : Ordering) → (is_early_enough op ordering && is_late_enough op ordering) ≡ is_met op ordering
-met_between StrictlyEarlier Less = refl
-met_between StrictlyEarlier Equal = refl
-met_between StrictlyEarlier Greater = refl
-met_between EarlierOrEqual Less = refl
-met_between EarlierOrEqual Equal = refl
-met_between EarlierOrEqual Greater = refl
-met_between ExactlyEqual Less = refl
-met_between ExactlyEqual Equal = refl
-met_between ExactlyEqual Greater = refl
-met_between LaterOrEqual Less = refl
-met_between LaterOrEqual Equal = refl
-met_between LaterOrEqual Greater = refl
-met_between StrictlyLater Less = refl
-met_between StrictlyLater Equal = refl
-met_between StrictlyLater Greater = refl
+-- versions whose order to that of a restriction passes a test meet the restriction, where the test is the operator's
+pub met_by : (test : Ordering → Bool) (op : Op) → ((ordering : Ordering) → test ordering ≡ is_met op ordering) → (version : List ℕ) (offers : List Offer)
+    → AreVersioned offers
+    → filter (λ offer. test (option_cmp version_cmp offer.version (Some version))) offers ≡ filter (meets (Some (record { op = op; version = version }))) offers
+met_by test op same version offers versioned = filter_agreeing (λ (offer : Offer). test (option_cmp version_cmp offer.version (Some version)))
+    (meets (Some (record { op = op; version = version }))) offers
+    (λ offer within. at offer.version (All-contains (λ (o : Offer). is_some o.version ≡ true) offers offer versioned within))
+  where
+    at : (v : Option (List ℕ)) → is_some v ≡ true → test (option_cmp version_cmp v (Some version)) ≡ is_meeting (Some (record { op = op; version = version })) v
+    at None none = absurd (let e : false ≡ true = none in cc)
+    at (Some v) some = same (version_cmp v version)
 
-in_range : (restriction : Restriction) (version : Option (List ℕ))
-    → ((is_some version && is_early_enough restriction.op (option_cmp version_cmp version (Some restriction.version)))
-    && is_late_enough restriction.op (option_cmp version_cmp version (Some restriction.version)))
-    ≡ is_meeting (Some restriction) version
-in_range restriction None = refl
-in_range restriction (Some version) = met_between restriction.op (version_cmp version restriction.version)
+pub later_or_equal : (ordering : Ordering) → not (is_lt ordering) ≡ is_met LaterOrEqual ordering
+later_or_equal Less = refl
+later_or_equal Equal = refl
+later_or_equal Greater = refl
 
--- the last two operators find no version too late, and the first two none too early
-pub none_too_late : (op : Op) → (op ≡ LaterOrEqual) ⊎ (op ≡ StrictlyLater) → (version : List ℕ) (offers : List Offer)
-    → offers ≡ filter (offered_early_enough op version) offers
-none_too_late op (inl is) version offers = sym (filter_all (offered_early_enough op version) (λ offer. rw is refl) offers)
-none_too_late op (inr is) version offers = sym (filter_all (offered_early_enough op version) (λ offer. rw is refl) offers)
+pub strictly_later : (ordering : Ordering) → not (is_le ordering) ≡ is_met StrictlyLater ordering
+strictly_later Less = refl
+strictly_later Equal = refl
+strictly_later Greater = refl
 
-pub none_too_early : (op : Op) → (op ≡ StrictlyEarlier) ⊎ (op ≡ EarlierOrEqual) → (version : List ℕ) (offers : List Offer)
-    → offers ≡ filter (offered_late_enough op version) offers
-none_too_early op (inl is) version offers = sym (filter_all (offered_late_enough op version) (λ offer. rw is refl) offers)
-none_too_early op (inr is) version offers = sym (filter_all (offered_late_enough op version) (λ offer. rw is refl) offers)
+pub exactly_equal : (ordering : Ordering) → (is_le ordering && not (is_lt ordering)) ≡ is_met ExactlyEqual ordering
+exactly_equal Less = refl
+exactly_equal Equal = refl
+exactly_equal Greater = refl
 
--- of the versioned offers those that are neither too late nor too early meet the restriction
-pub range_is : (restriction : Restriction) (offers : List Offer)
-    → filter (offered_late_enough restriction.op restriction.version) (filter (offered_early_enough restriction.op restriction.version)
-    (filter (λ offer. is_some offer.version) offers)) ≡ filter (meets (Some restriction)) offers
-range_is restriction offers =
-    ap (filter (offered_late_enough restriction.op restriction.version))
-    (filter_twice (λ (offer : Offer). is_some offer.version) (offered_early_enough restriction.op restriction.version) offers)
-    ∙ filter_twice (λ (offer : Offer). is_some offer.version && offered_early_enough restriction.op restriction.version offer)
-    (offered_late_enough restriction.op restriction.version) offers
-    ∙ filter_alike (λ (offer : Offer). (is_some offer.version && offered_early_enough restriction.op restriction.version offer)
-    && offered_late_enough restriction.op restriction.version offer) (meets (Some restriction)) (λ offer. in_range restriction offer.version) offers
+pub AreVersioned-filter : (p : Offer → Bool) (offers : List Offer) → AreVersioned offers → AreVersioned (filter p offers)
+AreVersioned-filter p offers versioned = All-filter p (λ (offer : Offer). is_some offer.version ≡ true) offers versioned
 
 -- what meets no restriction is all
 pub all_meet : (offers : List Offer) → filter (meets None) offers ≡ offers
@@ -168,11 +192,17 @@ meeting_none restriction run is = subst (λ (r : Option Restriction). run ≡ fi
 
 pub meeting_some : (op : Op) (version : List ℕ) (restriction : Option Restriction) (run versioned range : List Offer)
     → Some (record { op = op; version = version }) ≡ restriction → versioned ≡ filter (λ offer. is_some offer.version) run
-    → range ≡ filter (offered_late_enough op version) (filter (offered_early_enough op version) versioned) → range ≡ filter (meets restriction) run
+    → range ≡ filter (meets (Some (record { op = op; version = version }))) versioned → range ≡ filter (meets restriction) run
 meeting_some op version restriction run versioned range is cut kept =
-    kept ∙ ap (λ (offers : List Offer). filter (offered_late_enough op version) (filter (offered_early_enough op version) offers)) cut
-    ∙ range_is (record { op = op; version = version }) run
+    kept ∙ ap (filter (meets (Some (record { op = op; version = version })))) cut
+    ∙ filter_twice (λ (offer : Offer). is_some offer.version) (meets (Some (record { op = op; version = version }))) run
+    ∙ filter_alike (λ (offer : Offer). is_some offer.version && meets (Some (record { op = op; version = version })) offer)
+    (meets (Some (record { op = op; version = version }))) (λ offer. at offer.version) run
     ∙ ap (λ (r : Option Restriction). filter (meets r) run) is
+  where
+    at : (v : Option (List ℕ)) → (is_some v && is_meeting (Some (record { op = op; version = version })) v) ≡ is_meeting (Some (record { op = op; version = version })) v
+    at None = refl
+    at (Some v) = refl
 
 -- those of the name that meet the restriction are those that fit
 pub fitting_is : (atom : Atom) (offers : List Offer) → filter (meets atom.restriction) (filter (is_offer_of atom.name) offers) ≡ filter (fits atom) offers
@@ -185,3 +215,19 @@ versioned_fewer name packages ordered are =
     let twice : length (filter (λ (offer : Offer). is_some offer.version) (filter (is_offer_of name) ordered)) ≡ length (filter (is_versioned_of name) ordered)
     = ap length (filter_twice (is_offer_of name) (λ (offer : Offer). is_some offer.version) ordered) in
     omega (arith, twice, are.fewer (is_versioned_of name))
+
+-- and some have where some of the packages' do
+pub versioned_some : (name : List ℕ) (packages : List Pkg) (ordered : List Offer) → AreOrdered (offers_of packages) ordered
+    → 0 < length (versioned_of name packages) → 0 < length (filter (λ offer. is_some offer.version) (filter (is_offer_of name) ordered))
+versioned_some name packages ordered are some = subst (λ (offers : List Offer). 0 < length offers)
+    (sym (filter_twice (is_offer_of name) (λ (offer : Offer). is_some offer.version) ordered))
+    (at (versioned_of name packages) refl some)
+  where
+    at : (offers : List Offer) → versioned_of name packages ≡ offers → 0 < length offers → 0 < length (filter (is_versioned_of name) ordered)
+    at [] same none = absurd (omega (arith, none))
+    at (offer ∷ offers) same some =
+        let there : Contains (versioned_of name packages) offer = subst (λ (xs : List Offer). Contains xs offer) (sym same) (Contains-head offer offers) in
+        let kept = Contains-filter (is_versioned_of name) (offers_of packages) offer there in
+        let within : Contains (filter (is_versioned_of name) ordered) offer =
+        Contains-filter_intro (is_versioned_of name) ordered offer ((are.same offer).1 kept.0) kept.1 in
+        omega (arith, within.1)

@@ -1,4 +1,5 @@
 pub mod Offers
+pub mod Prefix
 pub mod OfferLaws
 pub mod Matching
 pub mod Range

@@ -1,6 +1,6 @@
 -- What the packages of a list offer: names, each in a version or in none, and the places of the packages, counted from 0
 -- (Policy 7.1 and 7.5). A package offers its own name in its own version, and each item of Provides that isn't foreign.
-use Rattle.std.specs.Prelude.{ℕ, Bool, ◌+◌, ◌&&◌, ◌↔◌, List, [], ◌∷◌, ◌++◌, Option, Some, bytes_eq, is_some, length, ◌≤◌, if◌then◌else◌}
+use Rattle.std.specs.Prelude.{◌≡◌, ℕ, Bool, ◌+◌, ◌&&◌, ◌↔◌, List, [], ◌∷◌, ◌++◌, Option, None, Some, bytes_eq, is_some, length, ◌≤◌, if◌then◌else◌}
 use Rattle.std.specs.List.{Contains, filter, flat_map}
 use Rattle.std.specs.List.Sorted.{IsStrictlySortedBy}
 use Rattle.std.specs.Option.{option_cmp}
@@ -9,12 +9,23 @@ use Rattle.std.specs.declared.cmp.Ordering.{Ordering}
 use Rattle.rules.specs.Name.{name_cmp}
 use Rattle.rules.specs.Package.{Pkg, Provided}
 use Rattle.rules.specs.Version.{version_cmp}
+use Rattle.rules.specs.VersionFault.{first_fault}
 
 -- a name that a package offers, the version in which it does, if there is one, and the place of the package
 pub record Offer : Type 0 where
   pub name : List ℕ
   pub version : Option (List ℕ)
   pub place : ℕ
+
+-- the version that is kept as this text, which is empty where there is none
+abbrev pub version_in : List ℕ → Option (List ℕ)
+version_in [] = None
+version_in (byte ∷ rest) = Some (byte ∷ rest)
+
+-- the version, if there is one, has no fault
+abbrev pub IsReadable : Option (List ℕ) → Type 0
+IsReadable None = Unit {0}
+IsReadable (Some version) = first_fault version ≡ None
 
 -- what a package at this place offers by its own name and version, which are these
 abbrev pub own_offer : ℕ → List ℕ → List ℕ → Offer
@@ -28,18 +39,34 @@ provided_offer place item = record { name = item.name; version = item.version; p
 abbrev pub offers_by : ℕ → Provided → List Offer
 offers_by place item = if item.foreign then [] else provided_offer place item ∷ []
 
--- what the package at this place offers
-abbrev pub offers_at : ℕ → Pkg → List Offer
-offers_at place pkg = own_offer place pkg.name pkg.version ∷ flat_map (offers_by place) pkg.relations.provides
+-- what the package at this place offers by its own name
+abbrev pub own_offers_at : ℕ → Pkg → List Offer
+own_offers_at place pkg = own_offer place pkg.name pkg.version ∷ []
 
--- what these packages offer, the first of which stands at this place
-abbrev pub offers_from : ℕ → List Pkg → List Offer
-offers_from place [] = []
-offers_from place (pkg ∷ later) = offers_at place pkg ++ offers_from (place + 1) later
+-- what it offers by items of Provides
+abbrev pub item_offers_at : ℕ → Pkg → List Offer
+item_offers_at place pkg = flat_map (offers_by place) pkg.relations.provides
+
+-- what it offers by both
+abbrev pub offers_at : ℕ → Pkg → List Offer
+offers_at place pkg = own_offers_at place pkg ++ item_offers_at place pkg
+
+-- what each of these packages offers in this way, the first of which stands at this place
+abbrev pub each_from : (ℕ → Pkg → List Offer) → ℕ → List Pkg → List Offer
+each_from offers place [] = []
+each_from offers place (pkg ∷ later) = offers place pkg ++ each_from offers (place + 1) later
+
+-- what the packages of a list offer by their own names
+abbrev pub own_offers_of : List Pkg → List Offer
+own_offers_of packages = each_from own_offers_at 0 packages
+
+-- what they offer by items of Provides
+abbrev pub item_offers_of : List Pkg → List Offer
+item_offers_of packages = each_from item_offers_at 0 packages
 
 -- what the packages of a list offer
 abbrev pub offers_of : List Pkg → List Offer
-offers_of packages = offers_from 0 packages
+offers_of packages = each_from offers_at 0 packages
 
 -- it is of this name
 abbrev pub is_offer_of : List ℕ → Offer → Bool

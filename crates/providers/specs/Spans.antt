@@ -1,5 +1,5 @@
 -- Where the offers of each name stand among offers in order, by a table of the names.
-use Rattle.std.specs.Prelude.{◌≡◌, ℕ, true, ◌≤◌, List, Option, Some, bytes_eq, drop, is_some, length, take}
+use Rattle.std.specs.Prelude.{◌≡◌, ℕ, true, ◌≤◌, List, Option, None, Some, bytes_eq, drop, is_some, length, take}
 use Rattle.std.specs.Borrow.{Bor}
 use Rattle.std.specs.List.{All, filter}
 use Rattle.std.specs.Map.{lookup}
@@ -23,9 +23,16 @@ AreSpans offers table = (name : List ℕ) (start end : ℕ) → span_in table na
 abbrev pub HasNames : List Offer → List (Bor (List ℕ) × (ℕ × ℕ)) → Type 0
 HasNames offers table = All (λ offer. is_some (span_in table offer.name) ≡ true) offers
 
--- each name of the first table is one of the second
-abbrev pub KeepsNames : List (Bor (List ℕ) × (ℕ × ℕ)) → List (Bor (List ℕ) × (ℕ × ℕ)) → Type 0
-KeepsNames old new = (name : List ℕ) → is_some (span_in old name) ≡ true → is_some (span_in new name) ≡ true
+-- the table has no name of these offers
+abbrev pub HasNoNames : List Offer → List (Bor (List ℕ) × (ℕ × ℕ)) → Type 0
+HasNoNames offers table = All (λ offer. span_in table offer.name ≡ None) offers
+
+-- the table has the names of the offers before this place, says of each where its offers stand, and has no later name
+pub record IsTableUpTo (offers : List Offer) (place : ℕ) (table : List (Bor (List ℕ) × (ℕ × ℕ))) : Type 0 where
+  pub within : place ≤ length offers
+  pub right : AreSpans offers table
+  pub whole : HasNames (take place offers) table
+  pub later : HasNoNames (drop place offers) table
 
 -- the table says of each name where its offers stand
 pub record IsTable (offers : List Offer) (table : List (Bor (List ℕ) × (ℕ × ℕ))) : Type 0 where

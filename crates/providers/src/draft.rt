@@ -1,7 +1,7 @@
 //! The packages of a list so far, and what they offer.
 ghost use Rattle.std.specs.Prelude.{◌≡◌, ◌++◌, ◌∷◌, [], OnOk, length};
 ghost use Rattle.std.specs.List.{flat_map};
-ghost use Rattle.providers.specs.Offers.{offers_at, offers_by};
+ghost use Rattle.providers.specs.Offers.{item_offers_at, offers_by, own_offers_at};
 
 use crate::offer::Offer;
 use crate::seen::SeenPkg;
@@ -12,11 +12,13 @@ use std::marker::Model;
 use std::snapshot::Snapshot;
 use universe::{CountingProvides, Pair};
 
-/// Packages, which contracts alone see, and what they offer, in their order.
+/// Packages, which contracts alone see, and what they offer by their own names and by items of Provides, in their order. The
+/// two stand apart, since packages come mostly in the order of their names.
 #[derive(Drop)]
 pub(crate) struct Draft<'a> {
     pub(crate) packages: Vec<Snapshot<SeenPkg<'a>>>,
-    pub(crate) offers: Vec<Offer<'a>>,
+    pub(crate) own: Vec<Offer<'a>>,
+    pub(crate) items: Vec<Offer<'a>>,
 }
 
 impl<'a> Model for Draft<'a> {
@@ -24,9 +26,9 @@ impl<'a> Model for Draft<'a> {
     ghost use Rattle.rules.specs.Package.{Pkg as PkgValue};
     ghost use Rattle.providers.specs.Offers.{Offer as OfferValue};
 
-    ghost Value = { List PkgValue × List OfferValue };
+    ghost Value = { List PkgValue × List OfferValue × List OfferValue };
 
-    ghost view = { λ d. (map (λ seen. seen.value) d.packages.items, d.offers.items) };
+    ghost view = { λ d. (map (λ seen. seen.value) d.packages.items, d.own.items, d.items.items) };
 }
 
 // Puts what the item offers behind the others, unless it is foreign.
@@ -60,11 +62,12 @@ fn push_items<'a>(
 impl<'a> Draft<'a> {
     /// No packages.
     pub(crate) fn new(alloc: Global) -> Draft<'a>
-        ensures { result ≡ ([], []) }
+        ensures { result ≡ ([], [], []) }
     {
         Draft {
             packages: Vec::new(alloc),
-            offers: Vec::new(alloc),
+            own: Vec::new(alloc),
+            items: Vec::new(alloc),
         }
     }
 
@@ -80,11 +83,12 @@ impl<'a> Draft<'a> {
         requires version { version.now ≡ seen.now.version }
         requires items { items.now ≡ seen.now.relations.provides }
         ensures packages { OnOk result (self.new.0 ≡ self.old.0 ++ seen.now ∷ []) }
-        ensures offers { OnOk result (self.new.1 ≡ self.old.1 ++ offers_at (length self.old.0) seen.now) }
+        ensures own { OnOk result (self.new.1 ≡ self.old.1 ++ own_offers_at (length self.old.0) seen.now) }
+        ensures items { OnOk result (self.new.2 ≡ self.old.2 ++ item_offers_at (length self.old.0) seen.now) }
     {
         let place = self.packages.len();
-        self.offers.push(Offer::own(name, version, place))?;
-        push_items(&mut self.offers, place, items)?;
+        self.own.push(Offer::own(name, version, place))?;
+        push_items(&mut self.items, place, items)?;
         self.packages.push(Snapshot::of(seen))?;
         Ok(())
     }
@@ -92,7 +96,8 @@ impl<'a> Draft<'a> {
     /// Puts a package behind the others. Memory alone can fail. Linear in its items of Provides.
     pub(crate) fn push(&mut self, pkg: &Pkg<'a>) -> Result<(), AllocError>
         ensures packages { OnOk result (self.new.0 ≡ self.old.0 ++ pkg.now ∷ []) }
-        ensures offers { OnOk result (self.new.1 ≡ self.old.1 ++ offers_at (length self.old.0) pkg.now) }
+        ensures own { OnOk result (self.new.1 ≡ self.old.1 ++ own_offers_at (length self.old.0) pkg.now) }
+        ensures items { OnOk result (self.new.2 ≡ self.old.2 ++ item_offers_at (length self.old.0) pkg.now) }
     {
         self.push_seen(
             &SeenPkg::of_pkg(pkg),
@@ -106,7 +111,8 @@ impl<'a> Draft<'a> {
     /// Linear in that field.
     pub(crate) fn push_pair(&mut self, alloc: Global, pair: &Pair<'_, 'a>) -> Result<(), AllocError>
         ensures packages { OnOk result (self.new.0 ≡ self.old.0 ++ pair.now.pkg ∷ []) }
-        ensures offers { OnOk result (self.new.1 ≡ self.old.1 ++ offers_at (length self.old.0) pair.now.pkg) }
+        ensures own { OnOk result (self.new.1 ≡ self.old.1 ++ own_offers_at (length self.old.0) pair.now.pkg) }
+        ensures items { OnOk result (self.new.2 ≡ self.old.2 ++ item_offers_at (length self.old.0) pair.now.pkg) }
     {
         let provides = CountingProvides::of_pair(alloc, pair)?;
         self.push_seen(

@@ -6,6 +6,7 @@
 mod draft;
 mod offer;
 mod places;
+mod prefix;
 mod providers;
 mod range;
 mod run;

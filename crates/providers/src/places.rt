@@ -1,9 +1,9 @@
 //! The places of what packages offer.
-ghost use Rattle.std.specs.Prelude.{◌≡◌, ◌↔◌, ◌+◌, ◌*◌, ◌^◌, ◌<◌, ◌≤◌, ℕ, Contains, IfOk, is_some, length, map};
+ghost use Rattle.std.specs.Prelude.{◌≡◌, ◌↔◌, ◌+◌, ◌*◌, ◌^◌, ◌<◌, ◌≤◌, ℕ, Contains, IfOk, IsSome, is_some, length, map};
 ghost use Rattle.std.specs.List.{filter};
 ghost use Rattle.std.specs.List.Sorted.{IsStrictlyIncreasing};
 ghost use Rattle.providers.specs.Matching.{meets};
-ghost use Rattle.providers.specs.Range.{IsRun};
+ghost use Rattle.providers.specs.Range.{IsCounted, IsRun};
 
 use crate::offer::Offer;
 use crate::range::range_of;
@@ -21,6 +21,7 @@ pub(crate) fn meeting<'k, 'a>(
     requires { IsRun run.now }
     ensures meeting { result.now ≡ filter (meets atom.now.restriction) run.now }
     ensures counted { (d : ℕ) → length (filter (λ offer. is_some offer.version) run.now) < 2 ^ d → ticks.new ≤ ticks.old + 2 * d }
+    ensures compared { IsSome atom.now.restriction → 0 < length (filter (λ offer. is_some offer.version) run.now) → IsCounted ticks.old ticks.new }
 {
     let with_versions = versioned(run);
     match atom.restriction() {

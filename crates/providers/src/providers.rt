@@ -1,10 +1,11 @@
 //! Who has or provides a name, and who matches an atom.
-ghost use Rattle.std.specs.Prelude.{◌≡◌, ◌↔◌, ◌+◌, ◌*◌, ◌^◌, ◌<◌, ◌≤◌, ℕ, Contains, IfOk, length, map};
+ghost use Rattle.std.specs.Prelude.{◌≡◌, ◌↔◌, ◌++◌, ◌+◌, ◌*◌, ◌^◌, ◌<◌, ◌≤◌, ℕ, Contains, IfOk, length, map};
 ghost use Rattle.std.specs.List.Sorted.{IsStrictlyIncreasing};
 ghost use Rattle.index.specs.Providers.{IsProviderAt, providers_of};
 ghost use Rattle.universe.specs.Universe.{packages_of};
-ghost use Rattle.providers.specs.Matching.{IsMatchAt};
-ghost use Rattle.providers.specs.Offers.{AreOrdered, offers_of, versioned_of};
+ghost use Rattle.providers.specs.Matching.{HasToCompare, IsMatchAt};
+ghost use Rattle.providers.specs.Offers.{AreOrdered, item_offers_of, own_offers_of, versioned_of};
+ghost use Rattle.providers.specs.Range.{IsCounted};
 
 use crate::draft::Draft;
 use crate::offer::Offer;
@@ -45,7 +46,8 @@ impl<'a> Model for Providers<'a> {
 // The packages of the list, and what they offer.
 fn draft_of<'a>(alloc: Global, packages: &[&Pkg<'a>]) -> Result<Draft<'a>, AllocError>
     ensures packages { IfOk result (λ draft. draft.0 ≡ map (λ pkg. pkg.now) packages.now) }
-    ensures offers { IfOk result (λ draft. draft.1 ≡ offers_of draft.0) }
+    ensures own { IfOk result (λ draft. draft.1 ≡ own_offers_of draft.0) }
+    ensures items { IfOk result (λ draft. draft.2 ≡ item_offers_of draft.0) }
 {
     let mut draft = Draft::new(alloc);
     for pkg in packages {
@@ -60,7 +62,8 @@ fn draft_of_universe<'a>(
     universe: &Universe<'_, 'a>,
 ) -> Result<Draft<'a>, AllocError>
     ensures packages { IfOk result (λ draft. draft.0 ≡ packages_of universe.now.pairs) }
-    ensures offers { IfOk result (λ draft. draft.1 ≡ offers_of draft.0) }
+    ensures own { IfOk result (λ draft. draft.1 ≡ own_offers_of draft.0) }
+    ensures items { IfOk result (λ draft. draft.2 ≡ item_offers_of draft.0) }
 {
     let mut draft = Draft::new(alloc);
     for pair in universe.pairs() {
@@ -70,10 +73,13 @@ fn draft_of_universe<'a>(
 }
 
 // The offers in order, and none twice.
-fn in_order<'a>(offers: Vec<Offer<'a>>) -> Result<Vec<Offer<'a>>, AllocError>
-    ensures { IfOk result (λ ordered. AreOrdered offers.entry.items ordered.items) }
+fn in_order<'a>(own: Vec<Offer<'a>>, items: Vec<Offer<'a>>) -> Result<Vec<Offer<'a>>, AllocError>
+    ensures { IfOk result (λ ordered. AreOrdered (own.entry.items ++ items.entry.items) ordered.items) }
 {
-    let mut ordered = offers;
+    let mut ordered = own;
+    let mut further = items;
+    ordered.append(&mut further)?;
+    // Own names mostly are in order already: the sort finds that, and merges the items in.
     ordered.sort()?;
     // A package may provide a name twice in one version, or without.
     ordered.dedup();
@@ -83,11 +89,16 @@ fn in_order<'a>(offers: Vec<Offer<'a>>) -> Result<Vec<Offer<'a>>, AllocError>
 impl<'a> Providers<'a> {
     // The packages of the draft.
     fn of_draft(alloc: Global, draft: Draft<'a>) -> Result<Providers<'a>, AllocError>
-        requires { draft.1 ≡ offers_of draft.0 }
+        requires own { draft.1 ≡ own_offers_of draft.0 }
+        requires items { draft.2 ≡ item_offers_of draft.0 }
         ensures { IfOk result (λ providers. providers ≡ draft.entry.0) }
     {
-        let Draft { packages, offers } = draft;
-        let offers = in_order(offers)?;
+        let Draft {
+            packages,
+            own,
+            items,
+        } = draft;
+        let offers = in_order(own, items)?;
         let spans = spans_of(alloc, offers.as_slice())?;
         Ok(Providers {
             packages,
@@ -138,6 +149,7 @@ impl<'a> Providers<'a> {
         ensures matching { IfOk result (λ places. (place : ℕ) → Contains places.items place ↔ IsMatchAt self.now atom.now place) }
         ensures ascending { IfOk result (λ places. IsStrictlyIncreasing places.items) }
         ensures counted { (d : ℕ) → length (versioned_of atom.now.name self.now) < 2 ^ d → ticks.new ≤ ticks.old + 2 * d }
+        ensures compared { HasToCompare atom.now self.now → IsCounted ticks.old ticks.new }
     {
         if atom.is_foreign() {
             return Ok(Vec::new(alloc));

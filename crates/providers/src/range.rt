@@ -1,10 +1,11 @@
 //! The range of the offers of one name whose versions meet a restriction, by binary searches that count.
-ghost use Rattle.std.specs.Prelude.{◌≡◌, ◌+◌, ◌*◌, ◌^◌, ◌-◌, ◌<◌, ◌≤◌, ℕ, Some, length, not, true, false};
+ghost use Rattle.std.specs.Prelude.{◌≡◌, ◌+◌, ◌*◌, ◌^◌, ◌-◌, ◌<◌, ◌≤◌, ℕ, Some, is_some, length, not, true, false};
 ghost use Rattle.std.specs.List.{AllWithin, filter};
 ghost use Rattle.std.specs.List.Sorted.{IsPartitionPoint, IsPartitionedBy};
 ghost use Rattle.std.specs.Option.{option_cmp};
 ghost use Rattle.rules.specs.Version.{version_cmp};
-ghost use Rattle.providers.specs.Range.{IsRun, is_in_front, offered_early_enough, offered_late_enough, stands_in_front};
+ghost use Rattle.providers.specs.Matching.{meets};
+ghost use Rattle.providers.specs.Range.{AreVersioned, IsCounted, IsRun, is_in_front, stands_in_front};
 
 use crate::offer::Offer;
 use crate::ticks::Ticks;
@@ -34,10 +35,12 @@ impl Cut {
 fn offered_cmp(offer: &Offer<'_>, version: &Version<'_>, ticks: &mut Ticks) -> Ordering
     ensures ordering { result ≡ option_cmp version_cmp offer.now.version (Some version.now) }
     ensures counted { ticks.new ≤ ticks.old + 1 }
+    ensures no_fewer { ticks.old ≤ ticks.new }
+    ensures compared { is_some offer.now.version ≡ true → IsCounted ticks.old ticks.new }
 {
     match offer.version() {
         None => Ordering::Less,
-        Some(offered) => ticks.compare(offered, version),
+        Some(offered) => offered.compare(version, ticks),
     }
 }
 
@@ -45,6 +48,8 @@ fn offered_cmp(offer: &Offer<'_>, version: &Version<'_>, ticks: &mut Ticks) -> O
 fn stands_in_front(offer: &Offer<'_>, cut: Cut, version: &Version<'_>, ticks: &mut Ticks) -> bool
     ensures front { result ≡ stands_in_front cut version.now offer.now }
     ensures counted { ticks.new ≤ ticks.old + 1 }
+    ensures no_fewer { ticks.old ≤ ticks.new }
+    ensures compared { is_some offer.now.version ≡ true → IsCounted ticks.old ticks.new }
 {
     cut.is_in_front(offered_cmp(offer, version, ticks))
 }
@@ -63,10 +68,13 @@ fn cut_between(
     requires within { end ≤ length offers.now }
     requires front { AllWithin (λ offer. stands_in_front cut version.now offer ≡ true) offers.now 0 start }
     requires back { AllWithin (λ offer. stands_in_front cut version.now offer ≡ false) offers.now end (length offers.now) }
+    requires versioned { AreVersioned offers.now }
     ensures point { IsPartitionPoint (λ offer. stands_in_front cut version.now offer ≡ true)
         (λ offer. stands_in_front cut version.now offer ≡ false) offers.now result }
     ensures within { result ≤ length offers.now }
     ensures counted { (d : ℕ) → end - start < 2 ^ d → ticks.new ≤ ticks.old + d }
+    ensures no_fewer { ticks.old ≤ ticks.new }
+    ensures compared { start < end → IsCounted ticks.old ticks.new }
 {
     if start >= end {
         return start;
@@ -86,9 +94,12 @@ fn in_front<'k, 'a>(
     version: &Version<'_>,
     ticks: &mut Ticks,
 ) -> &'k [Offer<'a>]
-    requires { IsRun offers.now }
+    requires run { IsRun offers.now }
+    requires versioned { AreVersioned offers.now }
     ensures front { result.now ≡ filter (stands_in_front cut version.now) offers.now }
     ensures counted { (d : ℕ) → length offers.now < 2 ^ d → ticks.new ≤ ticks.old + d }
+    ensures no_fewer { ticks.old ≤ ticks.new }
+    ensures compared { 0 < length offers.now → IsCounted ticks.old ticks.new }
 {
     let end = cut_between(offers, 0, offers.len(), cut, version, ticks);
     offers.split_at(end).0
@@ -101,48 +112,15 @@ fn behind<'k, 'a>(
     version: &Version<'_>,
     ticks: &mut Ticks,
 ) -> &'k [Offer<'a>]
-    requires { IsRun offers.now }
+    requires run { IsRun offers.now }
+    requires versioned { AreVersioned offers.now }
     ensures back { result.now ≡ filter (λ offer. not (stands_in_front cut version.now offer)) offers.now }
     ensures counted { (d : ℕ) → length offers.now < 2 ^ d → ticks.new ≤ ticks.old + d }
+    ensures no_fewer { ticks.old ≤ ticks.new }
+    ensures compared { 0 < length offers.now → IsCounted ticks.old ticks.new }
 {
     let start = cut_between(offers, 0, offers.len(), cut, version, ticks);
     offers.split_at(start).1
-}
-
-// Those that aren't too late for the restriction.
-fn early_enough<'k, 'a>(
-    offers: &'k [Offer<'a>],
-    op: Op,
-    version: &Version<'_>,
-    ticks: &mut Ticks,
-) -> &'k [Offer<'a>]
-    requires { IsRun offers.now }
-    ensures early { result.now ≡ filter (offered_early_enough op version.now) offers.now }
-    ensures counted { (d : ℕ) → length offers.now < 2 ^ d → ticks.new ≤ ticks.old + d }
-{
-    match op {
-        Op::StrictlyEarlier => in_front(offers, Cut::Before, version, ticks),
-        Op::EarlierOrEqual | Op::ExactlyEqual => in_front(offers, Cut::Behind, version, ticks),
-        Op::LaterOrEqual | Op::StrictlyLater => offers,
-    }
-}
-
-// Those that aren't too early for the restriction.
-fn late_enough<'k, 'a>(
-    offers: &'k [Offer<'a>],
-    op: Op,
-    version: &Version<'_>,
-    ticks: &mut Ticks,
-) -> &'k [Offer<'a>]
-    requires { IsRun offers.now }
-    ensures late { result.now ≡ filter (offered_late_enough op version.now) offers.now }
-    ensures counted { (d : ℕ) → length offers.now < 2 ^ d → ticks.new ≤ ticks.old + d }
-{
-    match op {
-        Op::StrictlyEarlier | Op::EarlierOrEqual => offers,
-        Op::ExactlyEqual | Op::LaterOrEqual => behind(offers, Cut::Before, version, ticks),
-        Op::StrictlyLater => behind(offers, Cut::Behind, version, ticks),
-    }
 }
 
 /// Those whose versions meet the restriction of this operator and version, by two binary searches at most.
@@ -152,11 +130,20 @@ pub(crate) fn range_of<'k, 'a>(
     version: &Version<'_>,
     ticks: &mut Ticks,
 ) -> &'k [Offer<'a>]
-    requires { IsRun offers.now }
-    ensures meeting { result.now ≡ filter (offered_late_enough op version.now)
-        (filter (offered_early_enough op version.now) offers.now) }
+    requires run { IsRun offers.now }
+    requires versioned { AreVersioned offers.now }
+    ensures meeting { result.now ≡ filter (meets (Some (record { op = op; version = version.now }))) offers.now }
     ensures counted { (d : ℕ) → length offers.now < 2 ^ d → ticks.new ≤ ticks.old + 2 * d }
+    ensures compared { 0 < length offers.now → IsCounted ticks.old ticks.new }
 {
-    let early = early_enough(offers, op, version, ticks);
-    late_enough(early, op, version, ticks)
+    match op {
+        Op::StrictlyEarlier => in_front(offers, Cut::Before, version, ticks),
+        Op::EarlierOrEqual => in_front(offers, Cut::Behind, version, ticks),
+        Op::ExactlyEqual => {
+            let early = in_front(offers, Cut::Behind, version, ticks);
+            behind(early, Cut::Before, version, ticks)
+        }
+        Op::LaterOrEqual => behind(offers, Cut::Before, version, ticks),
+        Op::StrictlyLater => behind(offers, Cut::Behind, version, ticks),
+    }
 }

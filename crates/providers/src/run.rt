@@ -5,17 +5,11 @@ ghost use Rattle.providers.specs.Range.{IsRun};
 
 use crate::offer::Offer;
 
-fn is_unversioned(offer: &Offer<'_>) -> bool
-    ensures { result ≡ not (is_some offer.now.version) }
-{
-    offer.version().is_none()
-}
-
 /// Those that have a version, which stand behind the others, by a binary search.
 pub(crate) fn versioned<'k, 'a>(run: &'k [Offer<'a>]) -> &'k [Offer<'a>]
     requires { IsRun run.now }
     ensures { result.now ≡ filter (λ offer. is_some offer.version) run.now }
 {
-    let start = run.partition_point(is_unversioned);
+    let start = run.partition_point(Offer::is_unversioned);
     run.split_at(start).1
 }

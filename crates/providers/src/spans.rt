@@ -1,76 +1,44 @@
 //! Where the offers of each name stand among offers in order.
-ghost use Rattle.std.specs.Prelude.{◌≡◌, ◌≤◌, IfOk, OnOk, drop, is_some, length, not, take, true};
-ghost use Rattle.std.specs.List.{filter};
+ghost use Rattle.std.specs.Prelude.{◌≡◌, ◌<◌, ◌≤◌, IfOk, drop, length, take};
+ghost use Rattle.std.specs.List.{filter, prefix_len};
 ghost use Rattle.std.specs.List.Sorted.{IsStrictlySortedBy};
-ghost use Rattle.std.specs.Ordering.{is_le, is_lt};
-ghost use Rattle.rules.specs.Name.{name_cmp};
 ghost use Rattle.providers.specs.Offers.{is_offer_of, offer_cmp};
-ghost use Rattle.providers.specs.Spans.{AreSpans, IsSpan, IsTable, KeepsNames, span_in};
+ghost use Rattle.providers.specs.Spans.{IsTable, IsTableUpTo};
 
 use crate::offer::Offer;
 use indexmap::IndexMap;
 use std::alloc::{AllocError, Global};
 
-fn is_up_to(offer: &Offer<'_>, name: &[u8]) -> bool
-    ensures { result ≡ is_le (name_cmp offer.now.name name.now) }
-{
-    offer.name().cmp(name).is_le()
-}
-
-fn is_before(offer: &Offer<'_>, name: &[u8]) -> bool
-    ensures { result ≡ is_lt (name_cmp offer.now.name name.now) }
-{
-    offer.name().cmp(name).is_lt()
-}
-
-// How many aren't behind the name, by a binary search.
-fn end_of(offers: &[Offer<'_>], name: &[u8]) -> usize
-    requires { IsStrictlySortedBy offer_cmp offers.now }
+// How many at the front are of the name of this one.
+fn run_len(first: &Offer<'_>, offers: &[Offer<'_>]) -> usize
+    ensures value { result ≡ prefix_len (is_offer_of first.now.name) offers.now }
     ensures within { result ≤ length offers.now }
-    ensures front { take result offers.now ≡ filter (λ offer. is_le (name_cmp offer.name name.now)) offers.now }
 {
-    offers.partition_point(|offer| is_up_to(offer, name))
+    offers
+        .iter()
+        .take_while(|offer| offer.is_named_as(first))
+        .count()
 }
 
-// How many are before the name, by a binary search.
-fn start_of(offers: &[Offer<'_>], name: &[u8]) -> usize
-    requires { IsStrictlySortedBy offer_cmp offers.now }
-    ensures within { result ≤ length offers.now }
-    ensures back { drop result offers.now ≡ filter (λ offer. not (is_lt (name_cmp offer.name name.now))) offers.now }
-{
-    offers.partition_point(|offer| is_before(offer, name))
-}
-
-// Where the offers of the name stand: from the first place up to the second.
-fn span_of(offers: &[Offer<'_>], name: &[u8]) -> (usize, usize)
-    requires { IsStrictlySortedBy offer_cmp offers.now }
-    ensures { IsSpan name.now offers.now result.0 result.1 }
-{
-    let end = end_of(offers, name);
-    let start = start_of(offers.split_at(end).0, name);
-    (start, end)
-}
-
-// Enters the name, unless it is there.
+// Enters the name of the offer at `start`, whose others follow it, and answers the place behind them.
 fn enter<'a>(
     spans: &mut IndexMap<&'a [u8], (usize, usize)>,
     offers: &[Offer<'a>],
-    name: &'a [u8],
-) -> Result<(), AllocError>
+    start: usize,
+) -> Result<usize, AllocError>
     requires sorted { IsStrictlySortedBy offer_cmp offers.now }
-    requires right { AreSpans offers.now spans.old.entries }
-    ensures right { OnOk result (AreSpans offers.now spans.new.entries) }
-    ensures kept { OnOk result (KeepsNames spans.old.entries spans.new.entries) }
-    ensures entered { OnOk result (is_some (span_in spans.new.entries name.now) ≡ true) }
+    requires left { start < length offers.now }
+    requires before { IsTableUpTo offers.now start spans.old.entries }
+    ensures further { IfOk result (λ end. start < end) }
+    ensures before { IfOk result (λ end. IsTableUpTo offers.now end spans.new.entries) }
 {
-    if spans.get(name).is_some() {
-        return Ok(());
-    }
-    spans.insert(name, span_of(offers, name))?;
-    Ok(())
+    let first = &offers[start];
+    let end = start + run_len(first, offers.split_at(start).1);
+    spans.insert(first.name(), (start, end))?;
+    Ok(end)
 }
 
-/// The table of the offers' names. Memory alone can fail. For each name two binary searches.
+/// The table of the offers' names, by one walk over the offers. Memory alone can fail.
 pub(crate) fn spans_of<'a>(
     alloc: Global,
     offers: &[Offer<'a>],
@@ -78,9 +46,11 @@ pub(crate) fn spans_of<'a>(
     requires { IsStrictlySortedBy offer_cmp offers.now }
     ensures { IfOk result (λ spans. IsTable offers.now spans.entries) }
 {
-    let mut spans = IndexMap::new(alloc);
-    for offer in offers {
-        enter(&mut spans, offers, offer.name())?;
+    // There are no more names than offers.
+    let mut spans = IndexMap::with_capacity(alloc, offers.len())?;
+    let mut start = 0;
+    while start < offers.len() {
+        start = enter(&mut spans, offers, start)?;
     }
     Ok(spans)
 }

@@ -1,4 +1,4 @@
-//! A count of comparisons.
+//! A count of comparisons, and versions that are compared through it alone.
 ghost use Rattle.std.specs.Prelude.{◌≡◌, ◌+◌, ◌<◌, ◌≤◌};
 ghost use Rattle.rules.specs.Version.{version_cmp};
 
@@ -40,8 +40,42 @@ impl Ticks {
         ensures ordering { result ≡ version_cmp version.now other.now }
         ensures counted { self.old < 18446744073709551615 → self.new ≡ self.old + 1 }
         ensures at_most_one { self.new ≤ self.old + 1 }
+        ensures no_fewer { self.old ≤ self.new }
     {
         self.count = self.count.saturating_add(1);
         version.cmp(other)
+    }
+}
+
+/// A version that has no order of its own: it is compared through a count, and through nothing else.
+#[derive(Drop)]
+pub(crate) struct Ticked<'a> {
+    version: Version<'a>,
+}
+
+impl<'a> Model for Ticked<'a> {
+    ghost use Rattle.std.specs.Prelude.{ℕ, List};
+
+    ghost Value = { List ℕ };
+
+    ghost view = { λ t. t.version };
+}
+
+impl<'a> Ticked<'a> {
+    /// This version.
+    pub(crate) fn of(version: Version<'a>) -> Ticked<'a>
+        ensures { result ≡ version.entry }
+    {
+        Ticked { version }
+    }
+
+    /// Its order to another version, which counts as one comparison.
+    pub(crate) fn compare(&self, other: &Version<'_>, ticks: &mut Ticks) -> Ordering
+        ensures ordering { result ≡ version_cmp self.now other.now }
+        ensures counted { ticks.old < 18446744073709551615 → ticks.new ≡ ticks.old + 1 }
+        ensures at_most_one { ticks.new ≤ ticks.old + 1 }
+        ensures no_fewer { ticks.old ≤ ticks.new }
+    {
+        ticks.compare(&self.version, other)
     }
 }

@@ -1,6 +1,7 @@
 -- One package more.
 use Rattle.std.proofs.Common.{Bor, refl}
 use Rattle.rules.specs.Package.{Pkg}
+use Rattle.providers.specs.Offers.{item_offers_at, own_offers_at}
 use Rattle.providers.proofs.DraftLemmas.{more_offers, more_packages}
 use Rattle.providers.proofs.providers.draft_of.Goals as goal
 
@@ -8,6 +9,8 @@ pub loop-pkg-preserved : goal.loop-pkg-preserved
 loop-pkg-preserved c = record {
   packages = more_packages (λ (pkg : Bor Pkg). pkg.now) c.args.packages.now c.loop-pkg.pkg-index c.pkg-item.result c.pkg-item.result.now
       c.loop-pkg.draft.0 c.push.new.self.0 c.loop-pkg-test.true c.pkg-item.is refl c.in_ok-push.ensures.packages c.loop-pkg.invariant.packages;
-  offers = more_offers c.loop-pkg.draft.0 c.push.new.self.0 c.pkg-item.result.now c.loop-pkg.draft.1 c.push.new.self.1
-      c.in_ok-push.ensures.packages c.in_ok-push.ensures.offers c.loop-pkg.invariant.offers;
+  own = more_offers own_offers_at c.loop-pkg.draft.0 c.push.new.self.0 c.pkg-item.result.now c.loop-pkg.draft.1 c.push.new.self.1
+      c.in_ok-push.ensures.packages c.in_ok-push.ensures.own c.loop-pkg.invariant.own;
+  items = more_offers item_offers_at c.loop-pkg.draft.0 c.push.new.self.0 c.pkg-item.result.now c.loop-pkg.draft.2 c.push.new.self.2
+      c.in_ok-push.ensures.packages c.in_ok-push.ensures.items c.loop-pkg.invariant.items;
 }

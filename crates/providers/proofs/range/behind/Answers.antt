@@ -6,7 +6,7 @@ use Rattle.providers.proofs.RunLemmas.{parted_cut}
 use Rattle.providers.proofs.range.behind.Goals as goal
 
 pub cut_between-start-requires-clause-parted : goal.cut_between-start-requires-clause-parted
-cut_between-start-requires-clause-parted c = parted_cut c.args.cut c.args.version.now c.args.offers.now c.requires
+cut_between-start-requires-clause-parted c = parted_cut c.args.cut c.args.version.now c.args.offers.now c.requires.run
 
 pub returns-clause-back : goal.returns-clause-back
 returns-clause-back c = c.split_at.ensures.back

@@ -6,7 +6,7 @@ use Rattle.providers.proofs.RunLemmas.{parted_cut}
 use Rattle.providers.proofs.range.in_front.Goals as goal
 
 pub cut_between-end-requires-clause-parted : goal.cut_between-end-requires-clause-parted
-cut_between-end-requires-clause-parted c = parted_cut c.args.cut c.args.version.now c.args.offers.now c.requires
+cut_between-end-requires-clause-parted c = parted_cut c.args.cut c.args.version.now c.args.offers.now c.requires.run
 
 pub returns-clause-front : goal.returns-clause-front
 returns-clause-front c = c.split_at.ensures.front

@@ -1,10 +1,10 @@
--- The table is right, and has the names of the offers so far.
-use Rattle.std.proofs.Common.{take}
-use Rattle.providers.specs.Spans.{AreSpans, HasNames}
+-- The table has the names before `start`; and how many offers are left.
+use Rattle.std.proofs.Common.{◌-◌, length}
+use Rattle.providers.specs.Spans.{IsTableUpTo}
 use Rattle.providers.proofs.spans.spans_of.Given as goal
 
-abbrev pub invariant-loop-offer : goal.invariant-loop-offer
-invariant-loop-offer l = record {
-  right : AreSpans l.offers l.spans.entries;
-  names : HasNames (take l.offer-index l.offers) l.spans.entries;
-}
+abbrev pub invariant-loop-start : goal.invariant-loop-start
+invariant-loop-start l = IsTableUpTo l.offers l.start l.spans.entries
+
+abbrev pub decreases-loop-start : goal.decreases-loop-start
+decreases-loop-start l = length l.offers - l.start

@@ -4,7 +4,7 @@ use Rattle.std.specs.List.{filter}
 use Rattle.providers.specs.Matching.{IsMatchAt}
 use Rattle.providers.specs.Offers.{is_offer_of}
 use Rattle.providers.proofs.OfferLemmas.{foreign_matches_none}
-use Rattle.providers.proofs.FoundLemmas.{found_match, of_value, run_counts, run_is_one}
+use Rattle.providers.proofs.FoundLemmas.{found_match, of_value, run_counts, run_has_versions, run_is_one}
 use Rattle.providers.proofs.providers.Providers.matching.Goals as goal
 
 pub returns-then-is_foreign-clause-matching : goal.returns-then-is_foreign-clause-matching
@@ -32,3 +32,10 @@ returns-clause-counted c = λ d short.
     c.args.atom.now.name c.run_at-run.result.now
     (c.run_at-run.ensures ∙ ap (λ (name : List ℕ). filter (is_offer_of name) c.as_slice.result.now) c.name.ensures) in
     c.meeting.ensures.counted d (omega (arith, fewer, short))
+
+pub returns-clause-compared : goal.returns-clause-compared
+returns-clause-compared c = λ has.
+    c.meeting.ensures.compared has.1
+    (run_has_versions c.args.self.now _ c.self.inside.offers.items c.as_slice.result.now c.self.invariant.0 c.self.view_is c.as_slice.ensures.value
+    c.args.atom.now.name c.run_at-run.result.now
+    (c.run_at-run.ensures ∙ ap (λ (name : List ℕ). filter (is_offer_of name) c.as_slice.result.now) c.name.ensures) has.2)
