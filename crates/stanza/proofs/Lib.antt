@@ -3,6 +3,7 @@ pub mod FieldLemmas
 pub mod FieldsLemmas
 pub mod NameLemmas
 pub mod FaultLemmas
+pub mod NameFrontLemmas
 pub mod StanzaLemmas
 pub mod FrontLemmas
 pub mod CollectLemmas

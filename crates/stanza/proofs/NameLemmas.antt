@@ -1,41 +1,15 @@
--- Names: the colon that ends one, the slots of those that were seen, and the names of the fields.
-use Rattle.std.proofs.Common.{◌≡◌, ℕ, suc, zero, ◌+◌, ◌-◌, ◌*◌, ◌%◌, Bool, true, false, cond, ◌||◌, List, [], ◌∷◌, ◌++◌, length, get_or, set, take, map, filter, refl, sym, ap, ◌∙◌, arith, ltb, None, Some, inl, inr}
-use Rattle.std.proofs.lemmas.Bool.{false≢true, cases_Bool, lt-ltb, le-ltb, cases_lt}
+-- Names: the slots of those that were seen, and the names of the fields.
+use Rattle.std.proofs.Common.{◌≡◌, ℕ, suc, zero, ◌+◌, ◌-◌, ◌*◌, ◌%◌, Bool, true, false, ◌||◌, List, [], ◌∷◌, ◌++◌, length, get_or, set, map, filter, refl, sym, ap, ◌∙◌, inl, inr}
+use Rattle.std.proofs.lemmas.Bool.{false≢true, cases_Bool}
 use Rattle.std.proofs.lemmas.List.{length-map, map-append, append-nil}
 use Rattle.std.proofs.lemmas.List.Elements.{filter-append}
 use Rattle.std.proofs.lemmas.Slice.Eq.{bytes_eq-Decides}
 use Rattle.std.specs.Char.{to_ascii_lowercase}
-use Rattle.std.specs.List.{list_any, position, position_or_len}
+use Rattle.std.specs.List.{list_any}
 use Rattle.stanza.specs.declared.form.Form.{Form}
 use Rattle.stanza.specs.Line.{begins_field}
-use Rattle.stanza.specs.Field.{FieldText, is_colon, name_of, same_name, names_of, fields_of}
+use Rattle.stanza.specs.Field.{FieldText, name_of, same_name, names_of, fields_of}
 use Rattle.stanza.specs.Seen.{slot_of, is_seen, AreSeen}
-
--- an element passes where the first place that passes is within the list
-list_any-within : (p : ℕ → Bool) (xs : List ℕ) → list_any p xs ≡ ltb (position_or_len p xs) (length xs)
-list_any-within p [] = refl
-list_any-within p (x ∷ xs) = elim (cases_Bool (p x)) [
-  | inl h ↦ rw h (sym (lt-ltb 0 (suc (length xs)) (omega arith)))
-  | inr h ↦ rw h (list_any-within p xs ∙ step (position_or_len p xs) (length xs))
-] where
-  step : (m n : ℕ) → ltb m n ≡ ltb (1 + m) (suc n)
-  step m n = elim (cases_lt m n) [
-    | inl h ↦ lt-ltb m n h ∙ sym (lt-ltb (1 + m) (suc n) (omega arith))
-    | inr h ↦ le-ltb m n h ∙ sym (le-ltb (1 + m) (suc n) (omega arith))
-  ]
-
--- a line has a colon where its place was found
-pub colon-found : (line : List ℕ) (at : ℕ) → position is_colon line ≡ Some at → list_any is_colon line ≡ true
-colon-found line at found = list_any-within is_colon line ∙ go (ltb (position_or_len is_colon line) (length line)) (position_or_len is_colon line) found where
-  go : (b : Bool) (k : ℕ) → cond b (Some k) None ≡ Some at → b ≡ true
-  go true k h = refl
-  go false k h = cc
-
-pub colon-missing : (line : List ℕ) → position is_colon line ≡ None → list_any is_colon line ≡ false
-colon-missing line missing = list_any-within is_colon line ∙ go (ltb (position_or_len is_colon line) (length line)) (position_or_len is_colon line) missing where
-  go : (b : Bool) (k : ℕ) → cond b (Some k) None ≡ None → b ≡ false
-  go true k h = cc
-  go false k h = refl
 
 -- names that are one share a slot
 hash_of : List ℕ → ℕ → ℕ
@@ -94,13 +68,6 @@ list_any-fields form n (line ∷ lines) test = elim (cases_Bool (begins_field fo
   | inl h ↦ rw h (ap (λ b. test (name_of line) || b) (list_any-fields form (n + 1) lines test))
   | inr h ↦ rw h (list_any-fields form (n + 1) lines test)
 ]
-
--- the name stands before the colon that was found
-pub name_of-found : (line : List ℕ) (at : ℕ) → position is_colon line ≡ Some at → take at line ≡ name_of line
-name_of-found line at found = ap (λ k. take k line) (sym (go (ltb (position_or_len is_colon line) (length line)) (position_or_len is_colon line) found)) where
-  go : (b : Bool) (k : ℕ) → cond b (Some k) None ≡ Some at → k ≡ at
-  go true k h = cc
-  go false k h = cc
 
 -- the table still knows all names where a line begins a field
 pub AreSeen-field : (form : Form) (before : List (List ℕ)) (line name : List ℕ) (slots later : List Bool) → begins_field form line ≡ true → name ≡ name_of line → AreSeen slots (names_of form before) → later ≡ set slots (slot_of name) true → is_seen later name ≡ true → AreSeen later (names_of form (before ++ line ∷ []))

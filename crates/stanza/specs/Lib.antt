@@ -2,6 +2,7 @@ pub mod Line
 pub mod Field
 pub mod Cut
 pub mod Fault
+pub mod Name
 pub mod Seen
 pub mod Stanza
 pub mod Front

@@ -11,9 +11,8 @@ use crate::entries::Fields;
 use crate::error::StanzaError;
 use crate::form::{Form, has_comments};
 use crate::lines::{cut_line, is_comment, is_continuation, is_separator};
-use crate::names::{is_name, same_name};
+use crate::names::{name_before_colon, same_name};
 use crate::seen::Seen;
-use crate::values::name_before_colon;
 
 /// A stanza's bytes, what follows its lines, and how many these are: comments after its last field
 /// count, and are no part of its bytes.
@@ -83,14 +82,7 @@ pub(crate) fn name_on<'a>(
             Err(StanzaError::BadLine(number))
         };
     }
-    let name = match name_before_colon(line) {
-        Some(name) => name,
-        None => return Err(StanzaError::BadLine(number)),
-    };
-    if !is_name(name) {
-        return Err(StanzaError::BadFieldName(number));
-    }
-    Ok(Some(name))
+    Ok(Some(name_before_colon(number, line)?))
 }
 
 /// Tests the line, which stands after `done` in its stanza, and takes the slot of a new name.

@@ -1,6 +1,6 @@
 //! A field's name and value, from the bytes of its lines.
-ghost use Rattle.std.specs.Prelude.{◌≡◌, ◌≤◌, ◌-◌, ◌++◌, ℕ, List, length, drop, position, true, false, MatchOption};
-ghost use Rattle.std.specs.List.{prefix_len, suffix_len, list_any};
+ghost use Rattle.std.specs.Prelude.{◌≡◌, ◌≤◌, ◌-◌, ◌++◌, ℕ, List, length, drop, position};
+ghost use Rattle.std.specs.List.{prefix_len, suffix_len};
 ghost use Rattle.stanza.specs.Line.{is_white};
 ghost use Rattle.stanza.specs.Field.{is_colon, without_newline, trim_front, trim_end, name_of, value_of};
 ghost use Rattle.stanza.specs.Starts.{behind_colon, trimmed};
@@ -13,18 +13,6 @@ pub fn colon_of(line: &[u8]) -> Option<usize>
     ensures { result ≡ position is_colon line.now }
 {
     line.iter().position(|b| *b == COLON)
-}
-
-/// What stands before the line's first colon, if it has one.
-pub fn name_before_colon(line: &[u8]) -> Option<&[u8]>
-    ensures { MatchOption result
-        (list_any is_colon line.now ≡ false)
-        (λ name. (list_any is_colon line.now ≡ true) × (name.now ≡ name_of line.now)) }
-{
-    match colon_of(line) {
-        Some(at) => Some(line.split_at(at).0),
-        None => None,
-    }
 }
 
 /// What stands before the line's first colon, or the whole line.
