@@ -20,4 +20,6 @@ mod shown;
 #[cfg(test)]
 mod stanzas;
 #[cfg(test)]
+mod tables;
+#[cfg(test)]
 mod versions;
