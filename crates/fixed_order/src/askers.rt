@@ -33,7 +33,10 @@ impl<'a> Askers<'a> {
     // Notes that the name at the place asks for this one.
     fn note(&mut self, asked: &'a [u8], place: usize) -> Result<(), AllocError> {
         if let Some(list) = self.lists.get_mut(asked) {
-            list.push(place)?;
+            // The places come in their order: one that was noted for the name is the last. A name may ask in many atoms.
+            if list.last() != Some(&place) {
+                list.push(place)?;
+            }
             return Ok(());
         }
         let mut list = Vec::new(self.alloc);
