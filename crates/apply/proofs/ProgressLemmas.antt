@@ -123,8 +123,8 @@ still_stopped now new r error.OutOfMemory same as_before fault = tt
 still_stopped now new r error.TooLarge same as_before fault =
     ⊎_elim (λ long. inl long) (λ far. inr (subst (λ (n : ℕ). 2 ^ 60 ≤ n) (sym (as_before (λ e. cc)).0) far)) fault
 still_stopped now new r (error.NotApplicable name) same as_before fault = (
-    fault.0,
-    subst (λ (h : History). refused_name (handed_in h.arch r.stanza) r.step (slot_records h.slots) ≡ Some name) (sym same) fault.1,
+  fault.0,
+  subst (λ (h : History). refused_name (handed_in h.arch r.stanza) r.step (slot_records h.slots) ≡ Some name) (sym same) fault.1,
 )
 still_stopped now new r error.Disk same as_before fault = tt
 still_stopped now new r error.Reopen same as_before fault = (as_before (λ e. cc)).1 ∙ fault
