@@ -1,6 +1,6 @@
 //! Priorities over origins, as apt_preferences(5) has them ("APT's Default Priority Assignments", "The Effect of APT
 //! Preferences"). The scenarios show those of each pin; these are the calls, with origins of a version that are put together by hand.
-use debversion::{BadVersion, Version};
+use debversion::Version;
 use pins::{Origin, Prefs, PrefsError};
 use rules::{Release, Text};
 use std::alloc::{AllocError, Global};
@@ -14,10 +14,32 @@ fn release_of(alloc: Global, archive: &[u8], not_automatic: bool) -> Result<Rele
     })
 }
 
-// The priority of `foo 1.0-1` at these places.
-fn priority_at(prefs: &Prefs, origins: &[Origin<'_>]) -> Result<Option<i32>, BadVersion> {
+fn add_origins<'p>(
+    origins: &mut Vec<Origin<'p>>,
+    stands: bool,
+    releases: &'p [Release],
+) -> Result<(), AllocError> {
+    if stands {
+        origins.push(Origin::status_file())?;
+    }
+    for release in releases {
+        origins.push(Origin::index(release))?;
+    }
+    Ok(())
+}
+
+// Whether this is the priority of `foo 1.0-1` in these releases, where it stands or doesn't.
+fn has_priority(
+    alloc: Global,
+    prefs: &Prefs,
+    stands: bool,
+    releases: &[Release],
+    wanted: i32,
+) -> Result<bool, Fail> {
     let version = Version::parse(b"1.0-1")?;
-    Ok(prefs.priority(b"foo", &version, origins))
+    let mut origins = Vec::new(alloc);
+    add_origins(&mut origins, stands, releases)?;
+    Ok(prefs.priority(b"foo", &version, origins.as_slice()) == Some(wanted))
 }
 
 // Whether these are the priorities of foo in the release `stable`, in one that isn't automatic, in both, and where it stands beside
@@ -28,17 +50,16 @@ fn are_given(
     wanted: [i32; 4],
 ) -> Result<bool, Fail> {
     let prefs = read?;
-    let stable = release_of(alloc, b"stable", false)?;
-    let testing = release_of(alloc, b"testing", true)?;
-    let in_stable = [Origin::index(&stable)];
-    let in_testing = [Origin::index(&testing)];
-    let in_both = [Origin::index(&stable), Origin::index(&testing)];
-    let standing = [Origin::status_file(), Origin::index(&testing)];
+    let both = [
+        release_of(alloc, b"stable", false)?,
+        release_of(alloc, b"testing", true)?,
+    ];
+    let (stable, testing) = both.split_at(1);
     Ok(
-        priority_at(&prefs, in_stable.as_slice())? == Some(wanted[0])
-            && priority_at(&prefs, in_testing.as_slice())? == Some(wanted[1])
-            && priority_at(&prefs, in_both.as_slice())? == Some(wanted[2])
-            && priority_at(&prefs, standing.as_slice())? == Some(wanted[3]),
+        has_priority(alloc, &prefs, false, stable, wanted[0])?
+            && has_priority(alloc, &prefs, false, testing, wanted[1])?
+            && has_priority(alloc, &prefs, false, &both, wanted[2])?
+            && has_priority(alloc, &prefs, true, testing, wanted[3])?,
     )
 }
 

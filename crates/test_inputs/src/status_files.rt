@@ -50,14 +50,33 @@ fn is_fourth(record: &StatusRecord<'_>) -> bool {
         && record.is_essential()
 }
 
+fn is_foreign_at(slot: &Slot<'_, StatusRecord<'_>>, line: usize) -> bool {
+    match slot {
+        Slot::Foreign(stanza) => stanza.line() == line,
+        Slot::Recorded(_) => false,
+    }
+}
+
+// Whether the slot at this place has the record of the words.
+fn is_recorded(slot: &Slot<'_, StatusRecord<'_>>, place: usize) -> bool {
+    match slot {
+        Slot::Recorded(record) => match place {
+            0 => is_first(record),
+            2 => is_third(record),
+            _ => is_fourth(record),
+        },
+        Slot::Foreign(_) => false,
+    }
+}
+
 fn are_of_the_words(slots: &[Slot<'_, StatusRecord<'_>>]) -> bool {
     match slots {
-        [
-            Slot::Recorded(first),
-            Slot::Foreign(stanza),
-            Slot::Recorded(third),
-            Slot::Recorded(fourth),
-        ] => is_first(first) && stanza.line() == 6 && is_third(third) && is_fourth(fourth),
+        [first, second, third, fourth] => {
+            is_recorded(first, 0)
+                && is_foreign_at(second, 6)
+                && is_recorded(third, 2)
+                && is_recorded(fourth, 3)
+        }
         _ => false,
     }
 }
@@ -69,12 +88,16 @@ fn records_are_those_of_the_text(rt: HostRuntime) {
 }
 
 // Whether the status file is refused, and the refusal is printed so.
-fn is_refused(alloc: Global, row: &str) -> Result<bool, AllocError> {
-    let (text, wanted) = row.split_once('→').unwrap_or((row, ""));
-    match read_status(alloc, text.as_bytes(), ARCH) {
-        Ok(_) => Ok(false),
+fn is_refused_as(alloc: Global, text: &[u8], wanted: &str) -> Result<bool, AllocError> {
+    match read_status(alloc, text, ARCH) {
+        Ok(_slots) => Ok(false),
         Err(error) => is_printed(alloc, &error, wanted),
     }
+}
+
+fn is_refused(alloc: Global, row: &str) -> Result<bool, AllocError> {
+    let (text, wanted) = row.split_once('→').unwrap_or((row, ""));
+    is_refused_as(alloc, text.as_bytes(), wanted)
 }
 
 // `$` stands for a newline.
