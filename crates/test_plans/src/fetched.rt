@@ -119,20 +119,32 @@ fn kept_of(alloc: Global, text: &[u8], number: usize) -> Result<KeptIndex, Alloc
     KeptIndex::read_from(alloc, &mut source, ARCH, number, 0).map_err(|_| AllocError)
 }
 
-fn lent(alloc: Global, kept: &KeptIndex) -> Result<Index<'_>, AllocError> {
-    let release = Release::without_keys(Text::copied_from(alloc, b"")?);
-    Index::of(alloc, kept, release)
+fn kept(alloc: Global) -> Result<Vec<KeptIndex>, AllocError> {
+    let mut kept = Vec::new(alloc);
+    kept.push(kept_of(alloc, FIRST, 1)?)?;
+    kept.push(kept_of(alloc, SECOND, 2)?)?;
+    Ok(kept)
+}
+
+fn lent<'a>(alloc: Global, kept: &'a [KeptIndex]) -> Result<Vec<Index<'a>>, AllocError> {
+    let mut indices = Vec::new(alloc);
+    for index in kept {
+        let release = Release::without_keys(Text::copied_from(alloc, b"")?);
+        indices.push(Index::of(alloc, index, release)?)?;
+    }
+    Ok(indices)
+}
+
+fn are_fetched(alloc: Global, most: usize) -> Result<bool, AllocError> {
+    let kept = kept(alloc)?;
+    let indices = lent(alloc, kept.as_slice())?;
+    all_hold_over(alloc, indices.as_slice(), most)
 }
 
 #[test]
 fn stanzas_are_fetched_index_by_index(rt: HostRuntime) -> Result<(), AllocError> {
-    let (first, second) = (
-        kept_of(rt.alloc(), FIRST, 1)?,
-        kept_of(rt.alloc(), SECOND, 2)?,
-    );
-    let indices = [lent(rt.alloc(), &first)?, lent(rt.alloc(), &second)?];
     for most in 1..4 {
-        assert!(rt; all_hold_over(rt.alloc(), &indices, most)?, "{most}");
+        assert!(rt; are_fetched(rt.alloc(), most)?, "{most}");
     }
     Ok(())
 }
