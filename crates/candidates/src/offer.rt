@@ -11,6 +11,7 @@ ghost use Rattle.candidates.specs.OfferLaws.{offer_cmp_total};
 use crate::known::{Known, is_below, record_of};
 use crate::recorded::Recorded;
 use debversion::Version;
+use rules::name_cmp;
 use std::alloc::{AllocError, Global};
 use std::cmp::Ordering;
 use std::marker::Model;
@@ -205,7 +206,7 @@ impl Ord for Offer<'_> {
     ghost matches_eq = { λ offer other. refl };
 
     fn cmp(&self, other: &Self) -> Ordering {
-        match other.name.cmp(self.name) {
+        match name_cmp(other.name, self.name) {
             Ordering::Equal => self.choice_cmp(other),
             decided => decided,
         }

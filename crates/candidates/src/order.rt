@@ -13,6 +13,7 @@ ghost use Rattle.candidates.specs.StanzaLaws.{listed_cmp_total};
 use crate::place::Place;
 use debversion::Version;
 use index::IndexEntry;
+use rules::name_cmp;
 use std::alloc::{AllocError, Global};
 use std::cmp::Ordering;
 use std::marker::Model;
@@ -88,7 +89,7 @@ pub fn in_order<'p, 'a>(
 fn order_to(found: &Found<'_, '_>, name: &[u8], version: &Version<'_>) -> Ordering
     ensures { result ≡ pkg_order found.now.pkg name.now version.now }
 {
-    match found.name().cmp(name) {
+    match name_cmp(found.name(), name) {
         Ordering::Equal => found.version().cmp(version),
         decided => decided,
     }
@@ -115,7 +116,7 @@ pub fn has_name(ordered: &[Found<'_, '_>], name: &[u8]) -> bool
     ensures { result ≡ has_name ordered.now name.now }
 {
     ordered
-        .binary_search_by(|found| found.name().cmp(name))
+        .binary_search_by(|found| name_cmp(found.name(), name))
         .is_ok()
 }
 
@@ -153,7 +154,7 @@ impl Ord for Found<'_, '_> {
     ghost matches_eq = { λ found other. refl };
 
     fn cmp(&self, other: &Self) -> Ordering {
-        match self.name().cmp(other.name()) {
+        match name_cmp(self.name(), other.name()) {
             Ordering::Equal => self.version().cmp(&other.version()),
             decided => decided,
         }

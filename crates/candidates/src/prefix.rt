@@ -4,6 +4,7 @@ ghost use Rattle.std.specs.Prelude.{◌≡◌};
 ghost use Rattle.rules.specs.Name.{name_cmp};
 ghost use Rattle.candidates.specs.Prefix.{padded};
 
+use rules::name_cmp;
 use std::cmp::Ordering;
 
 /// The first sixteen bytes of the name, with zeros behind a shorter one.
@@ -23,8 +24,8 @@ pub fn order_of(prefix: &[u8; 16], name: &[u8], other_prefix: &[u8; 16], other: 
     requires other { other_prefix.now ≡ padded 16 other.now }
     ensures { result ≡ name_cmp name.now other.now }
 {
-    match prefix.as_slice().cmp(other_prefix.as_slice()) {
-        Ordering::Equal => name.cmp(other),
+    match name_cmp(prefix.as_slice(), other_prefix.as_slice()) {
+        Ordering::Equal => name_cmp(name, other),
         decided => decided,
     }
 }

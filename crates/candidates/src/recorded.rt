@@ -14,6 +14,7 @@ ghost use Rattle.candidates.specs.RecordedLaws.{record_cmp_total};
 use debversion::Version;
 use relation::Pkg;
 use status_text::StatusRecord;
+use rules::name_cmp;
 use std::alloc::{AllocError, Global};
 use std::cmp::Ordering;
 use std::marker::Model;
@@ -186,6 +187,6 @@ impl Ord for Recorded<'_, '_> {
     ghost matches_eq = { λ found other. refl };
 
     fn cmp(&self, other: &Self) -> Ordering {
-        self.name().cmp(other.name())
+        name_cmp(self.name(), other.name())
     }
 }

@@ -22,7 +22,7 @@ use Rattle.inputs.specs.Texts.{Found, Texts}
 use Rattle.inputs.specs.declared.refusal.Fault.{Fault}
 use Rattle.inputs.specs.declared.refusal.Refusal.{Refusal}
 use Rattle.inputs.proofs.DistinctLemmas.{distinct_start, found-ok, status-read}
-use Rattle.inputs.proofs.NameLemmas.{IsListedNamed, IsNamed, index_named, listed_append, package_named, status_named}
+use Rattle.inputs.proofs.NameLemmas.{IsListedNamed, IsNamed, index_named, listed_append, pairs_named, status_named}
 use Rattle.cli_engine.specs.Solution.{MeaningIsSolvable}
 use Rattle.cli_engine.proofs.RefutedLemmas.{counted-by-start, needed-pairs}
 
@@ -82,11 +82,8 @@ meaning_is_solvable texts u start is = record {
   ascending = (needed-pairs texts u start is).0;
   needed = (needed-pairs texts u start is).1;
   start_names = records_named texts start is.read.listed.started;
-  pair_names = All-intro (λ (pair : Pair). IsTrue (is_name pair.pkg.name)) u.pairs (λ pair within.
-      package_named (inputs_of start is.indices is.prefs (asked_of is.asked)) pair.pkg.name pair.pkg.version pair.pkg
-      (records_named texts start is.read.listed.started) (stanzas_are_named texts is.indices is.read.listed.indexed)
-      (All-contains (λ (p : Pair). counting_package (inputs_of start is.indices is.prefs (asked_of is.asked)) p.pkg.name p.pkg.version ≡ Some p.pkg)
-      u.pairs pair is.requested.built.universe.counting within));
+  pair_names = pairs_named (inputs_of start is.indices is.prefs (asked_of is.asked)) u
+      (records_named texts start is.read.listed.started) (stanzas_are_named texts is.indices is.read.listed.indexed) is.requested.built.universe;
 }
   where
     built : IsBuiltOn start u

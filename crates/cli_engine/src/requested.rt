@@ -8,6 +8,7 @@ ghost use Rattle.inputs.specs.Refused.{IsRefusal};
 ghost use Rattle.inputs.specs.Texts.{Shelved, texts_of};
 ghost use Rattle.rules.specs.Available.{Request as RequestOf};
 ghost use Rattle.rules.specs.Database.{HasDistinctNames};
+ghost use Rattle.rules.specs.Names.{HasNames, HasPairNames};
 ghost use Rattle.rules.specs.Universe.{IsUniverse};
 ghost use Rattle.rules.specs.Verdict.{IsBuiltOn};
 ghost use Rattle.status_text.specs.Slot.{slot_records};
@@ -118,6 +119,8 @@ pub(crate) fn read_asked<'p, 'a, S: Shelf>(
     ensures universe { IfOk result (λ found. (request : RequestOf)
         × IsUniverse (inputs_of (slot_records status_file.now.slots) (indices_of indices.now) prefs.now request) found.universe) }
     ensures start { IfOk result (λ _. HasDistinctNames (slot_records status_file.now.slots)) }
+    ensures start_names { IfOk result (λ _. HasNames (slot_records status_file.now.slots)) }
+    ensures pair_names { IfOk result (λ found. HasPairNames found.universe) }
     ensures few { IfOk result (λ found. length found.universe.pairs < 2 ^ 32) }
     ensures distinct { IfOk result (λ found. HaveDistinctNames found.universe.starts) }
     ensures refused { (at : Shelved) → S.found shelf.old ≡ Some at

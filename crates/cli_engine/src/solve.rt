@@ -6,7 +6,6 @@ ghost use Rattle.inputs.specs.Indices.{released};
 ghost use Rattle.inputs.specs.Inputs.{shelved};
 ghost use Rattle.inputs.specs.Refused.{IsRefusal};
 ghost use Rattle.inputs.specs.Texts.{Shelved, texts_of};
-ghost use Rattle.fixed_order.specs.Names.{HasNames, HasPairNames};
 ghost use Rattle.solver.specs.Solvable.{IsSolvable};
 ghost use Rattle.solver.specs.Solved.{IsSolved};
 ghost use Rattle.status_text.specs.Slot.{slot_records};
@@ -15,7 +14,6 @@ ghost use Rattle.cli_engine.specs.Solution.{IsSolution};
 use crate::refuted::tell_solved;
 use crate::requested::read_asked;
 use crate::sentences::Sentences;
-use fixed_order::{has_names, has_pair_names};
 use index::KeptIndex;
 use inputs::{
     Inputs, MemoryShelf, Refusal, Requested, Settings, Shelf, lend_indices, read_listed,
@@ -37,25 +35,19 @@ pub struct Answered {
     pub asks_all_versions: bool,
 }
 
-/// Solves the request of the universe from this status file on. What is read has package names alone, and of a shelf that doesn't
-/// say what is found on it no contract says so: names are looked at once more, and one that is none is as want of memory. Costs what
-/// `solver::solve` costs. Memory alone can fail.
+/// Solves the request of the universe from this status file on. Costs what `solver::solve` costs. Memory alone can fail.
 pub fn solve_over<'a>(
     alloc: Global,
     status_file: &StatusFile<'a>,
     universe: &Universe<'_, 'a>,
     limit: u32,
 ) -> Result<Solved, AllocError>
-    requires { HasNames (slot_records status_file.now.slots) → HasPairNames universe.now
-        → IsSolvable (slot_records status_file.now.slots) universe.now }
+    requires { IsSolvable (slot_records status_file.now.slots) universe.now }
     ensures { IfOk result (λ solved. IsSolved universe.now (slot_records status_file.now.slots) limit solved) }
 {
     let records = status_file.records(alloc)?;
     let packages = parse_packages(alloc, records.as_slice())?;
     let start = view(alloc, records.as_slice(), packages.as_slice())?;
-    if !has_names(&start) || !has_pair_names(universe) {
-        return Err(AllocError);
-    }
     let solved = solve(alloc, &start, universe, limit)?;
     Ok(solved)
 }

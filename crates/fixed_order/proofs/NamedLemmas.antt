@@ -16,7 +16,8 @@ use Rattle.plain.proofs.MemberLemmas.{picked}
 use Rattle.plain.proofs.UnderwayLemmas.{underway_has_old_and_new}
 use Rattle.fixed_order.specs.Ground.{IsGround, IsUnderwayOn, members_in}
 use Rattle.refutation.specs.Selection.{selects}
-use Rattle.fixed_order.specs.Names.{AreNamed, HasNames, HasPairNames}
+use Rattle.fixed_order.specs.Names.{AreNamed}
+use Rattle.rules.specs.Names.{HasNames, HasPairNames}
 use Rattle.fixed_order.specs.declared.ground.Ground.{Ground}
 use mathlib.Core.Logic.{inl, inr}
 

@@ -7,7 +7,7 @@ use Rattle.plain.specs.Underway.{IsUnderway}
 use Rattle.rules.specs.Database.{Record}
 use Rattle.rules.specs.Package.{Pkg}
 use Rattle.rules.specs.Sound.{HasMember, selected}
-use Rattle.fixed_order.specs.Names.{HasNames, HasPairNames}
+use Rattle.rules.specs.Names.{HasNames, HasPairNames}
 use Rattle.fixed_order.specs.declared.ground.Ground.{Ground}
 
 -- the packages that are selected

@@ -1,18 +1,8 @@
 -- Which names are package names, and lists of just the names with a property (Policy 5.6.1).
 use Rattle.std.specs.Prelude.{◌↔◌, ℕ, List, IsTrue}
 use Rattle.std.specs.List.{All, Contains}
-use Rattle.rules.specs.Database.{Record}
 use Rattle.rules.specs.Name.{IsAscending, is_name}
 use Rattle.rules.specs.Package.{Pkg}
-use Rattle.rules.specs.Universe.{Universe}
-
--- the name of each record is a package name
-abbrev pub HasNames : List Record → Type 0
-HasNames db = All (λ found. IsTrue (is_name found.name)) db
-
--- the name of each pair is a package name
-abbrev pub HasPairNames : Universe → Type 0
-HasPairNames u = All (λ pair. IsTrue (is_name pair.pkg.name)) u.pairs
 
 -- the name of each package is a package name
 abbrev pub AreNamed : List Pkg → Type 0

@@ -6,7 +6,7 @@ ghost use Rattle.rules.specs.Universe.{listed_for};
 ghost use Rattle.plain.specs.Change.{IsPlainChange};
 ghost use Rattle.plain.specs.Order.{IsInFixedOrder, to_unpack, unpack_of};
 ghost use Rattle.fixed_order.specs.Ground.{IsGround, members_in};
-ghost use Rattle.fixed_order.specs.Names.{HasNames, HasPairNames};
+ghost use Rattle.rules.specs.Names.{HasNames, HasPairNames};
 ghost use Rattle.refutation.specs.Selection.{selects};
 ghost use Rattle.fixed_order.specs.Selection.{pkgs_of};
 

@@ -10,7 +10,6 @@ mod ground;
 mod key;
 mod marks;
 mod members;
-mod named;
 mod needs;
 mod purge;
 mod ranks;
@@ -23,4 +22,3 @@ mod unpack;
 mod waiting;
 
 pub use fixed::fixed_order;
-pub use named::{has_names, has_pair_names};

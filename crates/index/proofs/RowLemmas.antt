@@ -1,10 +1,13 @@
 -- The texts of a row: those that were put behind an arena are its own, and stay so where the arena grows.
 use Rattle.std.proofs.Common.{◌≡◌, ℕ, ◌+◌, ◌≤◌, Bool, List, [], ◌∷◌, ◌++◌, drop, length, take, refl, sym, ap, subst, ◌∙◌, arith, length-drop, length-append}
 use Rattle.std.proofs.lemmas.List.{map-append, drop_at, drop-append-le, take_all, take_at, take-append-le}
-use Rattle.std.proofs.lemmas.List.Elements.{All-head, All-push, All-tail, All-weaker}
+use Rattle.std.proofs.lemmas.List.Elements.{All-cons, All-head, All-nil, All-push, All-tail, All-weaker}
 use Rattle.relation.specs.PkgTexts.{AreTested}
 use Rattle.relation.specs.PkgValues.{PkgValues, spelled}
+use Rattle.rules.specs.Name.{is_name}
+use Rattle.rules.specs.Names.{HasListedNames}
 use Rattle.rules.specs.Step.{IndexPackage}
+use Rattle.std.specs.Prelude.{IsTrue}
 use Rattle.index.specs.Index.{ReadStanzas, joined}
 use Rattle.index.specs.Row.{AreRows, IsRow, bytes_at, joined_text, package_at, package_of, packages_at, values_at, values_of}
 use Rattle.index.specs.declared.row.Row.{Row}
@@ -74,6 +77,13 @@ put_package arch number arena more rows row are =
 pub put_rows : (arena more : List ℕ) (rows : List Row) (row : Row) → AreRows arena rows → IsRow (arena ++ more) row → AreRows (arena ++ more) (rows ++ row ∷ [])
 put_rows arena more rows row are is =
     All-push (IsRow (arena ++ more)) rows row (All-weaker (IsRow arena) (IsRow (arena ++ more)) (grown_row arena more) rows are) is
+
+-- the packages of rows have package names
+pub packages_named : (arch : List ℕ) (number : ℕ) (arena : List ℕ) (rows : List Row) → AreRows arena rows → HasListedNames (packages_at arch number arena rows)
+packages_named arch number arena [] are = All-nil (λ (found : IndexPackage). IsTrue (is_name found.pkg.name))
+packages_named arch number arena (row ∷ rows) are = All-cons (λ (found : IndexPackage). IsTrue (is_name found.pkg.name))
+    (package_at arch number arena row) (packages_at arch number arena rows)
+    (All-head (IsRow arena) row rows are).tested.name_is_good (packages_named arch number arena rows (All-tail (IsRow arena) row rows are))
 
 abbrev pub stanzas_in : List IndexPackage → ℕ → ReadStanzas
 stanzas_in listed skipped = record { listed = listed; skipped = skipped }

@@ -4,7 +4,7 @@ ghost use Rattle.std.specs.Prelude.{◌≡◌, IfOk};
 ghost use Rattle.index.specs.Row.{IsRow, package_at};
 
 use crate::index_package::IndexPackage;
-use crate::row::{KeptTexts, Row, name_of, values_of};
+use crate::row::{KeptTexts, Row, name_of, provides_of, values_of, version_of};
 use relation::{Pkg, Provided, Version};
 use rules::IndexPlace;
 use std::alloc::{AllocError, Global};
@@ -49,9 +49,7 @@ impl<'a> IndexEntry<'a> {
     pub fn version(&self) -> Version<'a>
         ensures { result ≡ self.now.pkg.version }
     {
-        values_of(self.kept.arena.as_slice(), self.row)
-            .version()
-            .again()
+        version_of(self.kept.arena.as_slice(), self.row)
     }
 
     /// Whether the stanza marks the package essential.
@@ -76,7 +74,12 @@ impl<'a> IndexEntry<'a> {
     pub fn provides(&self, alloc: Global) -> Result<Vec<Provided<'a>>, AllocError>
         ensures { IfOk result (λ items. items.items ≡ self.now.pkg.relations.provides) }
     {
-        values_of(self.kept.arena.as_slice(), self.row).provides(alloc, self.kept.arch.as_slice())
+        provides_of(
+            alloc,
+            self.kept.arena.as_slice(),
+            self.row,
+            self.kept.arch.as_slice(),
+        )
     }
 
     /// The package, with its relations. Memory alone can fail. Linear in the relation fields.

@@ -1,6 +1,7 @@
 //! An index whose texts are kept, and not the text that it was read from.
 ghost use Rattle.std.specs.Prelude.{◌≡◌, ◌≢◌, ◌+◌, ◌-◌, ◌^◌, ℕ, List, Some, IfErr, IfOk, Ok, length, min, true};
 ghost use Rattle.index.specs.Streamed.{IsStreamFault, read_stream};
+ghost use Rattle.rules.specs.Names.{HasListedNames};
 ghost use Rattle.index.specs.declared.stream_error.StreamError.TheVariants as error;
 
 use crate::index_entry::IndexEntry;
@@ -86,8 +87,10 @@ impl KeptIndex {
     }
 
     // The packages, in the order of the text.
+    #[tactic(auto, using(crate::proofs::RowLemmas::packages_named))]
     pub(crate) fn entries(&self, alloc: Global) -> Result<Vec<IndexEntry<'_>>, AllocError>
-        ensures { IfOk result (λ entries. entries.items ≡ self.now.listed) }
+        ensures items { IfOk result (λ entries. entries.items ≡ self.now.listed) }
+        ensures named { HasListedNames self.now.listed }
     {
         entries_of(alloc, &self.texts, self.rows.as_slice())
     }

@@ -1,6 +1,7 @@
 //! Indices: the stanzas of a Packages file that count for an architecture (Debian Policy 5.3).
 ghost use Rattle.std.specs.Prelude.{◌≡◌, IfOk, map};
 ghost use Rattle.index.specs.Names.{names_of};
+ghost use Rattle.rules.specs.Names.{HasListedNames};
 
 use crate::index_entry::IndexEntry;
 use crate::kept::KeptIndex;
@@ -21,10 +22,13 @@ pub struct Index<'a> {
 
 impl<'a> Model for Index<'a> {
     ghost use Rattle.index.specs.Index.{ReadIndex};
+    ghost use Rattle.rules.specs.Names.{HasListedNames};
 
     ghost Value = { ReadIndex };
 
     ghost view = { λ i. record { index = record { release = i.release; listed = i.entries.items }; skipped = i.skipped } };
+
+    ghost invariant = { λ i. HasListedNames i.entries.items };
 }
 
 impl<'a> Index<'a> {
@@ -53,7 +57,8 @@ impl<'a> Index<'a> {
 
     /// The stanzas that count, in the order of the text.
     pub fn packages(&self) -> &[IndexEntry<'a>]
-        ensures { result.now ≡ self.now.index.listed }
+        ensures items { result.now ≡ self.now.index.listed }
+        ensures named { HasListedNames self.now.index.listed }
     {
         self.entries.as_slice()
     }

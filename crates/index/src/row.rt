@@ -1,11 +1,12 @@
 //! A row: where in an arena of bytes the texts of a package stand.
 ghost use Rattle.std.specs.Prelude.{◌≡◌, ◌++◌, ◌+◌, IfOk, OnOk, drop, length, take};
 ghost use Rattle.relation.specs.PkgTexts.{values_in};
+ghost use Rattle.relation.specs.PkgValues.{spelled};
 ghost use Rattle.index.specs.Row.{AreRows, IsRow, bytes_at, joined_text, packages_at, values_at};
 ghost use Rattle.index.specs.Row as Spec;
 
 use crate::index_entry::IndexEntry;
-use relation::{PkgTexts, PkgValues};
+use relation::{PkgTexts, PkgValues, Provided, Version};
 use std::alloc::{AllocError, Global};
 
 /// The texts that an index keeps of its packages, one behind another, and for which architecture and as the index of which
@@ -85,6 +86,31 @@ pub fn name_of<'a>(arena: &'a [u8], row: &Row) -> &'a [u8]
     ensures { result.now ≡ (values_at arena.now row.now).name }
 {
     cut(bytes_of(arena, row), row.name).0
+}
+
+/// The version of the package of the row, parsed.
+pub fn version_of<'a>(arena: &'a [u8], row: &Row) -> Version<'a>
+    requires { IsRow arena.now row.now }
+    ensures { result ≡ (values_at arena.now row.now).version }
+{
+    let (_, behind) = cut(bytes_of(arena, row), row.name);
+    match Version::parse(cut(behind, row.version).0) {
+        Ok(version) => version,
+        Err(_) => unreachable!(),
+    }
+}
+
+/// What the package of the row provides, for this architecture. Memory alone can fail.
+pub fn provides_of<'a>(
+    alloc: Global,
+    arena: &'a [u8],
+    row: &Row,
+    arch: &[u8],
+) -> Result<Vec<Provided<'a>>, AllocError>
+    requires { IsRow arena.now row.now }
+    ensures { IfOk result (λ items. items.items ≡ (spelled arch.now (values_at arena.now row.now)).relations.provides) }
+{
+    texts_of(row, bytes_of(arena, row)).provides(alloc, arch)
 }
 
 /// The values of the package of the row.

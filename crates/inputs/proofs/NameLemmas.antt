@@ -19,8 +19,10 @@ use Rattle.rules.specs.Database.{Record, stands}
 use Rattle.rules.specs.ElementLaws.{All-intro, Contains-head, Contains-rest}
 use Rattle.rules.specs.FileRecord.{FileRecord, IndexStanza, records_of}
 use Rattle.rules.specs.Name.{is_name}
+use Rattle.rules.specs.Names.{HasListedNames, HasNames, HasPairNames}
 use Rattle.rules.specs.Package.{Pkg}
 use Rattle.rules.specs.Step.{IndexPackage, is_named}
+use Rattle.rules.specs.Universe.{IsUniverse, Pair, Universe}
 use Rattle.rules.specs.declared.index_place.IndexPlace.{IndexPlace}
 use Rattle.rules.specs.declared.limits.TheConstants.{TEXT_BYTES}
 use Rattle.stanza.specs.declared.form.Form.TheVariants.{Plain}
@@ -273,6 +275,12 @@ package_named inputs name version pkg records listed is = at (standing_record in
         let Is : Pkg → Type 0 = λ p. IsTrue (is_name p.name) in
         subst Is (same_Some (database.pkg_of one) pkg is) (All-contains IsNamed inputs.start one records
         (found_in (λ (r : Record). is_named name r && stands r && same_version r.version version) inputs.start one was))
+
+-- the pairs of a universe have package names
+pub pairs_named : (inputs : Inputs) (u : Universe) → HasNames inputs.start → HasListedNames (all_listed inputs.indices) → IsUniverse inputs u → HasPairNames u
+pairs_named inputs u records listed is = All-intro (λ (pair : Pair). IsTrue (is_name pair.pkg.name)) u.pairs (λ pair within.
+    package_named inputs pair.pkg.name pair.pkg.version pair.pkg records listed
+    (All-contains (λ (p : Pair). counting_package inputs p.pkg.name p.pkg.version ≡ Some p.pkg) u.pairs pair is.counting within))
 
 -- stanzas of packages and others behind them
 pub listed_append : (some more : List IndexPackage) → All IsListedNamed some → All IsListedNamed more → All IsListedNamed (some ++ more)

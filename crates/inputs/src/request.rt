@@ -1,9 +1,10 @@
 //! The request, and the universe that it is answered from.
 ghost use Rattle.std.specs.Prelude.{◌≡◌, ◌≢◌, ◌<◌, ◌^◌, IfErr, IfOk, Ok, Some, length, map};
 ghost use Rattle.candidates.specs.Inputs.{indices_of, inputs_of};
-ghost use Rattle.rules.specs.Available.{Request as RequestOf};
+ghost use Rattle.rules.specs.Available.{Request as RequestOf, all_listed};
 ghost use Rattle.rules.specs.Database.{HasDistinctNames};
 ghost use Rattle.rules.specs.FileRecord.{records_of};
+ghost use Rattle.rules.specs.Names.{HasListedNames, HasNames, HasPairNames};
 ghost use Rattle.rules.specs.Universe.{IsUniverse};
 ghost use Rattle.rules.specs.Verdict.{IsBuiltOn};
 ghost use Rattle.status_text.specs.Slot.{slot_records};
@@ -110,6 +111,15 @@ fn universe_in<'p, 'a>(
     })
 }
 
+// The packages of the indices have package names.
+fn packages_are_named(indices: &[Index<'_>])
+    ensures { HasListedNames (all_listed (indices_of indices.now)) }
+{
+    for index in indices {
+        index.packages();
+    }
+}
+
 /// The universe that the request with this text is answered from, over what the texts before it are read as, and whether it asks for
 /// all versions. Linear in the text, and at the cost of `universe_build::build`.
 pub fn requested_in<'p, 'a>(
@@ -128,6 +138,8 @@ pub fn requested_in<'p, 'a>(
     ensures universe { IfOk result (λ found. (request : RequestOf)
         × IsUniverse (inputs_of (slot_records status_file.now.slots) (indices_of indices.now) prefs.now request) found.universe) }
     ensures start { IfOk result (λ _. HasDistinctNames (slot_records status_file.now.slots)) }
+    ensures start_names { IfOk result (λ _. HasNames (slot_records status_file.now.slots)) }
+    ensures pair_names { IfOk result (λ found. HasPairNames found.universe) }
     ensures few { IfOk result (λ found. length found.universe.pairs < 2 ^ 32) }
     ensures distinct { IfOk result (λ found. HaveDistinctNames found.universe.starts) }
     ensures refused { (at : Shelved) → at.request ≡ Some text.now
@@ -136,6 +148,7 @@ pub fn requested_in<'p, 'a>(
     ensures known { IfErr result (λ refused. refused.fault ≢ fault.Read) }
 {
     universe_is_built();
+    packages_are_named(indices);
     let records = status_file.records(alloc)?;
     match universe_in(
         alloc,
@@ -167,6 +180,8 @@ pub fn read_requested<'p, 'a, S: Shelf>(
     ensures universe { IfOk result (λ found. (request : RequestOf)
         × IsUniverse (inputs_of (slot_records status_file.now.slots) (indices_of indices.now) prefs.now request) found.universe) }
     ensures start { IfOk result (λ _. HasDistinctNames (slot_records status_file.now.slots)) }
+    ensures start_names { IfOk result (λ _. HasNames (slot_records status_file.now.slots)) }
+    ensures pair_names { IfOk result (λ found. HasPairNames found.universe) }
     ensures few { IfOk result (λ found. length found.universe.pairs < 2 ^ 32) }
     ensures distinct { IfOk result (λ found. HaveDistinctNames found.universe.starts) }
     ensures refused { (at : Shelved) → S.found shelf.old ≡ Some at
@@ -202,6 +217,8 @@ pub fn read_universe<'p, 'a, S: Shelf>(
     ensures universe { IfOk result (λ u. (request : RequestOf)
         × IsUniverse (inputs_of (slot_records status_file.now.slots) (indices_of indices.now) prefs.now request) u) }
     ensures start { IfOk result (λ _. HasDistinctNames (slot_records status_file.now.slots)) }
+    ensures start_names { IfOk result (λ _. HasNames (slot_records status_file.now.slots)) }
+    ensures pair_names { IfOk result (λ u. HasPairNames u) }
     ensures few { IfOk result (λ u. length u.pairs < 2 ^ 32) }
     ensures distinct { IfOk result (λ u. HaveDistinctNames u.starts) }
     ensures refused { (at : Shelved) → S.found shelf.old ≡ Some at

@@ -1,7 +1,6 @@
 // One request of those that are asked one after the other.
 
 ghost use Rattle.std.specs.Prelude.{◌≡◌, ◌≢◌, ◌^◌, ◌<◌, IfErr, IfOk, Some, false, length};
-ghost use Rattle.fixed_order.specs.Names.{HasNames, HasPairNames};
 ghost use Rattle.inputs.specs.Meaning.{DenotesAsked};
 ghost use Rattle.inputs.specs.Refused.{IsRefusal};
 ghost use Rattle.inputs.specs.Texts.{Shelved};
@@ -76,8 +75,7 @@ fn round_over<'a>(
     requires few { length universe.now.pairs < 2 ^ 32 }
     requires distinct { HaveDistinctNames universe.now.starts }
     requires built { IsBuiltOn (slot_records before.now.status_file.now.slots) universe.now }
-    requires solvable { HasNames (slot_records before.now.status_file.now.slots) → HasPairNames universe.now
-        → IsSolvable (slot_records before.now.status_file.now.slots) universe.now }
+    requires solvable { IsSolvable (slot_records before.now.status_file.now.slots) universe.now }
     ensures solved { IfOk result (λ round.
         IsSolved universe.now (slot_records before.now.status_file.now.slots) limit round.answered.solved) }
     ensures asks { IfOk result (λ round. round.answered.asks_all_versions ≡ asks_all_versions) }
@@ -114,8 +112,7 @@ fn requested<'k, 'a>(
     ensures few { IfOk result (λ found. length found.universe.pairs < 2 ^ 32) }
     ensures distinct { IfOk result (λ found. HaveDistinctNames found.universe.starts) }
     ensures built { IfOk result (λ found. IsBuiltOn (slot_records before.now.status_file.now.slots) found.universe) }
-    ensures solvable { IfOk result (λ found. HasNames (slot_records before.now.status_file.now.slots) → HasPairNames found.universe
-        → IsSolvable (slot_records before.now.status_file.now.slots) found.universe) }
+    ensures solvable { IfOk result (λ found. IsSolvable (slot_records before.now.status_file.now.slots) found.universe) }
     ensures refused { (at : Shelved) → at.request ≡ Some text.now → AreReadAs before.now at
         → IfErr result (λ refused. IsRefusal (texts_for before.now at) refused) }
     ensures known { IfErr result (λ refused. refused.fault ≢ fault.Read) }
@@ -146,8 +143,7 @@ fn requested_telling<'k, 'a>(
     ensures few { IfOk result (λ found. length found.universe.pairs < 2 ^ 32) }
     ensures distinct { IfOk result (λ found. HaveDistinctNames found.universe.starts) }
     ensures built { IfOk result (λ found. IsBuiltOn (slot_records before.now.status_file.now.slots) found.universe) }
-    ensures solvable { IfOk result (λ found. HasNames (slot_records before.now.status_file.now.slots) → HasPairNames found.universe
-        → IsSolvable (slot_records before.now.status_file.now.slots) found.universe) }
+    ensures solvable { IfOk result (λ found. IsSolvable (slot_records before.now.status_file.now.slots) found.universe) }
     ensures refused { (at : Shelved) → at.request ≡ Some text.now → AreReadAs before.now at
         → IfErr result (λ refused. IsRefusal (texts_for before.now at) refused) }
     ensures known { IfErr result (λ refused. refused.fault ≢ fault.Read) }
@@ -206,8 +202,7 @@ fn requested_again<'k, 'a>(
     ensures few { IfOk result (λ found. length found.universe.pairs < 2 ^ 32) }
     ensures distinct { IfOk result (λ found. HaveDistinctNames found.universe.starts) }
     ensures built { IfOk result (λ found. IsBuiltOn (slot_records before.now.status_file.now.slots) found.universe) }
-    ensures solvable { IfOk result (λ found. HasNames (slot_records before.now.status_file.now.slots) → HasPairNames found.universe
-        → IsSolvable (slot_records before.now.status_file.now.slots) found.universe) }
+    ensures solvable { IfOk result (λ found. IsSolvable (slot_records before.now.status_file.now.slots) found.universe) }
 {
     match requested(alloc, before, text) {
         Ok(requested) => Ok(requested),

@@ -23,7 +23,8 @@ use Rattle.rules.specs.declared.step.Rule.{Rule}
 use Rattle.rules.specs.declared.step.Rule.TheVariants as rule
 use Rattle.rules.specs.declared.step.Step.{Step}
 use Rattle.rules.specs.declared.step.Step.TheVariants as step
-use Rattle.fixed_order.specs.Names.{AreNamed, HasNames, HasPairNames}
+use Rattle.fixed_order.specs.Names.{AreNamed}
+use Rattle.rules.specs.Names.{HasNames, HasPairNames}
 use Rattle.forward_steps.specs.Forward.{IsAtRest, IsForward, IsOfSelected}
 use Rattle.ordering.specs.Leading.{IsSelectedIn, LeadsOn, NothingLeadsOn}
 use mathlib.Core.Logic.{inl, inr}

@@ -4,7 +4,8 @@ use Rattle.std.specs.Prelude.{IsTrue}
 use Rattle.std.proofs.lemmas.List.Elements.{All-contains}
 use Rattle.refutation.specs.Selection.{selects}
 use Rattle.fixed_order.proofs.NamedLemmas.{selected_named}
-use Rattle.fixed_order.specs.Names.{AreNamed, HasNames, HasPairNames}
+use Rattle.fixed_order.specs.Names.{AreNamed}
+use Rattle.rules.specs.Names.{HasNames, HasPairNames}
 use Rattle.forward_steps.specs.Selection.{chosen}
 use Rattle.order.specs.Order.{IsOrder}
 use Rattle.order.specs.declared.ordered.Ordered.{Ordered}

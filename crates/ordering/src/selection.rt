@@ -2,7 +2,7 @@
 
 ghost use Rattle.std.specs.Prelude.{IfOk};
 ghost use Rattle.refutation.specs.Selection.{selects};
-ghost use Rattle.fixed_order.specs.Names.{HasNames, HasPairNames};
+ghost use Rattle.rules.specs.Names.{HasNames, HasPairNames};
 ghost use Rattle.ordering.specs.Ordering.{AreAscending, IsOrdering};
 ghost use Rattle.plain.specs.Change.{IsPlainChange};
 ghost use Rattle.plain.specs.Counted.{IsCounted};

@@ -3,6 +3,7 @@ ghost use Rattle.std.specs.Prelude.{◌≡◌};
 ghost use Rattle.rules.specs.Name.{name_cmp};
 ghost use Rattle.providers.specs.Prefix.{IsPrefix};
 
+use rules::name_cmp;
 use std::cmp::Ordering;
 
 /// The first eight bytes of the name as a number: the first byte is its highest digit, and zeros follow a shorter name.
@@ -24,7 +25,7 @@ pub(crate) fn order_of(prefix: u64, name: &[u8], other_prefix: u64, other: &[u8]
     ensures { result ≡ name_cmp name.now other.now }
 {
     match prefix.cmp(&other_prefix) {
-        Ordering::Equal => name.cmp(other),
+        Ordering::Equal => name_cmp(name, other),
         decided => decided,
     }
 }

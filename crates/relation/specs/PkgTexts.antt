@@ -1,5 +1,6 @@
 -- The texts that a package is read from, which were tested.
-use Rattle.std.specs.Prelude.{◌≡◌, None}
+use Rattle.std.specs.Prelude.{◌≡◌, None, IsTrue}
+use Rattle.rules.specs.Name.{is_name}
 use Rattle.rules.specs.VersionFault.{first_fault}
 use Rattle.relation.specs.PkgValues.{HaveGoodRelations, PkgValues}
 use Rattle.relation.specs.declared.values.PkgTexts.{PkgTexts}
@@ -16,7 +17,8 @@ values_in texts = record {
   provides = texts.provides.now;
 }
 
--- the version isn't refused, and no version of the values of the relation fields is
+-- the name is a package name, the version isn't refused, and no version of the values of the relation fields is
 pub record AreTested (values : PkgValues) : Type 0 where
+  pub name_is_good : IsTrue (is_name values.name)
   pub version_is_good : first_fault values.version ≡ None
   pub relations : HaveGoodRelations values

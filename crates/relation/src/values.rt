@@ -4,7 +4,6 @@ ghost use Rattle.relation.specs.PkgText as Spec;
 ghost use Rattle.relation.specs.PkgText.{pkg_fault};
 ghost use Rattle.relation.specs.PkgValues.{spelled, values_of};
 ghost use Rattle.relation.specs.PkgTexts.{AreTested, values_in};
-ghost use Rattle.relation_text.specs.Spelling.{provided_items_of};
 
 use crate::error::PkgFault;
 use crate::fields::PkgFields;
@@ -17,7 +16,7 @@ use stanza::Field;
 use std::alloc::{AllocError, Global};
 use std::marker::Model;
 
-/// The name and the version of a package, and the values of its relation fields, which were tested; that of a field that isn't
+/// The name of a package (Policy 5.6.1) and its version, and the values of its relation fields, which were tested; that of a field that isn't
 /// there is empty. The package can be read from these at any time.
 #[derive(Drop)]
 pub struct PkgValues<'a> {
@@ -31,7 +30,9 @@ pub struct PkgValues<'a> {
 }
 
 impl<'a> Model for PkgValues<'a> {
+    ghost use Rattle.std.specs.Prelude.{IsTrue};
     ghost use Rattle.relation.specs.PkgValues.{HaveGoodRelations, PkgValues as PkgValuesText};
+    ghost use Rattle.rules.specs.Name.{is_name};
 
     ghost Value = { PkgValuesText };
 
@@ -45,7 +46,7 @@ impl<'a> Model for PkgValues<'a> {
       provides = v.provides.now;
     } };
 
-    ghost invariant = { λ v. HaveGoodRelations (record {
+    ghost invariant = { λ v. IsTrue (is_name v.name.now) × HaveGoodRelations (record {
       name = v.name.now;
       version = v.version;
       pre_depends = v.pre_depends.now;
@@ -138,6 +139,15 @@ impl<'a> PkgTexts<'a> {
             Err(_) => unreachable!(),
         }
     }
+
+    /// The items of Provides, for the configured architecture `arch` (Policy 7.5), of texts that were tested before. Memory alone
+    /// can fail, and none is taken where the field isn't there. Linear in the value.
+    pub fn provides(&self, alloc: Global, arch: &[u8]) -> Result<Vec<Provided<'a>>, AllocError>
+        requires { AreTested (values_in self.now) }
+        ensures { IfOk result (λ items. items.items ≡ (spelled arch.now (values_in self.now)).relations.provides) }
+    {
+        provided_items_of(alloc, self.provides, arch)
+    }
 }
 
 impl<'a> PkgValues<'a> {
@@ -169,14 +179,6 @@ impl<'a> PkgValues<'a> {
         ensures { result.now ≡ self.now.version }
     {
         &self.version
-    }
-
-    /// The items of Provides, for the configured architecture `arch` (Policy 7.5). Memory alone can fail, and none is taken
-    /// where the field isn't there. Linear in the value.
-    pub fn provides(&self, alloc: Global, arch: &[u8]) -> Result<Vec<Provided<'a>>, AllocError>
-        ensures { IfOk result (λ items. items.items ≡ provided_items_of arch.now self.now.provides) }
-    {
-        provided_items_of(alloc, self.provides, arch)
     }
 
     // The relations of the package.

@@ -9,6 +9,7 @@ pub mod LegalLaws
 pub mod Minimal
 pub mod Name
 pub mod NamedLaws
+pub mod Names
 pub mod Package
 pub mod PlanLaws
 pub mod Priority

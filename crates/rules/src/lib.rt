@@ -27,7 +27,7 @@ pub use laws::{
     quiet_kept, run_goes_on, run_or_stops, union_passes, universe_is_built, written_as_left,
 };
 pub use limits::{GOALS, INDICES, PACKAGES, PAIRS, STEPS, TEXT_BYTES};
-pub use name::{Name, Names, is_name, is_name_byte};
+pub use name::{Name, Names, is_name, is_name_byte, name_cmp};
 pub use op::Op;
 pub use release::{Pin, PinnedNames, Preference, Release, ReleaseItem, ReleaseKey};
 pub use status::{Flag, State, Want};

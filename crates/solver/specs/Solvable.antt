@@ -1,6 +1,6 @@
 -- What a request has to be over, so that it can be solved: a universe that inputs have. All of it holds of what is read.
 use Rattle.std.specs.Prelude.{ℕ, ◌<◌, ◌^◌, List, length}
-use Rattle.fixed_order.specs.Names.{HasNames, HasPairNames}
+use Rattle.rules.specs.Names.{HasNames, HasPairNames}
 use Rattle.plain.specs.Counted.{IsCounted}
 use Rattle.refutation.specs.Laws.{HasAscendingPairs, HasNeededPairs}
 use Rattle.rules.specs.Database.{Record}

@@ -14,7 +14,7 @@ use Rattle.stanza.specs.Starts.{starts_of}
 use Rattle.stanza.specs.Line.{lines_of}
 use Rattle.stanza.specs.Stanza.{stanza_of}
 use Rattle.stanza.specs.Streamed.{FindsAhead, IsAhead, IsOpen, MayFollow, SkipsAhead, read_within}
-use Rattle.stanza.specs.Held.{FillsWith, GivesStanza, IsCut, IsHeld, NeedsMore, pending_of, read_of, total_of}
+use Rattle.stanza.specs.Held.{FillsWith, GivesStanza, IsCut, IsHeld, NeedsMore, filled_of, pending_of, read_of, total_of}
 
 somes : {a b : List ℕ} → (let x : Option (List ℕ) = Some a in x) ≡ Some b → a ≡ b
 somes e = cc
@@ -27,31 +27,62 @@ consumed : (more block : List ℕ) (after : Option (List ℕ)) → Consumes (Som
 consumed more block None taken = absurd taken
 consumed more block (Some rest) taken = (rest, refl, taken)
 
--- one more block
+pub length-filled : (held : Held) → IsHeld held → length (filled_of held) ≡ held.end
+length-filled held is = omega (arith, is.filled, length-take held.end held.bytes.items)
+
+pub length-pending : (held : Held) → IsHeld held → length (pending_of held) ≡ held.end - held.begin
+length-pending held is = omega (arith, length-drop held.begin (filled_of held), length-filled held is)
+
+-- what is held once a block more was read
+pub record ReadsMore (held new : Held) (block : List ℕ) : Type 0 where
+  pub bytes : filled_of new ≡ filled_of held ++ block
+  pub begin : new.begin ≡ held.begin
+  pub end : new.end ≡ held.end + length block
+  pub before : new.before ≡ held.before
+  pub room : new.room + length block ≡ held.room
+
+pub pending-more : (held new : Held) (block : List ℕ) → IsHeld held → ReadsMore held new block → pending_of new ≡ pending_of held ++ block
+pending-more held new block is reads =
+    ap (λ k. drop k (filled_of new)) reads.begin ∙ ap (drop held.begin) reads.bytes
+    ∙ drop-append-le held.begin (filled_of held) block (omega (arith, is.within, length-filled held is))
+
 pub Fills-more : (old held new : Held) (known before after : Option (List ℕ)) (block : List ℕ) → IsHeld held → Fills known before old held → Consumes before after block
-    → new.bytes.items ≡ held.bytes.items ++ block → new.begin ≡ held.begin → new.before ≡ held.before → new.room + length block ≡ held.room → Fills known after old new
-Fills-more old held new known before after block is fills taken bytes begin lines room = λ left e.
+    → ReadsMore held new block → Fills known after old new
+Fills-more old held new known before after block is fills taken reads = λ left e.
     let f = fills left e in
     let t = consumed f.0 block after (subst (λ o. Consumes o after block) f.1 taken) in
-    let pending : pending_of new ≡ pending_of held ++ block = ap (λ k. drop k new.bytes.items) begin ∙ ap (drop held.begin) bytes ∙ drop-append-le held.begin held.bytes.items block is.within in (
+    let pending = pending-more held new block is reads in (
       t.0,
       t.1,
       record {
         text = f.2.text ∙ ap (λ x. pending_of held ++ x) t.2 ∙ sym (append_assoc (pending_of held) block t.0) ∙ ap (λ x. x ++ t.0) (sym pending);
-        most = f.2.most ∙ omega (arith, room, ap length pending, length-append (pending_of held) block);
-        before = f.2.before ∙ sym lines;
+        most = f.2.most ∙ omega (arith, reads.room, ap length pending, length-append (pending_of held) block);
+        before = f.2.before ∙ sym reads.before;
       },
     )
 
-pub IsHeld-more : (held new : Held) (block : List ℕ) → IsHeld held → new.bytes.items ≡ held.bytes.items ++ block → new.begin ≡ held.begin → new.before ≡ held.before → new.room + length block ≡ held.room → IsHeld new
-IsHeld-more held new block is bytes begin lines room = record {
-  within = omega (arith, is.within, begin, ap length bytes, length-append held.bytes.items block);
-  fits = omega (arith, is.within, is.fits, begin, lines, room, ap length bytes, length-append held.bytes.items block);
+pub IsHeld-more : (held new : Held) (block : List ℕ) → IsHeld held → ReadsMore held new block → new.end ≤ length new.bytes.items → IsHeld new
+IsHeld-more held new block is reads filled = record {
+  filled = filled;
+  within = omega (arith, is.within, reads.begin, reads.end);
+  fits = omega (arith, is.within, is.fits, reads.begin, reads.end, reads.before, reads.room);
 }
 
-pub total-more : (held new : Held) (block : List ℕ) → IsHeld held → new.bytes.items ≡ held.bytes.items ++ block → new.begin ≡ held.begin → new.room + length block ≡ held.room → total_of new ≡ total_of held
-total-more held new block is bytes begin room =
-    omega (arith, is.within, begin, room, ap length bytes, length-append held.bytes.items block, length-drop new.begin new.bytes.items, length-drop held.begin held.bytes.items)
+pub total-more : (held new : Held) (block : List ℕ) → IsHeld held → ReadsMore held new block → total_of new ≡ total_of held
+total-more held new block is reads =
+    omega (arith, reads.room, ap length (pending-more held new block is reads), length-append (pending_of held) block)
+
+-- nothing is read yet, where the bytes that are answered were let go
+pub Fills-moved : (known : Option (List ℕ)) (old new : Held) → pending_of new ≡ pending_of old → new.room ≡ old.room → new.before ≡ old.before → Fills known known old new
+Fills-moved known old new pending room before = λ left e. (
+  left,
+  e,
+  record {
+    text = ap (λ x. x ++ left) (sym pending);
+    most = omega (arith, ap length pending, room);
+    before = sym before;
+  },
+)
 
 -- ---- bytes that are answered
 
@@ -62,7 +93,9 @@ read-moved form n len lines room text left within =
 
 -- what is held once so many bytes, of so many lines, are answered
 pub record Moves (old new : Held) (len lines : ℕ) : Type 0 where
-  pub bytes : new.bytes.items ≡ old.bytes.items
+  pub bytes : filled_of new ≡ filled_of old
+  pub size : length new.bytes.items ≡ length old.bytes.items
+  pub end : new.end ≡ old.end
   pub begin : new.begin ≡ old.begin + len
   pub before : new.before ≡ old.before + lines
   pub room : new.room ≡ old.room
@@ -73,12 +106,13 @@ moved held len lines = record held { begin = held.begin + len; before = held.bef
 
 module _ (old new : Held) (len lines : ℕ) where
   pub pending-moved : Moves old new len lines → pending_of new ≡ drop len (pending_of old)
-  pending-moved moves = ap (λ k. drop k new.bytes.items) moves.begin ∙ ap (drop (old.begin + len)) moves.bytes ∙ sym (drop-drop len old.begin old.bytes.items)
+  pending-moved moves = ap (λ k. drop k (filled_of new)) moves.begin ∙ ap (drop (old.begin + len)) moves.bytes ∙ sym (drop-drop len old.begin (filled_of old))
 
   pub IsHeld-moved : Moves old new len lines → IsHeld old → len ≤ length (pending_of old) → lines ≤ len → IsHeld new
   IsHeld-moved moves is within each = record {
-    within = omega (arith, moves.begin, ap length moves.bytes, within, is.within, length-drop old.begin old.bytes.items);
-    fits = omega (arith, moves.begin, moves.before, moves.room, ap length moves.bytes, within, each, is.within, is.fits, length-drop old.begin old.bytes.items);
+    filled = omega (arith, is.filled, moves.size, moves.end);
+    within = omega (arith, moves.begin, moves.end, within, is.within, length-pending old is);
+    fits = omega (arith, moves.begin, moves.end, moves.before, moves.room, within, each, is.within, is.fits, length-pending old is);
   }
 
   pub total-moved : Moves old new len lines → total_of new ≤ total_of old
@@ -122,7 +156,7 @@ pub stanza-gives : (old held new : Held) (ahead : Ahead) (found : Option Ahead) 
     → GivesStanza is_over form old new starts (record { from = held.begin; len = ahead.end; line = held.before + 1 })
 stanza-gives old held new ahead found starts is_over form is finds gap total moves =
     let f = subst (FindsAhead is_over form (held.before + 1) (pending_of held) starts) is finds in
-    let raw : take ahead.end (pending_of held) ≡ take ahead.end (drop held.begin new.bytes.items) = ap (λ b. take ahead.end (drop held.begin b)) (sym moves.bytes) in
+    let raw : take ahead.end (pending_of held) ≡ take ahead.end (drop held.begin (filled_of new)) = ap (λ b. take ahead.end (drop held.begin b)) (sym moves.bytes) in
     record {
       placed = record {
         some = omega (arith, f.0.some, f.0.order, f.0.within, ap length raw, length-take ahead.end (pending_of held));

@@ -14,14 +14,19 @@ use Rattle.stanza.specs.Stanza.{StanzaText, stanza_of}
 use Rattle.stanza.specs.Starts.{starts_of}
 use Rattle.stanza.specs.Streamed.{MayFollow, read_within}
 
--- the bytes that aren't answered yet
-abbrev pub pending_of : Held → List ℕ
-pending_of held = drop held.begin held.bytes.items
+-- the bytes that were read
+abbrev pub filled_of : Held → List ℕ
+filled_of held = take held.end held.bytes.items
 
--- they are some of those that are held, and lines can be counted
+-- those that aren't answered yet
+abbrev pub pending_of : Held → List ℕ
+pending_of held = drop held.begin (filled_of held)
+
+-- there are bytes up to the end of those that were read, of which some may be answered, and lines can be counted
 pub record IsHeld (held : Held) : Type 0 where
-  pub within : held.begin ≤ length held.bytes.items
-  pub fits : held.before + (length held.bytes.items - held.begin) + held.room < 2 ^ 64
+  pub filled : held.end ≤ length held.bytes.items
+  pub within : held.begin ≤ held.end
+  pub fits : held.before + (held.end - held.begin) + held.room < 2 ^ 64
 
 -- how many bytes there may still be
 abbrev pub total_of : Held → ℕ
@@ -52,9 +57,9 @@ pub record FillsWith (old new : Held) (left more : List ℕ) : Type 0 where
 
 -- what is still to be answered begins with a stanza that stands there, and goes on with what the new ones have
 pub record GivesStanza (is_over : Bool) (form : Form) (old new : Held) (starts : List Start) (place : Place) : Type 0 where
-  pub placed : IsPlaced form new.bytes.items place starts
+  pub placed : IsPlaced form (filled_of new) place starts
   pub less : total_of new < total_of old
-  pub read : (left : List ℕ) → MayFollow is_over left → read_of form old left ≡ Ok (stanza_at form new.bytes.items place) ∷ read_of form new left
+  pub read : (left : List ℕ) → MayFollow is_over left → read_of form old left ≡ Ok (stanza_at form (filled_of new) place) ∷ read_of form new left
 
 -- nothing is still to be answered
 pub record GivesNothing (is_over : Bool) (form : Form) (old new : Held) : Type 0 where
@@ -81,4 +86,4 @@ IsRefused is_over form held fault = (left : List ℕ) → MayFollow is_over left
 -- what was found of the text that is held and left: a stanza, or that nothing comes
 abbrev pub Finds : Form → Held → Held → List ℕ → List ℕ → Option Place → Type 0
 Finds form old new left more None = (read_of form old left ≡ []) × (read_of form new more ≡ [])
-Finds form old new left more (Some place) = read_of form old left ≡ Ok (stanza_at form new.bytes.items place) ∷ read_of form new more
+Finds form old new left more (Some place) = read_of form old left ≡ Ok (stanza_at form (filled_of new) place) ∷ read_of form new more

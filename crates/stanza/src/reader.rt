@@ -1,7 +1,7 @@
 //! The stanzas of a text that comes piece by piece.
 ghost use Rattle.std.specs.Prelude.{◌≡◌, ◌≢◌, ◌<◌, ◌≤◌, ◌⊎◌, ◌+◌, ◌-◌, ◌^◌, ◌∷◌, [], ℕ, Bool, false, true, List, length, min, IfErr, IfOk, IfSome, OnOk, Err, None, Ok, Option, Some};
 ghost use Rattle.std.specs.Option.{is_some};
-ghost use Rattle.stanza.specs.Held.{Finds, IsHeld, IsPlaced, read_of, total_of};
+ghost use Rattle.stanza.specs.Held.{Finds, IsHeld, IsPlaced, filled_of, read_of, total_of};
 ghost use Rattle.stanza.specs.Reading.{GoesOn, Reading, begins, to_read};
 ghost use Rattle.stanza.specs.declared.error.ReadError.TheVariants as read_error;
 ghost use Rattle.stanza.specs.declared.form.Form.TheVariants.{Commented, Plain};
@@ -14,14 +14,10 @@ use crate::starts::{ReadStanza, Start, part};
 use std::alloc::{AllocError, Global};
 use std::marker::Model;
 
-// How many bytes are asked for at a time.
-const BLOCK: usize = 131_072;
-
-/// Reads the stanzas of a text one after another from a source, and holds one at a time, with a block of what comes after it.
+/// Reads the stanzas of a text one after another from a source, and holds one at a time, with what was read behind it.
 #[derive(Drop)]
 pub struct Reader {
     form: Form,
-    block: Vec<u8>,
     held: Held,
     starts: Vec<Start>,
     at: Option<Place>,
@@ -29,9 +25,9 @@ pub struct Reader {
 }
 
 impl Model for Reader {
-    ghost use Rattle.std.specs.Prelude.{◌≡◌, ◌<◌, ◌+◌, length, None, IfSome};
+    ghost use Rattle.std.specs.Prelude.{◌≡◌, ◌+◌, None, IfSome};
     ghost use Rattle.std.specs.Option.{option_map};
-    ghost use Rattle.stanza.specs.Held.{IsHeld, IsPlaced, pending_of, stanza_at};
+    ghost use Rattle.stanza.specs.Held.{IsHeld, IsPlaced, filled_of, pending_of, stanza_at};
     ghost use Rattle.stanza.specs.Reading.{Reading};
 
     ghost Value = { Reading };
@@ -41,12 +37,12 @@ impl Model for Reader {
       number = r.held.before + 1;
       pending = pending_of r.held;
       room = r.held.room;
-      stanza = option_map (stanza_at r.form r.held.bytes.items) r.at;
+      stanza = option_map (stanza_at r.form (filled_of r.held)) r.at;
       failed = r.failed;
     } };
 
-    ghost invariant = { λ r. (0 < length r.block.items) × (r.failed ≡ None → IsHeld r.held)
-        × IfSome r.at (λ place. IsPlaced r.form r.held.bytes.items place r.starts.items) };
+    ghost invariant = { λ r. (r.failed ≡ None → IsHeld r.held)
+        × IfSome r.at (λ place. IsPlaced r.form (filled_of r.held) place r.starts.items) };
 }
 
 // Cuts the next stanza out of what is held, and reads more until it is whole.
@@ -54,14 +50,11 @@ fn read_on<S: Source>(
     form: Form,
     held: &mut Held,
     source: &mut S,
-    block: &mut [u8],
     starts: &mut Vec<Start>,
 ) -> Result<Option<Place>, ReadError>
     requires held { IsHeld held.old }
-    requires some { 0 < length block.old }
     ensures held { OnOk result (IsHeld held.new) }
-    ensures size { length block.new ≡ length block.old }
-    ensures placed { IfOk result (λ found. IfSome found (λ place. IsPlaced form held.new.bytes.items place starts.new.items)) }
+    ensures placed { IfOk result (λ found. IfSome found (λ place. IsPlaced form (filled_of held.new) place starts.new.items)) }
     ensures less { IfOk result (λ found. IfSome found (λ _. total_of held.new < total_of held.old)) }
     ensures known { (left : List ℕ) → S.left source.old ≡ Some left → IfOk result (λ found.
         (more : List ℕ) × (S.left source.new ≡ Some more) × Finds form held.old held.new left more found) }
@@ -77,7 +70,7 @@ fn read_on<S: Source>(
         match held.cut(form, is_over, starts)? {
             Cut::Stanza(place) => return Ok(Some(place)),
             Cut::Nothing => return Ok(None),
-            Cut::More => is_over = held.fill(source, block)?,
+            Cut::More => is_over = held.fill(source)?,
         }
     }
 }
@@ -100,11 +93,8 @@ impl Reader {
     fn of_form(alloc: Global, form: Form, most: usize) -> Result<Reader, AllocError>
         ensures { IfOk result (λ reader. reader ≡ begins form most) }
     {
-        let mut block = Vec::new(alloc);
-        block.resize(BLOCK, 0u8)?;
         Ok(Reader {
             form,
-            block,
             held: Held::new(alloc, most),
             starts: Vec::new(alloc),
             at: None,
@@ -139,7 +129,6 @@ impl Reader {
             self.form,
             &mut self.held,
             source,
-            &mut self.block,
             &mut self.starts,
         ) {
             Ok(found) => {
@@ -158,7 +147,7 @@ impl Reader {
         ensures { result ≡ self.now.stanza }
     {
         let place = self.at?;
-        let raw = part(&self.held.bytes, place.from, place.len);
+        let raw = part(self.held.filled(), place.from, place.len);
         Some(ReadStanza::new(self.form, place.line, raw, &self.starts))
     }
 }

@@ -102,6 +102,7 @@ impl<'a> StatusFile<'a> {
     /// The records, in the order of the file. No two have the same name. Memory alone can fail. Linear in the stanzas.
     pub fn records(&self, alloc: Global) -> Result<Vec<&StatusRecord<'a>>, AllocError>
         ensures records { IfOk result (λ records. map (λ r. r.now) records.items ≡ entries_of self.now.slots) }
+        ensures read { WereRead self.now.arch self.now.slots }
         ensures distinct { HasDistinctNames (slot_records self.now.slots) }
     {
         records_in(alloc, self.slots.as_slice())

@@ -8,6 +8,7 @@ ghost use Rattle.rules.specs.Name.{name_cmp};
 ghost use Rattle.rules.specs.Universe.{candidate_cmp};
 
 use crate::candidate::Candidate;
+use rules::name_cmp;
 use std::cmp::Ordering;
 use std::marker::Model;
 
@@ -34,7 +35,7 @@ impl<'a> Model for Candidates<'a> {
 fn order_to(candidate: &Candidate<'_>, name: &[u8]) -> Ordering
     ensures { result ≡ name_cmp candidate.now.name name.now }
 {
-    candidate.name().cmp(name)
+    name_cmp(candidate.name(), name)
 }
 
 // The candidate of the name, by a binary search.

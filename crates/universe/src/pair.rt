@@ -10,6 +10,7 @@ ghost use Rattle.rules.specs.UniverseLaws.{pair_cmp_total};
 use debversion::Version;
 use index::IndexEntry;
 use relation::Pkg;
+use rules::name_cmp;
 use std::alloc::{AllocError, Global};
 use std::cmp::Ordering;
 use std::marker::Model;
@@ -140,7 +141,7 @@ impl Ord for Pair<'_, '_> {
     ghost matches_eq = { λ pair other. refl };
 
     fn cmp(&self, other: &Self) -> Ordering {
-        match self.name().cmp(other.name()) {
+        match name_cmp(self.name(), other.name()) {
             Ordering::Equal => self.version().cmp(&other.version()),
             decided => decided,
         }

@@ -12,6 +12,7 @@ ghost use Rattle.universe.specs.Universe.{number_among, place_among};
 use crate::pair::Pair;
 use debversion::Version;
 use index::IndexEntry;
+use rules::name_cmp;
 use std::cmp::Ordering;
 use std::marker::Model;
 
@@ -37,7 +38,7 @@ impl<'p, 'a> Model for Pairs<'p, 'a> {
 fn order_to(pair: &Pair<'_, '_>, name: &[u8], version: &Version<'_>) -> Ordering
     ensures { result ≡ pkg_order pair.now.pkg name.now version.now }
 {
-    match pair.name().cmp(name) {
+    match name_cmp(pair.name(), name) {
         Ordering::Equal => pair.version().cmp(version),
         decided => decided,
     }

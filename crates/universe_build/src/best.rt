@@ -10,6 +10,7 @@ ghost use Rattle.candidates.specs.Offer.{offer_name_cmp};
 ghost use Rattle.universe_build.specs.Choice.{best_exacts, is_sought};
 
 use candidates::{Found, Offer};
+use rules::name_cmp;
 use std::cmp::Ordering;
 
 fn is_named(offer: &Offer<'_>, name: &[u8]) -> bool
@@ -22,7 +23,7 @@ fn is_named(offer: &Offer<'_>, name: &[u8]) -> bool
 fn order_to(offer: &Offer<'_>, name: &[u8]) -> Ordering
     ensures { result ≡ name_cmp offer.now.name name.now }
 {
-    offer.name().cmp(name)
+    name_cmp(offer.name(), name)
 }
 
 // The best offer of the name, by a binary search.

@@ -10,7 +10,7 @@ ghost use Rattle.universe_build.specs.ChoiceLaws.{exact_cmp_total};
 
 use candidates::{Found, Offer};
 use debversion::Version;
-use rules::{Goal, GoalLine, Name, Op, Restriction};
+use rules::{Goal, GoalLine, Name, Op, Restriction, name_cmp};
 use std::alloc::{AllocError, Global};
 use std::cmp::Ordering;
 use std::marker::Model;
@@ -125,7 +125,7 @@ pub fn exacts_of<'g>(
 fn order_to(exact: &Exact<'_>, found: &Found<'_, '_>) -> Ordering
     ensures { result ≡ exact_cmp exact.now (exact_at found.now) }
 {
-    match exact.name.cmp(found.name()) {
+    match name_cmp(exact.name, found.name()) {
         Ordering::Equal => exact.version.cmp(&found.version()),
         decided => decided,
     }
@@ -175,7 +175,7 @@ impl Ord for Exact<'_> {
     ghost matches_eq = { λ exact other. refl };
 
     fn cmp(&self, other: &Self) -> Ordering {
-        match self.name.cmp(other.name) {
+        match name_cmp(self.name, other.name) {
             Ordering::Equal => self.version.cmp(&other.version),
             decided => decided,
         }

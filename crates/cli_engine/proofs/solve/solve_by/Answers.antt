@@ -40,7 +40,7 @@ returns-clause-answer g c = λ at known started indexed.
     }
 
 pub solve_over-requires : goal.solve_over-requires
-solve_over-requires g c = λ starts pairs.
+solve_over-requires g c =
     let made = c.in_ok-universe.ensures.universe in
     let inputs = inputs_of (slot_records c.args.status_file.now.slots) (indices_of c.as_slice.result.now) c.in_ok-prefs.prefs made.0 in
     let needed = universe_has_needed_pairs inputs c.in_ok-universe.field-0.universe c.in_ok-universe.ensures.start made.1 in
@@ -51,8 +51,8 @@ solve_over-requires g c = λ starts pairs.
       distinct = c.in_ok-universe.ensures.distinct;
       ascending = needed.0;
       needed = needed.1;
-      start_names = starts;
-      pair_names = pairs;
+      start_names = c.in_ok-universe.ensures.start_names;
+      pair_names = c.in_ok-universe.ensures.pair_names;
     }
 
 pub tell_solved-requires-clause-good : goal.tell_solved-requires-clause-good

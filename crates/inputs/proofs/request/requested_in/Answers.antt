@@ -10,6 +10,7 @@ use Rattle.universe_build.proofs.StartsApart.{starts_apart}
 use Rattle.inputs.specs.Meaning.{IsRequested, asked_of}
 use Rattle.inputs.specs.Texts.{Found}
 use Rattle.inputs.proofs.DenoteLemmas.{built_on}
+use Rattle.inputs.proofs.NameLemmas.{pairs_named, status_named}
 use Rattle.inputs.proofs.request.requested_in.Goals as goal
 
 pub returns-in-Ok-clause-built : goal.returns-in-Ok-clause-built
@@ -30,6 +31,17 @@ returns-in-Ok-clause-universe c =
       subst (λ es. IsUniverse (inputs_of (records_of es) (indices_of c.args.indices.now) c.args.prefs.now (asked_of c.in-Ok.ensures.ok.0)) c.in-Ok.found.universe)
           same c.in-Ok.ensures.ok.1.built.universe,
     )
+
+pub returns-in-Ok-clause-start_names : goal.returns-in-Ok-clause-start_names
+returns-in-Ok-clause-start_names c =
+    let read = c.in_ok-records.ensures.read in
+    status_named c.args.status_file.now.arch read.text c.args.status_file.now.slots read.read
+
+pub returns-in-Ok-clause-pair_names : goal.returns-in-Ok-clause-pair_names
+returns-in-Ok-clause-pair_names c =
+    let made = returns-in-Ok-clause-universe c in
+    let inputs = inputs_of (slot_records c.args.status_file.now.slots) (indices_of c.args.indices.now) c.args.prefs.now made.0 in
+    pairs_named inputs c.in-Ok.found.universe (returns-in-Ok-clause-start_names c) c.packages_are_named.ensures made.1
 
 pub returns-in-Ok-clause-ok : goal.returns-in-Ok-clause-ok
 returns-in-Ok-clause-ok c at there read =

@@ -15,7 +15,7 @@ returns-in-Ok-clause-ok c = λ at read.
     (read-asking (texts_for before at) c.args.text.now (slot_records before.status_file.now.slots) (indices_of before.indices.now) before.prefs.now read)
 
 pub returns-in-Ok-clause-solvable : goal.returns-in-Ok-clause-solvable
-returns-in-Ok-clause-solvable c = λ starts pairs.
+returns-in-Ok-clause-solvable c =
     let before = c.args.before.now in
     let made = c.in-Ok.ensures.universe in
     let inputs = inputs_of (slot_records before.status_file.now.slots) (indices_of before.indices.now) before.prefs.now made.0 in
@@ -28,6 +28,6 @@ returns-in-Ok-clause-solvable c = λ starts pairs.
       distinct = c.in-Ok.ensures.distinct;
       ascending = needed.0;
       needed = needed.1;
-      start_names = starts;
-      pair_names = pairs;
+      start_names = c.in-Ok.ensures.start_names;
+      pair_names = c.in-Ok.ensures.pair_names;
     }

@@ -31,9 +31,7 @@ loop-place-preserved g c =
     let filled = c.in_ok-is_over-in-More.ensures in
     record {
       held = filled.held;
-      size = filled.size ∙ w.invariant.size;
       total = omega (arith, w.invariant.total, c.in_ok-place.ensures.total, filled.total);
-      some = omega (arith, w.invariant.some, filled.size);
       known = λ left known.
           let f = w.invariant.known left known in
           let n = filled.filled f.0 f.1 in

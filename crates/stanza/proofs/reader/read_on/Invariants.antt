@@ -1,5 +1,5 @@
 -- What is still to be answered is the same, whatever was read.
-use Rattle.std.proofs.Common.{◌≡◌, ◌<◌, ◌≤◌, ◌+◌, ℕ, List, length, true, Some, cond}
+use Rattle.std.proofs.Common.{◌≡◌, ◌≤◌, ◌+◌, ℕ, List, true, Some, cond}
 use Rattle.stanza.specs.Held.{IsHeld, read_of, total_of}
 use Rattle.stanza.specs.Streamed.{MayFollow}
 use Rattle.stanza.proofs.reader.read_on.Given as goal
@@ -7,9 +7,7 @@ use Rattle.stanza.proofs.reader.read_on.Given as goal
 abbrev pub invariant-loop-place : goal.invariant-loop-place
 invariant-loop-place g l = record {
   held : IsHeld l.held;
-  size : length l.block ≡ length l.fn.block;
   total : total_of l.held ≤ total_of l.fn.held;
-  some : 0 < length l.block;
   known : (left : List ℕ) → g.S.Source.left l.fn.source ≡ Some left
       → (more : List ℕ) × (g.S.Source.left l.source ≡ Some more) × (read_of l.form l.fn.held left ≡ read_of l.form l.held more) × MayFollow l.is_over more;
   sure : g.S.Source.is_sure l.fn.source ≡ true → g.S.Source.is_sure l.source ≡ true;

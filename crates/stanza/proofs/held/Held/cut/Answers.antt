@@ -1,5 +1,5 @@
 -- The stanza that was found is cut off.
-use Rattle.std.proofs.Common.{◌≡◌, ◌+◌, ℕ, List, drop, refl, ap, subst, ◌∙◌, arith}
+use Rattle.std.proofs.Common.{◌≡◌, ◌+◌, ℕ, List, refl, subst, arith}
 use Rattle.stanza.specs.Held.{pending_of}
 use Rattle.stanza.specs.Streamed.{FindsAhead}
 use Rattle.stanza.proofs.HeldLemmas.{moved, stanza-gives, total-moved}
@@ -8,10 +8,10 @@ use Rattle.stanza.proofs.held.Held.cut.Goals as goal
 pub returns-clause-found : goal.returns-clause-found
 returns-clause-found c =
     let held = c.skip_gap.new.self in
-    let pending : c.split_at.result.1.now ≡ pending_of held = c.split_at.ensures.back ∙ ap (drop held.begin) c.deref.ensures.value in
+    let pending : c.pending-text.result.now ≡ pending_of held = c.pending-text.ensures in
     let finds = subst (λ (text : List ℕ). FindsAhead c.args.is_over c.args.form (held.before + 1) text c.stanza_ahead.new.starts.items c.in_ok-ahead.field-0) pending c.in_ok-ahead.ensures.found in
     stanza-gives c.args.self.now held _ c.in-Some.ahead c.in_ok-ahead.field-0 c.stanza_ahead.new.starts.items c.args.is_over c.args.form c.in-Some.is finds c.skip_gap.ensures.read c.skip_gap.ensures.total
-    (record { bytes = refl; begin = refl; before = refl; room = refl })
+    (record { bytes = refl; size = refl; end = refl; begin = refl; before = refl; room = refl })
 
 pub returns-clause-total : goal.returns-clause-total
 returns-clause-total c =
@@ -20,5 +20,5 @@ returns-clause-total c =
       arith,
       c.skip_gap.ensures.total,
       total-moved held (moved held c.in-Some.ahead.len c.in-Some.ahead.lines) c.in-Some.ahead.len c.in-Some.ahead.lines
-          (record { bytes = refl; begin = refl; before = refl; room = refl }),
+          (record { bytes = refl; size = refl; end = refl; begin = refl; before = refl; room = refl }),
     )
