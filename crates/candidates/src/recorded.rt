@@ -13,8 +13,8 @@ ghost use Rattle.candidates.specs.RecordedLaws.{record_cmp_total};
 
 use debversion::Version;
 use relation::Pkg;
-use status_text::StatusRecord;
 use rules::name_cmp;
+use status_text::StatusRecord;
 use std::alloc::{AllocError, Global};
 use std::cmp::Ordering;
 use std::marker::Model;

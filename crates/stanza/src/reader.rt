@@ -125,12 +125,7 @@ impl Reader {
             return Err(failed);
         }
         self.at = None;
-        match read_on(
-            self.form,
-            &mut self.held,
-            source,
-            &mut self.starts,
-        ) {
+        match read_on(self.form, &mut self.held, source, &mut self.starts) {
             Ok(found) => {
                 self.at = found;
                 Ok(found.is_some())

@@ -3,8 +3,7 @@ use Rattle.relation.proofs.fields.PkgFields.tested_values.Goals as goal
 
 pub invariant_of-result : goal.invariant_of-result
 invariant_of-result c =
-    let good = good_relations c.args.self.now c.in_ok-check_relations_by.ensures in
-    (
+    let good = good_relations c.args.self.now c.in_ok-check_relations_by.ensures in (
       c.in_ok-name.ensures.name,
       record {
         pre_depends = rw c.value_in.ensures good.pre_depends;

@@ -20,6 +20,6 @@ returns-clause-bytes c =
     let held = c.args.self.now in
     let new = c.copy_within.new.self in
     ap (take (held.end - held.begin)) (
-      with_items_is held.bytes new (c.copy_within.ensures.len ∙ c.as_mut_slice.ensures.len)
-      ∙ c.copy_within.ensures.after ∙ ap (λ bytes. copy_within bytes held.begin held.end 0) c.as_mut_slice.ensures.value
+    with_items_is held.bytes new (c.copy_within.ensures.len ∙ c.as_mut_slice.ensures.len)
+    ∙ c.copy_within.ensures.after ∙ ap (λ bytes. copy_within bytes held.begin held.end 0) c.as_mut_slice.ensures.value
     ) ∙ moved-front held.bytes.items held.begin held.end c.requires.within c.requires.filled
