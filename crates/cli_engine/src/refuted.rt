@@ -11,7 +11,7 @@ use documents::put_lines;
 use index::Index;
 use reasons::{core, sentences};
 use refutation::Refutation;
-use refutecheck::Verdict as RefutationVerdict;
+use refutecheck::{Premises, Verdict as RefutationVerdict};
 use rules::Verdict;
 use solver::Solved;
 use status_text::StatusFile;
@@ -63,8 +63,9 @@ fn tell_refuted(
         return Ok(());
     }
     add_lines(alloc, universe, refutation, told)?;
-    let shorter = core(alloc, universe, refutation)?;
-    let text = sentences(alloc, universe, indices, &shorter, asks_all_versions)?;
+    let premises = Premises::new(alloc, universe)?;
+    let shorter = core(&premises, refutation)?;
+    let text = sentences(&premises, indices, &shorter, asks_all_versions)?;
     told.add(text.as_slice())
 }
 

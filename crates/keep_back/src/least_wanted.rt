@@ -250,15 +250,15 @@ fn reason_in(
     requires distinct { HaveDistinctNames universe.now.starts }
     ensures { IfOk result (IsWithin (length wishes.now)) }
 {
-    let core = core(alloc, universe, refutation)?;
     let premises = Premises::new(alloc, universe)?;
+    let core = core(&premises, refutation)?;
     let Some(place) = least_wanted(&premises, universe, &core, wishes)? else {
         return Ok(None);
     };
     if place >= wishes.len() {
         return Ok(None);
     }
-    let sentences = sentences(alloc, universe, indices, &core, asks_all_versions)?;
+    let sentences = sentences(&premises, indices, &core, asks_all_versions)?;
     Ok(Some(Reason { place, sentences }))
 }
 

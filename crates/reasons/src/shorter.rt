@@ -1,18 +1,16 @@
 // A core of a refutation.
 
-ghost use Rattle.std.specs.Prelude.{◌^◌, ◌<◌, IfOk, IsTrue, length};
+ghost use Rattle.std.specs.Prelude.{IfOk, IsTrue};
 ghost use Rattle.refutation.specs.Refutation.{IsAccepted};
 ghost use Rattle.explain.specs.Needed.{ArePremisesOf};
-ghost use Rattle.universe.specs.Universe.{HaveDistinctNames};
 ghost use Rattle.reasons.specs.Core.{IsShorter};
 
 use crate::draft::candidate_of;
 use crate::member::are_premises_of;
 use explain::needed_lines;
 use refutation::{Line, Refutation};
-use refutecheck::{Premises, Verdict, check_refutation};
-use std::alloc::{AllocError, Global};
-use universe::Universe;
+use refutecheck::{Premises, Verdict, check_refutation_by};
+use std::alloc::AllocError;
 
 /// How many premises are at most left out one by one, each with a search of its own.
 const PREMISES: usize = 200;
@@ -28,16 +26,13 @@ fn are_many(lines: &[Line]) -> bool {
 
 // Whether the candidate is accepted and has premises of the refutation alone.
 fn may_replace(
-    alloc: Global,
-    universe: &Universe<'_, '_>,
+    premises: &Premises<'_, '_, '_>,
     refutation: &Refutation,
     candidate: &Refutation,
 ) -> Result<bool, AllocError>
-    requires few { length universe.now.pairs < 2 ^ 32 }
-    requires distinct { HaveDistinctNames universe.now.starts }
-    ensures { IfOk result (λ answer. IsTrue answer → IsShorter universe.now refutation.now candidate.now) }
+    ensures { IfOk result (λ answer. IsTrue answer → IsShorter premises.now refutation.now candidate.now) }
 {
-    let verdict = check_refutation(alloc, universe, candidate)?;
+    let verdict = check_refutation_by(premises, candidate)?;
     match verdict {
         Verdict::Yes => Ok(are_premises_of(candidate.as_slice(), refutation.as_slice())),
         Verdict::No(_) => Ok(false),
@@ -46,16 +41,13 @@ fn may_replace(
 
 // The candidate, where it is accepted and has premises of the refutation alone, and else the refutation.
 fn judged(
-    alloc: Global,
-    universe: &Universe<'_, '_>,
+    premises: &Premises<'_, '_, '_>,
     refutation: Refutation,
     candidate: Refutation,
 ) -> Result<Refutation, AllocError>
-    requires few { length universe.now.pairs < 2 ^ 32 }
-    requires distinct { HaveDistinctNames universe.now.starts }
-    ensures { IfOk result (IsShorter universe.now refutation) }
+    ensures { IfOk result (IsShorter premises.now refutation) }
 {
-    if may_replace(alloc, universe, &refutation, &candidate)? {
+    if may_replace(premises, &refutation, &candidate)? {
         Ok(candidate)
     } else {
         Ok(refutation)
@@ -64,47 +56,38 @@ fn judged(
 
 // The refutation with those premises left out that can be.
 fn shortened(
-    alloc: Global,
-    universe: &Universe<'_, '_>,
+    premises: &Premises<'_, '_, '_>,
     refutation: Refutation,
 ) -> Result<Refutation, AllocError>
-    requires few { length universe.now.pairs < 2 ^ 32 }
-    requires distinct { HaveDistinctNames universe.now.starts }
-    ensures { IfOk result (IsShorter universe.now refutation) }
+    ensures { IfOk result (IsShorter premises.now refutation) }
 {
-    let premises = Premises::new(alloc, universe)?;
-    match candidate_of(&premises, &refutation)? {
+    match candidate_of(premises, &refutation)? {
         None => Ok(refutation),
         Some(candidate) => {
-            let shorter = judged(alloc, universe, refutation, candidate)?;
+            let shorter = judged(premises, refutation, candidate)?;
             Ok(shorter)
         }
     }
 }
 
-/// A shorter refutation: the lines that the last one needs, and of these, where they have at most 200 premises, a refutation
-/// by those premises alone of which, as far as the search tells, none can be left out: from the last one to the first each
-/// is left out where the others refute. What the search finds is judged, and where it isn't accepted the lines stay that the
-/// last one needs. Each premise costs a search of at most 1000 conflicts over the clauses of the premises. Memory alone can
-/// fail.
+/// A shorter refutation of the universe of these premises: the lines that the last one needs, and of these, where they have at most
+/// 200 premises, a refutation by those premises alone of which, as far as the search tells, none can be left out: from the last one
+/// to the first each is left out where the others refute. What the search finds is judged, and where it isn't accepted the lines
+/// stay that the last one needs. Each premise costs a search of at most 1000 conflicts over the clauses of the premises. Memory alone
+/// can fail.
 pub fn core(
-    alloc: Global,
-    universe: &Universe<'_, '_>,
+    premises: &Premises<'_, '_, '_>,
     refutation: &Refutation,
 ) -> Result<Refutation, AllocError>
-    // pairs have numbers of 32 bits, as those of a request have (`rules::PAIRS`)
-    requires few { length universe.now.pairs < 2 ^ 32 }
-    // no two facts of the start are about one name, as of a status file
-    requires distinct { HaveDistinctNames universe.now.starts }
     // accepted over the universe, if the refutation is
-    ensures accepted { IfOk result (λ core. IsAccepted universe.now refutation.now → IsAccepted universe.now core) }
+    ensures accepted { IfOk result (λ core. IsAccepted premises.now refutation.now → IsAccepted premises.now core) }
     // its premises are among those of the refutation
     ensures premises { IfOk result (λ core. ArePremisesOf core refutation.now) }
 {
-    let needed = needed_lines(alloc, refutation)?;
+    let needed = needed_lines(premises.alloc(), refutation)?;
     if are_many(needed.as_slice()) {
         return Ok(needed);
     }
-    let shorter = shortened(alloc, universe, needed)?;
+    let shorter = shortened(premises, needed)?;
     Ok(shorter)
 }

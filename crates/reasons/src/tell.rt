@@ -1,8 +1,5 @@
 // Sentences for the premises of a refutation.
 
-ghost use Rattle.std.specs.Prelude.{◌^◌, ◌<◌, length};
-ghost use Rattle.universe.specs.Universe.{HaveDistinctNames};
-
 use crate::basis::{Basis, bases_of};
 use crate::closing::push_closing;
 use crate::order::order_of;
@@ -13,7 +10,6 @@ use indexmap::IndexSet;
 use refutation::Refutation;
 use refutecheck::Premises;
 use std::alloc::{AllocError, Global};
-use universe::Universe;
 
 // The sentences of the premises at these places, each once.
 fn told(
@@ -40,32 +36,25 @@ fn text_of(alloc: Global, lines: &[Vec<u8>], all_versions: bool) -> Result<Vec<u
     Ok(text)
 }
 
-/// A sentence for each premise of the refutation, one a line and none twice, in an order in which each names what those
-/// before have named, and a line that says what they are about. The indices say which versions there are that aren't
-/// admitted. Its words aren't promised. It costs what `Premises::new` costs and what the clauses of the premises cost, is
-/// quadratic in the premises, and linear in the pairs and the stanzas for each name that no pair satisfies. Memory alone can
-/// fail.
+/// A sentence for each premise of the refutation over the universe of these premises, one a line and none twice, in an order in
+/// which each names what those before have named, and a line that says what they are about. The indices say which versions there are
+/// that aren't admitted. Its words aren't promised. It costs what the clauses of the premises cost, is quadratic in the premises, and
+/// linear in the pairs and the stanzas for each name that no pair satisfies. Memory alone can fail.
 pub fn sentences(
-    alloc: Global,
-    universe: &Universe<'_, '_>,
+    premises: &Premises<'_, '_, '_>,
     indices: &[Index<'_>],
     refutation: &Refutation,
     all_versions: bool,
-) -> Result<Vec<u8>, AllocError>
-    // pairs have numbers of 32 bits, as those of a request have (`rules::PAIRS`)
-    requires few { length universe.now.pairs < 2 ^ 32 }
-    // no two facts of the start are about one name, as of a status file
-    requires distinct { HaveDistinctNames universe.now.starts }
-{
-    let premises = Premises::new(alloc, universe)?;
-    let bases = bases_of(&premises, refutation)?;
-    let places = order_of(alloc, bases.as_slice(), universe.pairs().len())?;
+) -> Result<Vec<u8>, AllocError> {
+    let universe = premises.universe();
+    let bases = bases_of(premises, refutation)?;
+    let places = order_of(premises.alloc(), bases.as_slice(), universe.pairs().len())?;
     let teller = Teller {
-        premises: &premises,
+        premises,
         universe,
         indices,
         all_versions,
     };
     let lines = told(&teller, bases.as_slice(), places.as_slice())?;
-    text_of(alloc, lines.as_slice(), all_versions)
+    text_of(premises.alloc(), lines.as_slice(), all_versions)
 }

@@ -124,6 +124,24 @@ fn judge(premises: &Premises<'_, '_, '_>, lines: &[Line]) -> Result<Verdict, All
     }
 }
 
+/// The verdict on the refutation by premises that were made before, as `check_refutation` gives it: so several refutations over
+/// one universe are judged by one table of what its packages offer. Costs what its lines cost there. Memory alone can fail.
+pub fn check_refutation_by(
+    premises: &Premises<'_, '_, '_>,
+    refutation: &Refutation,
+) -> Result<Verdict, AllocError>
+    // yes exactly where the refutation is accepted, and else the number of the first bad line
+    ensures exact { IfOk result (IsVerdict premises.now refutation.now) }
+    // where the answer is yes, no selection is acceptable
+    ensures refutes { IfOk result (Refutes premises.now) }
+{
+    none_is_acceptable();
+    let verdict = judge(premises, refutation.as_slice())?;
+    // That the pairs ascend is known from here on.
+    let _ascending = premises.universe().pairs();
+    Ok(verdict)
+}
+
 /// The verdict on the refutation: yes exactly where every line is a premise of the universe or follows from the earlier
 /// lines that it hints at, and the last one's clause is empty (docs/FORMATS.md). A yes means that no selection of the
 /// pairs is acceptable. What the packages offer is sorted once, and none of them stays parsed; each line then costs what
@@ -143,10 +161,6 @@ pub fn check_refutation(
     // where the answer is yes, no selection is acceptable
     ensures refutes { IfOk result (Refutes universe.now) }
 {
-    none_is_acceptable();
     let premises = Premises::new(alloc, universe)?;
-    let verdict = judge(&premises, refutation.as_slice())?;
-    // That the pairs ascend is known from here on.
-    let _ascending = universe.pairs();
-    Ok(verdict)
+    check_refutation_by(&premises, refutation)
 }

@@ -21,7 +21,7 @@ mod sought;
 mod starts;
 mod verdict;
 
-pub use check::check_refutation;
+pub use check::{check_refutation, check_refutation_by};
 pub use premise::clause_of;
 pub use premises::Premises;
 pub use verdict::Verdict;

@@ -86,6 +86,13 @@ impl<'u, 'p, 'a> Premises<'u, 'p, 'a> {
         self.alloc
     }
 
+    /// The universe.
+    pub fn universe(&self) -> &'u Universe<'p, 'a>
+        ensures { result.now ≡ self.now }
+    {
+        self.universe
+    }
+
     // The pair at this place, counted from 0. Its package isn't read.
     fn pair_in(&self, place: usize) -> Option<&'u Pair<'p, 'a>>
         ensures { option_map (λ pair. pair.now.pkg) result ≡ slice_get (packages_of self.now.pairs) place }

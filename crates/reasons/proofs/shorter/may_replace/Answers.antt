@@ -11,7 +11,7 @@ returns-in-Yes c = λ is.
     let of_candidate : ArePremisesOf c.args.candidate.now c.as_slice-in-Yes.result.now =
     subst (λ (lines : List Line). ArePremisesOf lines c.as_slice-in-Yes.result.now) c.as_slice.ensures (c.are_premises_of.ensures is) in
     record {
-      accepted = λ given. subst (λ (found : Verdict). IsVerdict c.args.universe.now c.args.candidate.now found) c.in-Yes.is
+      accepted = λ given. subst (λ (found : Verdict). IsVerdict c.args.premises.now c.args.candidate.now found) c.in-Yes.is
           c.in_ok-verdict.ensures.exact;
       premises = subst (λ (others : List Line). ArePremisesOf c.args.candidate.now others) c.as_slice-in-Yes.ensures of_candidate;
     }
