@@ -22,6 +22,8 @@ use std::marker::Model;
 pub struct Pair<'p, 'a> {
     standing: Option<Box<Pkg<'a>>>,
     listed: Option<&'p IndexEntry<'a>>,
+    // Advice alone, which a pair's model doesn't show.
+    priority: Option<i32>,
 }
 
 impl<'p, 'a> Model for Pair<'p, 'a> {
@@ -48,7 +50,11 @@ impl<'p, 'a> Pair<'p, 'a> {
         ensures { IfOk result (λ pair. pair ≡ record { pkg = pkg.entry; listed = option_copied listed.entry }) }
     {
         let standing = Some(Box::new(alloc, pkg)?);
-        Ok(Pair { standing, listed })
+        Ok(Pair {
+            standing,
+            listed,
+            priority: None,
+        })
     }
 
     /// The pair of a package that the indices alone have.
@@ -58,7 +64,24 @@ impl<'p, 'a> Pair<'p, 'a> {
         Pair {
             standing: None,
             listed: Some(listed),
+            priority: None,
         }
+    }
+
+    /// The same pair, whose version has this priority (apt_preferences(5)): advice for a search, of which nothing is proved.
+    pub fn with_priority(self, priority: Option<i32>) -> Pair<'p, 'a>
+        ensures { result ≡ self.entry }
+    {
+        Pair {
+            standing: self.standing,
+            listed: self.listed,
+            priority,
+        }
+    }
+
+    /// The priority of its version, where it was told.
+    pub fn priority(&self) -> Option<i32> {
+        self.priority
     }
 
     /// The name of the package that counts.

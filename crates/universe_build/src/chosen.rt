@@ -11,7 +11,7 @@ ghost use Rattle.universe_build.specs.Choice.{asked_exacts, best_exacts, exact_c
 ghost use Rattle.universe_build.specs.Chosen.{ArePairs, admitted_among, chosen_pairs, is_free, standing_pair, standing_stanza, standing_pairs};
 
 use crate::best::{is_best, place_from};
-use crate::exact::{Exact, exacts_of, is_sought};
+use crate::exact::{Exact, exacts_of, is_sought, priority_of};
 use candidates::{Found, Known, Offer, Recorded, stanza_of};
 use index::IndexEntry;
 use rules::GoalLine;
@@ -44,6 +44,13 @@ fn free_of<'p, 'a>(known: &Known<'_, '_>, ordered: Vec<Found<'p, 'a>>) -> Vec<Fo
     free
 }
 
+// The pair of a stanza, with the priority of its version where that is known.
+fn listed_pair<'p, 'a>(asked: &[Exact<'_>], found: &Found<'p, 'a>) -> Pair<'p, 'a>
+    ensures { result ≡ listed_pair found.now }
+{
+    Pair::listed_alone(found.entry()).with_priority(priority_of(asked, found))
+}
+
 // The pairs of the stanzas that are wanted. The stanzas and the best offers are in the order of names, so the best offer of
 // the next stanza is near that of the last.
 fn wanted_pairs<'p, 'a>(
@@ -62,7 +69,7 @@ fn wanted_pairs<'p, 'a>(
     for found in free {
         place = place_from(best, place, found.name());
         if is_wanted(best, place, asked, found) {
-            pairs.push(Pair::listed_alone(found.entry()))?;
+            pairs.push(listed_pair(asked, found))?;
         }
     }
     Ok(pairs)

@@ -20,6 +20,8 @@ use std::marker::Model;
 pub struct Exact<'g> {
     name: &'g [u8],
     version: Version<'g>,
+    // Advice alone, which the model doesn't show.
+    priority: Option<i32>,
 }
 
 impl<'g> Model for Exact<'g> {
@@ -55,6 +57,7 @@ fn exact_by<'g>(name: &'g Name, restriction: &'g Restriction) -> Option<Exact<'g
         Some(Exact {
             name: name.as_bytes(),
             version: version_of(restriction),
+            priority: None,
         })
     } else {
         None
@@ -91,6 +94,7 @@ fn offered_exact<'a>(offer: &Offer<'a>) -> Exact<'a>
     Exact {
         name: offer.name(),
         version: offer.version().again(),
+        priority: Some(offer.priority()),
     }
 }
 
@@ -139,6 +143,15 @@ pub fn is_sought(exacts: &[Exact<'_>], found: &Found<'_, '_>) -> bool
     exacts
         .binary_search_by(|exact| order_to(exact, found))
         .is_ok()
+}
+
+/// The priority with which the version of the stanza is sought, if it is sought with one: where a goal asks for it by `=`
+/// besides, there may be none. Advice alone. A binary search.
+pub fn priority_of(exacts: &[Exact<'_>], found: &Found<'_, '_>) -> Option<i32> {
+    match exacts.binary_search_by(|exact| order_to(exact, found)) {
+        Ok(place) => exacts.get(place).and_then(|exact| exact.priority),
+        Err(_) => None,
+    }
 }
 
 impl PartialEq for Exact<'_> {
