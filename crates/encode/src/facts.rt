@@ -113,14 +113,14 @@ impl<'u, 'w, 'p, 'a> Facts<'u, 'w, 'p, 'a> {
         lent_at(self.packages, place)
     }
 
-    // The rank of the package at a place where the name is asked for.
-    fn rank_at(&self, place: usize, name: &[u8]) -> usize {
+    // How the package at a place is preferred where the name is asked for.
+    fn order_at(&self, place: usize, name: &[u8]) -> (usize, usize) {
         let has_name = self.pkg_in(place).is_some_and(|pkg| has_name(pkg, name));
-        self.preferences.rank(place, has_name)
+        self.preferences.order(place, has_name)
     }
 
-    /// The same places, those first whose packages are preferred where the name is asked for. Those of one rank keep their
-    /// order. Memory alone can fail. About n log n comparisons.
+    /// The same places, those first whose packages are preferred where the name is asked for. Memory alone can fail. About
+    /// n log n comparisons.
     pub(crate) fn preferred(
         &self,
         places: Vec<usize>,
@@ -129,7 +129,7 @@ impl<'u, 'w, 'p, 'a> Facts<'u, 'w, 'p, 'a> {
         ensures { IfOk result (λ preferred. (place : ℕ) → Contains preferred.items place ↔ Contains places.items place) }
     {
         let mut preferred = places;
-        preferred.sort_by_key(|place| self.rank_at(*place, name))?;
+        preferred.sort_by_key(|place| self.order_at(*place, name))?;
         Ok(preferred)
     }
 

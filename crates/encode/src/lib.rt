@@ -5,6 +5,7 @@
 
 mod against;
 mod basis;
+mod choice;
 mod encoding;
 mod facts;
 mod goals;

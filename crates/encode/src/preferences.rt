@@ -1,5 +1,6 @@
 // Which packages are preferred where a clause leaves a choice. This is advice, of which no contract speaks.
 
+use crate::choice::{in_order_of_choice, stands};
 use providers::{Providers, Ticks};
 use reach::Part;
 use relation::{Atom, Clause, Pkg};
@@ -15,17 +16,16 @@ const WAS_PRESENT: usize = 2;
 
 const NEW: usize = 3;
 
-/// The rank of the package of each pair of a part. One of a lower rank is preferred.
+/// The rank of the package of each pair of a part, and its turn: packages of one name come in the order of choice. One of a
+/// lower rank is preferred, and of one rank the one whose turn is earlier.
 #[derive(Drop)]
 pub(crate) struct Preferences {
     ranks: Vec<usize>,
+    turns: Vec<usize>,
 }
 
-fn stands(part: &Part<'_, '_, '_>, place: usize) -> bool {
-    match part.pairs().get(place) {
-        Some(pair) => pair.standing_pkg().is_some(),
-        None => false,
-    }
+fn stands_at(part: &Part<'_, '_, '_>, place: usize) -> bool {
+    part.pairs().get(place).is_some_and(|pair| stands(pair))
 }
 
 fn was_present(part: &Part<'_, '_, '_>, name: &[u8]) -> bool {
@@ -41,7 +41,7 @@ fn is_matched(
 ) -> Result<bool, AllocError> {
     let mut ticks = Ticks::new();
     let places = providers.matching(alloc, atom, &mut ticks)?;
-    Ok(places.iter().any(|place| stands(part, *place)))
+    Ok(places.iter().any(|place| stands_at(part, *place)))
 }
 
 // Whether a package that stands matches an atom of the clause.
@@ -76,16 +76,29 @@ fn behind_by(
     Ok(behind)
 }
 
+// How far the package of a new name is behind.
+fn new_rank(
+    alloc: Global,
+    part: &Part<'_, '_, '_>,
+    providers: &Providers<'_>,
+    pkg: &Pkg<'_>,
+) -> Result<usize, AllocError> {
+    let rank = behind_by(alloc, part, providers, NEW, pkg.pre_depends())?;
+    behind_by(alloc, part, providers, rank, pkg.depends())
+}
+
 // The rank of the package at a place where a name is asked for that isn't its own. One that provides nothing never is
-// asked for so.
+// asked for so. What is known is the name and the rank of the last package that provides something: all versions of a new name
+// are as far behind as the one that is chosen first.
 fn rank_of(
     alloc: Global,
     part: &Part<'_, '_, '_>,
     providers: &Providers<'_>,
     place: usize,
     pkg: &Pkg<'_>,
+    known: Option<(&[u8], usize)>,
 ) -> Result<usize, AllocError> {
-    if stands(part, place) {
+    if stands_at(part, place) {
         return Ok(STANDS);
     }
     if was_present(part, pkg.name()) {
@@ -94,33 +107,79 @@ fn rank_of(
     if pkg.provides().is_empty() {
         return Ok(NEW);
     }
-    let rank = behind_by(alloc, part, providers, NEW, pkg.pre_depends())?;
-    behind_by(alloc, part, providers, rank, pkg.depends())
+    match known {
+        Some((name, rank)) if name == pkg.name() => Ok(rank),
+        _ => new_rank(alloc, part, providers, pkg),
+    }
+}
+
+fn put(list: &mut Vec<usize>, place: usize, value: usize) {
+    if place < list.len() {
+        list[place] = value;
+    }
+}
+
+// The ranks of the packages at places that come in the order of choice.
+fn ranks_of(
+    alloc: Global,
+    part: &Part<'_, '_, '_>,
+    providers: &Providers<'_>,
+    packages: &[&Pkg<'_>],
+    order: &[usize],
+) -> Result<Vec<usize>, AllocError> {
+    let mut ranks = vec![in alloc; NEW; packages.len()]?;
+    let mut known = None;
+    for place in order {
+        if let Some(pkg) = packages.get(*place) {
+            let rank = rank_of(alloc, part, providers, *place, pkg, known)?;
+            put(&mut ranks, *place, rank);
+            if !pkg.provides().is_empty() {
+                known = Some((pkg.name(), rank));
+            }
+        }
+    }
+    Ok(ranks)
+}
+
+// Of each place when it comes in the order.
+fn turns_of(alloc: Global, order: &[usize]) -> Result<Vec<usize>, AllocError> {
+    let mut turns = vec![in alloc; 0; order.len()]?;
+    for (turn, place) in order.iter().enumerate() {
+        put(&mut turns, *place, turn);
+    }
+    Ok(turns)
 }
 
 impl Preferences {
-    /// The ranks of the packages of the part, which are those of `providers`. Memory alone can fail. For each package that
-    /// is new and provides something it costs what its Pre-Depends and Depends match.
+    /// How the packages of the part, which are those of `providers`, are preferred. Memory alone can fail. For each name that
+    /// is new and provides something it costs what the Pre-Depends and Depends of one version match, and besides what
+    /// `in_order_of_choice` says.
     pub(crate) fn of_packages(
         alloc: Global,
         part: &Part<'_, '_, '_>,
         providers: &Providers<'_>,
         packages: &[&Pkg<'_>],
     ) -> Result<Preferences, AllocError> {
-        let mut ranks = Vec::new(alloc);
-        for (place, pkg) in packages.iter().enumerate() {
-            ranks.push(rank_of(alloc, part, providers, place, pkg)?)?;
-        }
-        Ok(Preferences { ranks })
+        let order = in_order_of_choice(alloc, part)?;
+        let ranks = ranks_of(alloc, part, providers, packages, order.as_slice())?;
+        let turns = turns_of(alloc, order.as_slice())?;
+        Ok(Preferences { ranks, turns })
     }
 
-    /// The rank of the package at a place, where it has or hasn't the name that is asked for.
-    pub(crate) fn rank(&self, place: usize, has_name: bool) -> usize {
+    // The rank of the package at a place, where it has or hasn't the name that is asked for.
+    fn rank(&self, place: usize, has_name: bool) -> usize {
         let rank = self.ranks.get(place).copied().unwrap_or(NEW);
         if has_name && rank > OWN_NAME {
             OWN_NAME
         } else {
             rank
         }
+    }
+
+    /// The rank of the package at a place, where it has or hasn't the name that is asked for, and then its turn: what is less
+    /// is preferred.
+    pub(crate) fn order(&self, place: usize, has_name: bool) -> (usize, usize) {
+        let turn = self.turns.get(place).copied().unwrap_or(place);
+        (self.rank(place, has_name), turn)
     }
 }
