@@ -12,6 +12,7 @@ use crate::occurrences::{Occurrences, occurrences_of};
 use crate::place::{selected_place, unselected_place};
 use crate::role::Role;
 use crate::set::is_clause_true_after;
+use crate::wishes::Wishes;
 use clauses::Clauses;
 use std::alloc::{AllocError, Global};
 use std::marker::Model;
@@ -22,6 +23,8 @@ pub(crate) struct Given<'e> {
     roles: Vec<Role>,
     clauses: &'e Clauses,
     occurrences: Occurrences,
+    // Advice alone, which the model doesn't show.
+    wishes: Wishes,
 }
 
 impl<'e> Model for Given<'e> {
@@ -80,10 +83,12 @@ impl<'e> Given<'e> {
         ensures indexed { IfOk result IsIndexed }
     {
         let occurrences = occurrences_of(alloc, clauses)?;
+        let wishes = Wishes::of(alloc, clauses)?;
         Ok(Given {
             roles,
             clauses,
             occurrences,
+            wishes,
         })
     }
 
@@ -111,6 +116,11 @@ impl<'e> Given<'e> {
     /// The places of the clauses with the literal that the number is selected.
     pub(crate) fn places_with(&self, number: u32) -> &[usize] {
         self.occurrences.at(selected_place(number))
+    }
+
+    /// The numbers of the wish for the number, the best first; none where there is no wish for it.
+    pub(crate) fn wish_for(&self, number: u32) -> &[u32] {
+        self.clauses.wish(self.wishes.place_of(number))
     }
 
     /// The sibling of the number by the clause at a place.

@@ -22,6 +22,7 @@ mod roles;
 mod selection;
 mod set;
 mod settled;
+mod wishes;
 
 pub use laws::{
     acceptable_where_clauses_are_true, closed_parts_are_true, settled_is_minimal,

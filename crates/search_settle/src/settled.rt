@@ -1,6 +1,6 @@
 // Change by change to a selection that is at rest.
 
-ghost use Rattle.std.specs.Prelude.{◌≡◌, ◌≤◌, ◌<◌, ◌+◌, ◌*◌, ℕ, Bool, true, false, IfOk, OnOk, MatchOption, length};
+ghost use Rattle.std.specs.Prelude.{◌≡◌, ◌≤◌, ◌<◌, ◌+◌, ◌*◌, ⊤, ℕ, Bool, true, false, IfOk, OnOk, MatchOption, length};
 ghost use Rattle.search_settle.specs.Change.{IsWithin, after};
 ghost use Rattle.search_settle.specs.Given.{IsIndexed};
 ghost use Rattle.search_settle.specs.Moves.{IsAtRest, IsMove, distance};
@@ -112,6 +112,52 @@ fn wake_changed(given: &Given<'_>, queue: &mut Queue, change: Change) -> Result<
     }
 }
 
+// A change about what needn't be a number of these clauses.
+fn move_about(given: &Given<'_>, known: &Known, set: &Vec<bool>, number: u32) -> Option<Change>
+    requires indexed { IsIndexed given.now }
+    requires before { AreTrue (holds set.now.items) given.now.clauses }
+    ensures { MatchOption result ⊤ (IsMove given.now known.now (holds set.now.items)) }
+{
+    if is_number(given, number) {
+        move_of(given, known, set, number)
+    } else {
+        None
+    }
+}
+
+// Of the numbers of a wish the first that has a change which brings nearer and is allowed, with that change.
+fn first_move(given: &Given<'_>, known: &Known, set: &Vec<bool>, wish: &[u32]) -> Option<Change>
+    requires indexed { IsIndexed given.now }
+    requires before { AreTrue (holds set.now.items) given.now.clauses }
+    ensures { MatchOption result ⊤ (IsMove given.now known.now (holds set.now.items)) }
+{
+    for number in wish {
+        let found = move_about(given, known, set, *number);
+        if found.is_some() {
+            return found;
+        }
+    }
+    None
+}
+
+// The same change, but where a number is added, one that adds the first number of its wish that may be added.
+fn with_best_added(given: &Given<'_>, known: &Known, set: &Vec<bool>, change: Change) -> Change
+    requires indexed { IsIndexed given.now }
+    requires before { AreTrue (holds set.now.items) given.now.clauses }
+    requires allowed { IsMove given.now known.now (holds set.now.items) change }
+    ensures { IsMove given.now known.now (holds set.now.items) result }
+{
+    match change {
+        Change::Add(taken) => {
+            match first_move(given, known, set, given.wish_for(taken)) {
+                Some(best) => best,
+                None => change,
+            }
+        }
+        Change::Leave(_) | Change::Replace(_, _) => change,
+    }
+}
+
 // Makes a change about a number that brings nearer and is allowed, if there is one.
 fn advance(given: &Given<'_>, known: &Known, set: &mut Vec<bool>, number: u32) -> Option<Change>
     requires indexed { IsIndexed given.now }
@@ -122,12 +168,10 @@ fn advance(given: &Given<'_>, known: &Known, set: &mut Vec<bool>, number: u32) -
     ensures nearer { distance known.now given.now.numbers (holds set.new.items)
         ≤ distance known.now given.now.numbers (holds set.old.items) }
 {
-    if !is_number(given, number) {
-        return None;
-    }
-    let change = move_of(given, known, set, number)?;
-    take(given, known, set, change);
-    Some(change)
+    let change = move_about(given, known, set, number)?;
+    let best = with_best_added(given, known, set, change);
+    take(given, known, set, best);
+    Some(best)
 }
 
 // Makes changes until no number waits. All wait at first, and again those in clauses with a number that was changed.
