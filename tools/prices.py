@@ -11,8 +11,10 @@ import re
 import threading
 
 KINDS = ("proofs", "edits", "tests")
-# Where the last whole gate of a checkout keeps its prices, and those of the run that docs/ARCHITECTURE.md tells of.
+# Where the last whole gate of a checkout keeps its prices, where that of any checkout of this machine does, and those of the run
+# that docs/ARCHITECTURE.md tells of.
 KEPT, MEASURED = pathlib.Path("out/gate.json"), pathlib.Path("tools/minutes.json")
+OF_MACHINE = pathlib.Path(os.environ.get("XDG_CACHE_HOME") or pathlib.Path.home() / ".cache", "debplan", "gate.json")
 TICKS = os.sysconf("SC_CLK_TCK")
 EDIT = re.compile(r"/rt-edits?-")
 Process = collections.namedtuple("Process", "parent own reaped")
@@ -98,8 +100,9 @@ def crates_of(top):
 
 
 def kept(top):
-    """The minutes of each crate, by kind, of this checkout's last whole gate, or else of the measured one; empty without any."""
-    for path in (top / KEPT, top / MEASURED):
+    """The minutes of each crate, by kind, of this checkout's last whole gate, or else of this machine's, or of the measured one;
+    empty without any."""
+    for path in (top / KEPT, OF_MACHINE, top / MEASURED):
         try:
             return json.loads(path.read_text(encoding="utf-8"))["crates"]
         except (OSError, ValueError, KeyError):

@@ -1,8 +1,10 @@
 -- What is read has package names: the records of a status file, and the packages of an index.
-use Rattle.std.proofs.Common.{◌≡◌, ℕ, ◌+◌, Bool, true, false, cond, ◌&&◌, List, [], ◌∷◌, ◌++◌, length, nat_lt, Option, Some, None, Result, Ok, Err, refl, sym, ap, subst, ◌∙◌}
+use Rattle.std.proofs.Common.{◌≡◌, ℕ, ◌+◌, ◌<◌, Bool, true, false, cond, ◌&&◌, List, [], ◌∷◌, ◌++◌, get_or, length, nat_lt, take, Option, Some, None, Result, Ok, Err, refl, sym, ap, subst, ◌∙◌}
 use Rattle.std.specs.Prelude.{IsTrue, if◌then◌else◌}
 use Rattle.std.specs.List.{All, Contains, find}
 use Rattle.std.specs.Option.{option_map, option_or}
+use Rattle.std.proofs.lemmas.Grind.{flat_map-append}
+use Rattle.std.proofs.lemmas.List.{append-nil, map-append, take_more}
 use Rattle.std.proofs.lemmas.Option.{same_Some}
 use Rattle.std.proofs.lemmas.List.Elements.{All-cons, All-nil, All-contains, Contains-append_cases}
 use Rattle.index.specs.Index.{ReadIndex, ReadStanzas, entry_then, first_place, indexed_with, is_too_many, next_place, read_entry, read_indexed, read_native, stanzas_of, unless_name_fault, with_release, with_stanzas}
@@ -13,7 +15,8 @@ use Rattle.relation.specs.PkgFields.{fields_of}
 use Rattle.relation.specs.PkgText.{name_fault_in, pkg_fault, pkg_name_fault, pkg_of, read_fields, unless_fault, value_in}
 use Rattle.relation.specs.declared.error.PkgFault.{PkgFault}
 use Rattle.relation.specs.declared.fields.PkgFields.{PkgFields}
-use Rattle.rules.specs.Available.{Inputs, all_listed, counting_package, index_package, is_of, same_version, standing_record}
+use Rattle.candidates.specs.Inputs.{indices_of}
+use Rattle.rules.specs.Available.{Index, Inputs, all_listed, counting_package, index_package, is_of, same_version, standing_record}
 use Rattle.rules.specs.Database as database
 use Rattle.rules.specs.Database.{Record, stands}
 use Rattle.rules.specs.ElementLaws.{All-intro, Contains-head, Contains-rest}
@@ -289,3 +292,20 @@ listed_append some more first second = All-intro IsListedNamed (some ++ more) (�
       | inl here ↦ All-contains IsListedNamed some one first here
       | inr there ↦ All-contains IsListedNamed more one second there
     ])
+
+-- the indices so far and one more
+pub named_more : (indices : List ReadIndex) (i : ℕ) (item : ReadIndex) → i < length indices → item ≡ get_or indices i item
+    → HasListedNames (all_listed (indices_of (take i indices))) → HasListedNames item.index.listed
+    → HasListedNames (all_listed (indices_of (take (i + 1) indices)))
+named_more indices i item within is before named =
+    let front = take i indices in
+    let all : List ReadIndex → List IndexPackage = λ reads. all_listed (indices_of reads) in
+    let one : all (item ∷ []) ≡ item.index.listed = append-nil item.index.listed in
+    let both : all (front ++ item ∷ []) ≡ all front ++ all (item ∷ []) =
+    ap all_listed (map-append (λ (read : ReadIndex). read.index) front (item ∷ []))
+    ∙ flat_map-append (λ (index : Index). index.listed) (indices_of front) (indices_of (item ∷ [])) in
+    let more : front ++ item ∷ [] ≡ take (i + 1) indices =
+    ap (λ (read : ReadIndex). front ++ read ∷ []) is ∙ sym (take_more indices i item within) in
+    subst (λ (reads : List ReadIndex). HasListedNames (all reads)) more
+    (subst HasListedNames (sym (both ∙ ap (λ (listed : List IndexPackage). all front ++ listed) one))
+    (listed_append (all front) item.index.listed before named))
