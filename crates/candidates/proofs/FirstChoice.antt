@@ -1,22 +1,23 @@
 -- The least of a list by a total order, and that of the versions that may be chosen it is the candidate.
-use Rattle.std.proofs.Common.{◌≡◌, ◌≢◌, ℕ, ℤ, false, List, [], ◌∷◌, Option, Some, None, refl, sym, subst, ◌∙◌}
+use Rattle.std.proofs.Common.{◌≡◌, ◌≢◌, ◌<ℤ◌, ◌⊎◌, ℕ, ℤ, true, false, List, [], ◌∷◌, Option, Some, None, MatchOption, refl, sym, ap, subst, ◌∙◌}
 use Rattle.std.specs.Cmp.{IsTotalOrder, tied_itself}
 use Rattle.std.specs.Cmp.Lexicographic.{nat_list_cmp_total}
-use Rattle.std.specs.List.{Contains, fold, reduce}
-use Rattle.std.specs.Ordering.{is_lt, min_by_ordering, ordering_reverse}
+use Rattle.std.specs.List.{All, Contains, fold, reduce}
+use Rattle.std.specs.Ordering.{MatchOrdering, int_cmp, is_lt, min_by_ordering, ordering_reverse, ordering_then}
 use Rattle.std.specs.declared.cmp.Ordering.{Ordering}
 use Rattle.std.specs.declared.cmp.Ordering.TheVariants.{Less, Equal, Greater}
+use Rattle.std.proofs.lemmas.Cmp.{int_ranked}
 use Rattle.rules.specs.Available.{Inputs}
 use Rattle.rules.specs.ElementLaws.{All-intro, Any-elim, Contains-cons, Contains-head, Contains-nil, Contains-rest}
 use Rattle.std.proofs.lemmas.List.Elements.{All-contains}
 use Rattle.rules.specs.Name.{name_cmp}
 use Rattle.rules.specs.Priority.{IsUpTo}
-use Rattle.rules.specs.VersionOrderLaws.{SameVersion-refl}
+use Rattle.rules.specs.Version.{version_cmp}
+use Rattle.rules.specs.VersionOrderLaws.{SameVersion-refl, version_cmp-antisymm}
 use Rattle.candidates.specs.Candidates.{IsCandidateOf}
 use Rattle.candidates.specs.Eligible.{AreEligibleOf, IsOffer}
-use Rattle.candidates.specs.Offer.{IsFirstChoice, Offer, choice_cmp, offer_cmp}
+use Rattle.candidates.specs.Offer.{Offer, choice_cmp, offer_cmp}
 use Rattle.candidates.specs.OfferLaws.{offer_cmp_total}
-use Rattle.candidates.proofs.Best.{same_name_then, up_to-from}
 use Rattle.candidates.proofs.Priorities.{up_to-same}
 use mathlib.Core.Logic.{inl, inr}
 
@@ -81,6 +82,11 @@ module _ {X : Type 0} {R : X → X → Ordering} (o : IsTotalOrder R) where
       at Greater above kept other = with_greater best z zs (fold pick z zs)
           (turned_less (R z best) (sym above ∙ o.antisymm best z)) other
 
+-- it is one of the offers, and none of them is before it, unless there is none
+abbrev pub IsFirstChoice : List Offer → Option Offer → Type 0
+IsFirstChoice offers first = MatchOption first (offers ≡ [])
+    (λ best. Contains offers best × All (λ offer. offer_cmp offer best ≢ Less) offers)
+
 -- the least of offers is the one to choose first
 pub IsFirstChoice-reduce : (offers : List Offer)
     → IsFirstChoice offers (reduce (λ best offer. min_by_ordering (offer_cmp best offer) best offer) offers)
@@ -94,6 +100,39 @@ not_below : (o : Ordering) → o ≢ Less → is_lt o ≡ false
 not_below Less not_less = absurd (not_less refl)
 not_below Equal not_less = refl
 not_below Greater not_less = refl
+
+-- what isn't before another by name and then by choice, and has its name, isn't by choice
+pub same_name_then : (o w : Ordering) → o ≡ Equal → is_lt (ordering_then o w) ≡ false → is_lt w ≡ false
+same_name_then Less w tied not_before = absurd (let e : Less ≡ Equal = tied in cc)
+same_name_then Equal w tied not_before = not_before
+same_name_then Greater w tied not_before = absurd (let e : Greater ≡ Equal = tied in cc)
+
+-- what is no less isn't lower
+not_lower : (o : Ordering) → is_lt o ≡ false → o ≡ Less → ⊥
+not_lower o fails is = let e : true ≡ false = ap is_lt (sym is) ∙ fails in cc
+
+-- an offer that isn't to be chosen before another isn't after it
+pub up_to-from : (offer other : Offer) → is_lt (choice_cmp offer other) ≡ false
+    → IsUpTo offer.version offer.priority other.version other.priority
+unfolding IsUpTo
+up_to-from offer other not_before =
+    at (int_cmp other.priority offer.priority) (int_ranked other.priority offer.priority (int_cmp other.priority offer.priority) refl) not_before
+  where
+    v : List ℕ
+    v = offer.version
+
+    w : List ℕ
+    w = other.version
+
+    at : (o : Ordering) → MatchOrdering o (other.priority <ℤ offer.priority) (other.priority ≡ offer.priority) (offer.priority <ℤ other.priority)
+        → is_lt (ordering_then o (version_cmp w v)) ≡ false
+        → (offer.priority <ℤ other.priority) ⊎ ((offer.priority ≡ other.priority) × ¬ (version_cmp v w ≡ Greater))
+    at Less ranked fails = absurd (let e : true ≡ false = fails in cc)
+    at Equal ranked fails = inr (
+      sym ranked,
+      λ above. not_lower (version_cmp w v) fails (version_cmp-antisymm w v ∙ ap ordering_reverse above),
+    )
+    at Greater ranked fails = inl ranked
 
 -- of the versions of a name that may be chosen the first is the candidate
 pub IsCandidateOf-first : (inputs : Inputs) (name : List ℕ) (offers : List Offer) → AreEligibleOf inputs name offers

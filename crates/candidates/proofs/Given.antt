@@ -1,27 +1,20 @@
 -- What is computed from the records and the places in their orders is what the records and the indices offer.
-use Rattle.std.proofs.Common.{◌≡◌, ℕ, Bool, not, ◌&&◌, List, [], Option, IsSome, if◌then◌else◌, pos, sym, ap, subst, ◌∙◌}
-use Rattle.std.specs.Prelude.{int_lt, is_some}
+use Rattle.std.proofs.Common.{◌≡◌, ℕ, List, Option, IsSome, sym, ap, subst, ◌∙◌}
+use Rattle.std.specs.Prelude.{is_some}
 use Rattle.std.specs.Option.{option_map, option_or}
-use Rattle.std.proofs.lemmas.List.Elements.{filter_agree}
 use Rattle.pins.specs.Prefs.{Preferences}
-use Rattle.rules.specs.Available.{Index, Request, all_listed}
-use Rattle.rules.specs.Database.{HasDistinctNames, Record}
+use Rattle.rules.specs.Available.{Index, all_listed}
+use Rattle.rules.specs.Database.{Record}
 use Rattle.rules.specs.Priority.{HasPriorityAmong, Origin}
 use Rattle.rules.specs.Step.{IndexPackage}
-use Rattle.candidates.specs.Candidates.{AreCandidates}
-use Rattle.candidates.specs.Eligible.{AreAllVersions}
-use Rattle.candidates.specs.Inputs.{inputs_of}
-use Rattle.candidates.specs.Offer.{AreBest, Offer, eligible, is_eligible}
+use Rattle.candidates.specs.Offer.{Offer}
 use Rattle.candidates.specs.Place.{AreSorted, Place, places_of, stanzas_of, with_version}
-use Rattle.candidates.specs.Rated.{AreChosen, AreRated, IsKept, IsRated, kept_version, origins_among, origins_with}
-use Rattle.candidates.specs.Recorded.{IsByName, standing_version, stands_above}
+use Rattle.candidates.specs.Rated.{AreRated, IsKept, IsRated, kept_version, origins_among, origins_with}
+use Rattle.candidates.specs.Recorded.{IsByName, standing_version}
 use Rattle.candidates.specs.Stanza.{IsOrdered, stanza_of}
-use Rattle.candidates.proofs.AllVersions.{AreAllVersions-from}
 use Rattle.candidates.proofs.Available.{stanzas_of-places}
-use Rattle.candidates.proofs.Candidates.{AreCandidates-from}
 use Rattle.candidates.proofs.Finding.{first_of_all}
 use Rattle.candidates.proofs.Kept.{standing_version-known, stanza_of-places}
-use Rattle.candidates.proofs.Named.{of_record-known}
 
 -- the stanza of a version is the same among the places in order
 stanza_of-sorted : (places sorted : List Place) → AreSorted places sorted → (name version : List ℕ)
@@ -66,28 +59,3 @@ module _ (prefs : Preferences) (db known : List Record) (places sorted : List Pl
     drawn = λ offer within. IsRated-given offer (rated.drawn offer within);
     covered = λ name version kept. rated.covered name version (subst IsSome (sym (kept_same name version)) kept);
   }
-
--- the same offers may be chosen among the records in order
-eligible_known : (db known : List Record) → IsByName db known → (offers : List Offer) → eligible known offers ≡ eligible db offers
-eligible_known db known named offers = filter_agree (is_eligible known) (is_eligible db)
-    (λ offer. ap (λ (b : Bool). int_lt (pos 0) offer.priority && not (int_lt offer.priority (pos 1000) && b))
-    (of_record-known (stands_above offer.version) db known named offer.name)) offers
-
-module _ (db known : List Record) (indices : List Index) (prefs : Preferences) (request : Request) (sorted : List Place) (all : Bool)
-    (best each : List Offer) (distinct : HasDistinctNames db) (named : IsByName db known) (are : AreSorted (places_of indices) sorted)
-    (chosen : AreChosen all prefs known sorted best each) where
-  rated_all : AreRated (IsKept db (places_of indices)) prefs db (places_of indices) chosen.may.offers
-  rated_all = AreRated-given prefs db known (places_of indices) sorted named are chosen.may.offers chosen.may.rated
-
-  may_be : chosen.offers ≡ eligible db chosen.may.offers
-  may_be = chosen.may.kept ∙ eligible_known db known named chosen.may.offers
-
-  -- what is chosen is the candidates
-  pub AreCandidates-given : AreCandidates (inputs_of db indices prefs request) best
-  AreCandidates-given = AreCandidates-from db indices prefs request distinct chosen.may.offers rated_all best
-      (subst (λ (xs : List Offer). AreBest xs best) may_be chosen.first)
-
-  -- and where all versions are asked for, those that may be chosen are offered
-  pub AreAllVersions-given : request.asks_all_versions ≡ all → AreAllVersions (inputs_of db indices prefs request) each
-  AreAllVersions-given asked = AreAllVersions-from db indices prefs request distinct chosen.may.offers rated_all all each asked
-      (chosen.every ∙ ap (λ (xs : List Offer). if all then xs else []) may_be)

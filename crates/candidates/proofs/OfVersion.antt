@@ -17,9 +17,9 @@ use Rattle.candidates.specs.Place.{Place, has_place_name, places_of, stanzas_of,
 use Rattle.candidates.specs.Rated.{IsPriorityFrom, IsRated, kept_among, kept_version, origins_with}
 use Rattle.candidates.specs.Recorded.{standing_version}
 use Rattle.candidates.proofs.Available.{kept_version-counting, stanzas_of-places}
+use Rattle.candidates.proofs.Filtered.{filter-within}
 use Rattle.candidates.proofs.Finding.{first_of_all}
 use Rattle.candidates.proofs.Kept.{kept_version-is, kept_version-same, standing_version-same, stanza_of-places, with_version-same}
-use Rattle.candidates.proofs.OfName.{filter-within}
 use Rattle.candidates.proofs.Priorities.{HasPriority-from}
 
 -- the places of a version are among those of its name

@@ -3,8 +3,6 @@ use Rattle.std.proofs.Common.{◌≡◌, ℕ, ℤ, pos, ◌<ℤ◌, Bool, true, 
 use Rattle.std.specs.Prelude.{int_lt}
 use Rattle.std.specs.List.{Contains}
 use Rattle.std.specs.Option.{option_map}
-use Rattle.std.specs.Ordering.{ordering_reverse}
-use Rattle.std.specs.declared.cmp.Ordering.{Ordering}
 use Rattle.std.specs.declared.cmp.Ordering.TheVariants.{Less, Equal, Greater}
 use Rattle.std.proofs.lemmas.Bool.{and_from, and_parts}
 use Rattle.std.proofs.lemmas.Cmp.{int_ranked}
@@ -18,8 +16,8 @@ use Rattle.rules.specs.Package.{Pkg}
 use Rattle.rules.specs.Priority.{HasPriority, HasPriorityAmong, HasPriorityAs, IsDowngrade, IsEligible, IsUpTo, origins_of}
 use Rattle.rules.specs.Step.{IndexPackage}
 use Rattle.rules.specs.Universe.{IsKeptText}
-use Rattle.rules.specs.Version.{SameVersion, version_cmp}
-use Rattle.rules.specs.VersionOrderLaws.{version_cmp-antisymm, version_cmp-same_left, version_cmp-same_right}
+use Rattle.rules.specs.Version.{SameVersion}
+use Rattle.rules.specs.VersionOrderLaws.{version_cmp-same_left, version_cmp-same_right}
 use Rattle.candidates.specs.Inputs.{inputs_of}
 use Rattle.candidates.specs.Offer.{IsFor, Offer, is_eligible}
 use Rattle.candidates.specs.Place.{Place, places_of, stanzas_of}
@@ -218,22 +216,3 @@ up_to-same v w v' w' priority other_priority same same' (inr alike) = inr (
   alike.0,
   λ above. alike.1 (version_cmp-same_left v v' w same ∙ version_cmp-same_right v' w w' same' ∙ above),
 )
-
--- of two that aren't after each other the versions are the same
-neither : (o p : Ordering) → o ≡ ordering_reverse p → (o ≡ Greater → ⊥) → (p ≡ Greater → ⊥) → o ≡ Equal
-neither Less Less turned up down = absurd (let e : Less ≡ Greater = turned in cc)
-neither Less Equal turned up down = absurd (let e : Less ≡ Equal = turned in cc)
-neither Less Greater turned up down = absurd (down refl)
-neither Equal p turned up down = refl
-neither Greater p turned up down = absurd (up refl)
-
-pub up_to-both : (v : List ℕ) (priority : ℤ) (w : List ℕ) (other_priority : ℤ) → IsUpTo v priority w other_priority
-    → IsUpTo w other_priority v priority → SameVersion v w
-unfolding IsUpTo
-up_to-both v priority w other_priority (inl below) (inl above) = absurd (omega (arith, ints))
-up_to-both v priority w other_priority (inl below) (inr alike) =
-    absurd (let e : other_priority ≡ priority = alike.0 in omega (arith, ints))
-up_to-both v priority w other_priority (inr alike) (inl above) =
-    absurd (let e : priority ≡ other_priority = alike.0 in omega (arith, ints))
-up_to-both v priority w other_priority (inr alike) (inr back) =
-    neither (version_cmp v w) (version_cmp w v) (version_cmp-antisymm v w) alike.1 back.1

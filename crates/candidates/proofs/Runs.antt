@@ -9,20 +9,14 @@ use Rattle.std.specs.declared.cmp.Ordering.TheVariants.{Less, Equal, Greater}
 use Rattle.std.proofs.lemmas.List.{append-nil, take-append-drop}
 use Rattle.std.proofs.lemmas.List.Elements.{Contains-append_right, filter-append}
 use Rattle.std.proofs.lemmas.List.Sorted.{ranks_by, sorted_far}
-use Rattle.rules.specs.ElementLaws.{Contains-filter, Contains-head, Contains-nil, Contains-rest}
-use Rattle.rules.specs.VersionOrderLaws.{SameVersion-symm, SameVersion-trans}
+use Rattle.rules.specs.ElementLaws.{Contains-filter, Contains-head, Contains-nil}
+use Rattle.rules.specs.VersionOrderLaws.{SameVersion-refl, SameVersion-symm, SameVersion-trans}
 use Rattle.universe.specs.PairLaws.{is_of-from, is_of-parts}
-use Rattle.candidates.specs.Place.{Place, is_like, place_cmp}
+use Rattle.candidates.specs.Place.{IsNextRun, Place, is_like, place_cmp}
 use Rattle.candidates.specs.StanzaLaws.{place_cmp_total}
+use Rattle.candidates.proofs.Filtered.{filter_none}
 use Rattle.candidates.proofs.StanzaOrder.{listed_cmp-tied, listed_cmp-ties}
 use mathlib.Core.Logic.{inl, inr}
-
--- nothing is left where nothing passes
-pub filter_none : {X : Type 0} (p : X → Bool) (xs : List X) → ((x : X) → Contains xs x → p x ≡ false) → filter p xs ≡ []
-filter_none p [] fails = refl
-filter_none {X} p (x ∷ xs) fails =
-    ap (λ (b : Bool). cond b (x ∷ filter p xs) (filter p xs)) (fails x (Contains-head x xs))
-    ∙ filter_none p xs (λ y within. fails y (Contains-rest x xs y within))
 
 -- the front that passes is left as it is
 filter_front : {X : Type 0} (p : X → Bool) (xs : List X) → filter p (take (prefix_len p xs) xs) ≡ take (prefix_len p xs) xs
@@ -56,7 +50,7 @@ sorted_behind R (suc n) [] up = up
 sorted_behind R (suc n) (x ∷ xs) up = sorted_behind R n xs (λ k d low high. rw add-one (rw add-one at (up (suc k) d (omega arith) (omega arith))))
 
 -- nothing in a sorted list is less than its first
-not_below_first : {X : Type 0} {R : X → X → Ordering} (o : IsTotalOrder R) (h : X) (xs : List X) → IsSorted R (h ∷ xs)
+pub not_below_first : {X : Type 0} {R : X → X → Ordering} (o : IsTotalOrder R) (h : X) (xs : List X) → IsSorted R (h ∷ xs)
     → (y : X) → Contains (h ∷ xs) y → is_lt (R y h) ≡ false
 not_below_first {X} {R} o h xs up y within = subst (λ (w : X). is_lt (R w h) ≡ false) within.2
     (sorted_far (λ a b. is_lt (R a b)) (ranks_by o (λ a. a)) (h ∷ xs) up 0 within.0 y (omega arith) within.1)
@@ -153,3 +147,22 @@ front_begins {X} p xs first rest is passes = (
   where
     at : (n : ℕ) → take (1 + n) (first ∷ rest) ≡ first ∷ take n rest
     at n = rw one-add refl
+
+-- the first of these places, and those that follow it with its version, are the next run
+pub IsNextRun-from : (left : List Place) (first : Place) (behind run : List Place) (count : ℕ) → left ≡ first ∷ behind
+    → count ≡ prefix_len (is_like first) behind → run ≡ take (count + 1) left → IsNextRun left first run
+IsNextRun-from left first behind run count begins counted is = record {
+  rest = behind;
+  begins = begins;
+  run_is = is ∙ ap (λ (n : ℕ). take n left) longer;
+}
+  where
+    own : is_like first first ≡ true
+    own = is_of-from first.listed.pkg.name first.listed.pkg.version first.listed.pkg (refl, SameVersion-refl first.listed.pkg.version)
+
+    one_more : count + 1 ≡ 1 + prefix_len (is_like first) behind
+    one_more = omega (arith, counted)
+
+    longer : count + 1 ≡ prefix_len (is_like first) left
+    longer = one_more ∙ ap (λ (b : Bool). cond b (1 + prefix_len (is_like first) behind) 0) (sym own)
+        ∙ ap (prefix_len (is_like first)) (sym begins)

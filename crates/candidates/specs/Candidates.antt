@@ -1,20 +1,9 @@
--- The candidates of all names (apt_preferences(5)).
+-- The candidate of a name, and the priority of a version (apt_preferences(5)).
 use Rattle.std.specs.Prelude.{◌≡◌, ℕ, ℤ, List, Option, Some, None}
-use Rattle.std.specs.List.{Any, Contains}
-use Rattle.std.specs.List.Sorted.{IsStrictlySortedBy}
 use Rattle.rules.specs.Available.{Inputs, IsAvailable}
 use Rattle.rules.specs.Priority.{HasPriority, IsCandidate}
 use Rattle.rules.specs.Universe.{IsKeptText}
-use Rattle.candidates.specs.Offer.{IsFor, Offer, offer_name_cmp}
-
--- the offers are the candidates of their names in the texts that are kept, in the order of names, and each name that
--- has a candidate has one
-pub record AreCandidates (inputs : Inputs) (offers : List Offer) : Type 0 where
-  pub ascending : IsStrictlySortedBy offer_name_cmp offers
-  pub drawn : (offer : Offer) → Contains offers offer → (name version : List ℕ) → IsFor name version offer
-      → IsCandidate inputs name version offer.priority
-  pub kept : (offer : Offer) → Contains offers offer → IsKeptText inputs offer.name offer.version
-  pub covered : (name version : List ℕ) (priority : ℤ) → IsCandidate inputs name version priority → Any (IsFor name version) offers
+use Rattle.candidates.specs.Offer.{Offer}
 
 -- it is the candidate of the name in the text that is kept, if the name has one
 abbrev pub IsCandidateOf : Inputs → List ℕ → Option Offer → Type 0

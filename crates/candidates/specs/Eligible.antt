@@ -7,9 +7,9 @@ use Rattle.std.specs.Ordering.{on}
 use Rattle.std.specs.declared.cmp.Ordering.{Ordering}
 use Rattle.rules.specs.Available.{Inputs}
 use Rattle.rules.specs.Priority.{IsEligible}
-use Rattle.rules.specs.Universe.{IsKeptText, IsOneOfAll}
+use Rattle.rules.specs.Universe.{IsKeptText}
 use Rattle.rules.specs.Version.{SameVersion, version_cmp}
-use Rattle.candidates.specs.Offer.{IsFor, Offer}
+use Rattle.candidates.specs.Offer.{Offer}
 
 -- the order of versions of offers
 abbrev pub offer_version_cmp : Offer → Offer → Ordering
@@ -34,9 +34,3 @@ pub record AreEligibleOf (inputs : Inputs) (name : List ℕ) (offers : List Offe
   pub kept : (offer : Offer) → Contains offers offer → IsKeptText inputs name offer.version
   pub covered : (version : List ℕ) (priority : ℤ) → IsEligible inputs name version priority
       → Any (IsOffer version priority) offers
-
--- the offers are the versions that may be chosen, where all versions are asked for, and else there are none
-pub record AreAllVersions (inputs : Inputs) (offers : List Offer) : Type 0 where
-  pub drawn : (offer : Offer) → Contains offers offer → (name version : List ℕ) → IsFor name version offer
-      → IsOneOfAll inputs name version
-  pub covered : (name version : List ℕ) → IsOneOfAll inputs name version → Any (IsFor name version) offers

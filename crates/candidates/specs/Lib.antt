@@ -1,6 +1,8 @@
 pub mod Candidates
 pub mod Eligible
 pub mod Inputs
+pub mod Least
+pub mod Names
 pub mod Offer
 pub mod OfferLaws
 pub mod Place

@@ -1,14 +1,11 @@
 -- The versions of names with their priorities, and which one is to be chosen first (apt_preferences(5)).
-use Rattle.std.specs.Prelude.{◌≡◌, ◌≢◌, ℕ, ℤ, pos, Bool, false, not, ◌&&◌, List, [], Option, MatchOption, int_lt}
-use Rattle.std.specs.List.{All, Any, Contains, filter, find}
-use Rattle.std.specs.List.Sorted.{IsStrictlySortedBy}
+use Rattle.std.specs.Prelude.{◌≡◌, ℕ, ℤ, pos, Bool, false, not, ◌&&◌, List, Option, int_lt}
+use Rattle.std.specs.List.{filter, find}
 use Rattle.std.specs.Option.{option_map_or}
 use Rattle.std.specs.Ordering.{flip_args, int_cmp, on, then_cmp}
 use Rattle.std.specs.declared.cmp.Ordering.{Ordering}
-use Rattle.std.specs.declared.cmp.Ordering.TheVariants.{Less}
 use Rattle.rules.specs.Database.{Record}
 use Rattle.rules.specs.Name.{name_cmp}
-use Rattle.rules.specs.Priority.{IsUpTo}
 use Rattle.rules.specs.Step.{is_named}
 use Rattle.rules.specs.Version.{SameVersion, version_cmp}
 use Rattle.candidates.specs.Recorded.{stands_above}
@@ -49,19 +46,3 @@ offer_name_cmp = on (λ offer. offer.name) name_cmp
 -- the order of offers: by name, the last first, and of one name the one to choose first
 abbrev pub offer_cmp : Offer → Offer → Ordering
 offer_cmp = then_cmp (flip_args offer_name_cmp) choice_cmp
-
--- it is one of the offers, and none of them is before it, unless there is none
-abbrev pub IsFirstChoice : List Offer → Option Offer → Type 0
-IsFirstChoice offers first = MatchOption first (offers ≡ [])
-    (λ best. Contains offers best × All (λ offer. offer_cmp offer best ≢ Less) offers)
-
--- the other offer is of the same name, and this one isn't to be chosen before it
-unfoldable pub IsBeaten : Offer → Offer → Type 0
-IsBeaten offer other = (other.name ≡ offer.name)
-    × IsUpTo offer.version offer.priority other.version other.priority
-
--- the offer of each name that is to be chosen first, in the order of names
-pub record AreBest (offers best : List Offer) : Type 0 where
-  pub ascending : IsStrictlySortedBy offer_name_cmp best
-  pub drawn : (offer : Offer) → Contains best offer → Contains offers offer
-  pub greatest : (offer : Offer) → Contains offers offer → Any (IsBeaten offer) best

@@ -9,7 +9,7 @@ use Rattle.rules.specs.Priority.{HasPriorityAmong, Origin, status_origin}
 use Rattle.rules.specs.Step.{IndexPackage}
 use Rattle.rules.specs.Universe.{IsOf}
 use Rattle.candidates.specs.Eligible.{AreByVersion}
-use Rattle.candidates.specs.Offer.{AreBest, IsFor, Offer, eligible, is_eligible}
+use Rattle.candidates.specs.Offer.{IsFor, Offer, eligible, is_eligible}
 use Rattle.candidates.specs.Place.{Place, stanzas_of, with_version}
 use Rattle.candidates.specs.Recorded.{standing_version}
 use Rattle.candidates.specs.Stanza.{stanza_of}
@@ -101,13 +101,6 @@ pub record AreEligibleAmong (Is : List ℕ → List ℕ → Type 0) (prefs : Pre
 -- of all rated offers those that may be chosen
 abbrev pub AreEligible : Preferences → List Record → List Place → List Offer → Type 0
 AreEligible prefs db places chosen = AreEligibleAmong (IsKept db places) prefs db places chosen
-
--- the best of the offers that may be chosen, and where all versions are asked for each of them
-pub record AreChosen (all : Bool) (prefs : Preferences) (db : List Record) (places : List Place) (best each : List Offer) : Type 0 where
-  pub offers : List Offer
-  pub may : AreEligible prefs db places offers
-  pub first : AreBest offers best
-  pub every : each ≡ (if all then offers else [])
 
 -- the offers that may be chosen, of each version one, in the order of versions
 pub record AreInOrder (prefs : Preferences) (db : List Record) (places : List Place) (ordered : List Offer) : Type 0 where

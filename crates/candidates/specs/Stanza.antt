@@ -17,9 +17,13 @@ listed_cmp = then_cmp (on (λ found. found.pkg.name) name_cmp) (on (λ found. fo
 abbrev pub stanza_of : List IndexPackage → List ℕ → List ℕ → Option IndexPackage
 stanza_of listed name version = find (λ found. is_of name version found.pkg) listed
 
+-- the stanza has the name
+abbrev pub has_stanza_name : List ℕ → IndexPackage → Bool
+has_stanza_name name found = bytes_eq found.pkg.name name
+
 -- a stanza has the name
 abbrev pub has_name : List IndexPackage → List ℕ → Bool
-has_name listed name = list_any (λ found. bytes_eq found.pkg.name name) listed
+has_name listed name = list_any (has_stanza_name name) listed
 
 -- the stanzas in their order, and of those of one version of a name the earliest alone
 pub record IsOrdered (listed ordered : List IndexPackage) : Type 0 where

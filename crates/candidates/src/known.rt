@@ -1,86 +1,42 @@
-// The records of the start in the order of their names, found by their names.
+// What the record of a name says, among records in the order of their names.
 
-ghost use Rattle.std.specs.Prelude.{◌≡◌, IfOk, false, map};
+ghost use Rattle.std.specs.Prelude.{◌≡◌, false};
 ghost use Rattle.std.specs.List.{find};
 ghost use Rattle.std.specs.List.Sorted.{IsStrictlySortedBy};
 ghost use Rattle.std.specs.Option.{option_and_then, option_copied, option_map_or};
-ghost use Rattle.rules.specs.Database.{HasDistinctNames};
+ghost use Rattle.rules.specs.Name.{name_cmp};
 ghost use Rattle.rules.specs.Step.{is_named};
-ghost use Rattle.candidates.specs.Recorded.{IsByName, is_free, is_recorded, record_cmp, standing_as, stands_above};
+ghost use Rattle.candidates.specs.Recorded.{is_free, is_recorded, record_cmp, standing_as, stands_above};
 
-use crate::recorded::{Recorded, by_name};
+use crate::recorded::Recorded;
 use debversion::Version;
-use indexmap::IndexSet;
-use std::alloc::{AllocError, Global};
-use std::marker::Model;
+use rules::name_cmp;
+use std::cmp::Ordering;
 
-/// Records in the order of their names, no two of which have one name, with a table of the names.
-#[derive(Drop)]
-pub struct Known<'p, 'a> {
-    records: Vec<Recorded<'p, 'a>>,
-    names: IndexSet<&'a [u8]>,
-}
-
-impl<'p, 'a> Model for Known<'p, 'a> {
-    ghost use Rattle.std.specs.Prelude.{List, ◌≡◌, map};
-    ghost use Rattle.std.specs.List.Sorted.{IsStrictlySortedBy};
-    ghost use Rattle.rules.specs.Database.{Record};
-    ghost use Rattle.candidates.specs.Recorded.{record_cmp};
-
-    ghost Value = { List Record };
-
-    ghost view = { λ k. k.records.items };
-
-    ghost invariant = { λ k. (IsStrictlySortedBy record_cmp k.records.items)
-        × (map (λ name. name.now) k.names.keys ≡ map (λ found. found.name) k.records.items) };
-}
-
-// The names of the records, in their order.
-fn names_of<'a>(
-    alloc: Global,
-    records: &[Recorded<'_, 'a>],
-) -> Result<IndexSet<&'a [u8]>, AllocError>
-    requires { IsStrictlySortedBy record_cmp records.now }
-    ensures { IfOk result (λ names. map (λ name. name.now) names.keys ≡ map (λ found. found.name) records.now) }
+// How the name of the record compares with a name.
+fn order_to(found: &Recorded<'_, '_>, name: &[u8]) -> Ordering
+    ensures { result ≡ name_cmp found.now.name name.now }
 {
-    let mut names = IndexSet::new(alloc);
-    for found in records {
-        names.insert(found.name())?;
-    }
-    Ok(names)
+    name_cmp(found.name(), name)
 }
 
-impl<'p, 'a> Known<'p, 'a> {
-    /// The records in the order of their names. About n log n comparisons of n records. Memory alone can fail.
-    pub fn new(alloc: Global, start: Vec<Recorded<'p, 'a>>) -> Result<Known<'p, 'a>, AllocError>
-        ensures { IfOk result (λ known. IsByName start.entry.items known) }
-    {
-        let records = by_name(start)?;
-        let names = names_of(alloc, records.as_slice())?;
-        Ok(Known { records, names })
-    }
-
-    /// The records.
-    pub fn as_slice(&self) -> &[Recorded<'p, 'a>]
-        ensures records { result.now ≡ self.now }
-        ensures ascending { IsStrictlySortedBy record_cmp result.now }
-    {
-        self.records.as_slice()
-    }
-}
-
-/// The record of the name. Linear in the name alone.
-pub fn record_of<'k, 'p, 'a>(known: &'k Known<'p, 'a>, name: &[u8]) -> Option<&'k Recorded<'p, 'a>>
+/// The record of the name. A binary search.
+pub fn record_of<'k, 's, 'a>(
+    known: &'k [Recorded<'s, 'a>],
+    name: &[u8],
+) -> Option<&'k Recorded<'s, 'a>>
+    requires { IsStrictlySortedBy record_cmp known.now }
     ensures { option_copied result ≡ find (is_named name.now) known.now }
 {
-    match known.names.get_index_of(name) {
-        Some(place) => known.records.get(place),
-        None => None,
+    match known.binary_search_by(|found| order_to(found, name)) {
+        Ok(place) => known.get(place),
+        Err(_) => None,
     }
 }
 
 /// Whether the version of the name doesn't stand and the name isn't held.
-pub fn is_free(known: &Known<'_, '_>, name: &[u8], version: &Version<'_>) -> bool
+pub fn is_free(known: &[Recorded<'_, '_>], name: &[u8], version: &Version<'_>) -> bool
+    requires { IsStrictlySortedBy record_cmp known.now }
     ensures { result ≡ is_free known.now name.now version.now }
 {
     match record_of(known, name) {
@@ -90,7 +46,8 @@ pub fn is_free(known: &Known<'_, '_>, name: &[u8], version: &Version<'_>) -> boo
 }
 
 /// Whether the name is in a state other than not-installed.
-pub fn is_recorded(known: &Known<'_, '_>, name: &[u8]) -> bool
+pub fn is_recorded(known: &[Recorded<'_, '_>], name: &[u8]) -> bool
+    requires { IsStrictlySortedBy record_cmp known.now }
     ensures { result ≡ is_recorded known.now name.now }
 {
     match record_of(known, name) {

@@ -2,7 +2,6 @@
 
 ghost use Rattle.std.specs.Prelude.{◌≡◌, IfOk, map};
 ghost use Rattle.std.specs.List.{filter};
-ghost use Rattle.std.specs.List.Sorted.{IsSorted};
 ghost use Rattle.rules.specs.Available.{Request};
 ghost use Rattle.rules.specs.Database.{HasDistinctNames};
 ghost use Rattle.rules.specs.FileRecord.{records_of};
@@ -10,15 +9,12 @@ ghost use Rattle.rules.specs.Step.{is_named};
 ghost use Rattle.candidates.specs.Candidates.{IsCandidateOf};
 ghost use Rattle.candidates.specs.Eligible.{AreEligibleOf};
 ghost use Rattle.candidates.specs.Inputs.{indices_of, inputs_of};
-ghost use Rattle.candidates.specs.Place.{place_cmp};
-ghost use Rattle.candidates.specs.Rated.{AreInOrder};
 
-use crate::known::Known;
-use crate::offer::{Offer, by_version, first_choice};
+use crate::offer::{Offer, candidate_of};
 use crate::order::in_order;
-use crate::place::{Place, sorted_named_places};
-use crate::rated::eligible_offers;
-use crate::recorded::{Recorded, records_in};
+use crate::place::sorted_named_places;
+use crate::rated::eligible_at;
+use crate::recorded::{Recorded, by_name, records_in};
 use index::Index;
 use pins::Prefs;
 use status_text::StatusRecord;
@@ -31,21 +27,6 @@ fn records_named<'s, 'a>(recorded: Vec<Recorded<'s, 'a>>, name: &[u8]) -> Vec<Re
     let mut named = recorded;
     named.retain(|found| found.name() == name);
     named
-}
-
-// The offers of the versions that may be chosen, ascending by version, over records and places of one name.
-fn eligible_at<'a>(
-    alloc: Global,
-    prefs: &Prefs,
-    known: &Known<'_, 'a>,
-    places: &[Place<'_, 'a>],
-) -> Result<Vec<Offer<'a>>, AllocError>
-    requires { IsSorted place_cmp places.now }
-    ensures { IfOk result (λ ordered. AreInOrder prefs.now known.now places.now ordered.items) }
-{
-    let ordered = in_order(alloc, places)?;
-    let offers = eligible_offers(alloc, prefs, known, places, ordered.as_slice())?;
-    by_version(offers)
 }
 
 /// The versions of the name that may be chosen by themselves, ascending and each once, with their priorities, over these
@@ -65,10 +46,17 @@ pub fn eligible<'a>(
         (inputs_of (records_of (map (λ r. r.now) start.now)) (indices_of indices.now) prefs.now request) name.now offers.items) }
 {
     let named = records_named(records_in(alloc, start)?, name);
-    let known = Known::new(alloc, named)?;
+    let known = by_name(named)?;
     let places = sorted_named_places(alloc, indices, name)?;
-    let ordered = eligible_at(alloc, prefs, &known, places.as_slice())?;
-    Ok(ordered)
+    let ordered = in_order(alloc, places.as_slice())?;
+    let offers = eligible_at(
+        alloc,
+        prefs,
+        known.as_slice(),
+        places.as_slice(),
+        ordered.as_slice(),
+    )?;
+    Ok(offers)
 }
 
 /// The candidate of the name with its priority, if it has one, over these records of the start, whose names are distinct,
@@ -86,5 +74,8 @@ pub fn candidate<'a>(
         (inputs_of (records_of (map (λ r. r.now) start.now)) (indices_of indices.now) prefs.now request) name.now found) }
 {
     let offers = eligible(alloc, start, indices, prefs, name)?;
-    Ok(first_choice(offers))
+    match candidate_of(offers.as_slice()) {
+        None => Ok(None),
+        Some(offer) => Ok(Some(offer.again())),
+    }
 }

@@ -1,14 +1,18 @@
 // The versions of names with their priorities, and which one is to be chosen first (apt_preferences(5)).
 
-ghost use Rattle.std.specs.Prelude.{◌≡◌, [], IfOk, None, Some, if◌then◌else◌, refl};
+ghost use Rattle.std.specs.Prelude.{◌≡◌, ℕ, IfOk, List, None, Some, if◌then◌else◌, refl};
 ghost use Rattle.std.specs.Cmp.{eq_by_cmp_equiv, partial_equiv_from_equiv, po};
 ghost use Rattle.std.specs.Option.{option_copied};
 ghost use Rattle.std.specs.Ordering.{as_partial_cmp, eq_by_cmp};
-ghost use Rattle.candidates.specs.Eligible.{AreByVersion};
-ghost use Rattle.candidates.specs.Offer.{AreBest, IsFirstChoice, choice_cmp, eligible, is_eligible, is_eligible_beside, offer_cmp};
+ghost use Rattle.std.specs.List.Sorted.{IsStrictlySortedBy};
+ghost use Rattle.rules.specs.Available.{Inputs};
+ghost use Rattle.candidates.specs.Candidates.{IsCandidateOf};
+ghost use Rattle.candidates.specs.Eligible.{AreByVersion, AreEligibleOf};
+ghost use Rattle.candidates.specs.Recorded.{record_cmp};
+ghost use Rattle.candidates.specs.Offer.{choice_cmp, eligible, is_eligible, is_eligible_beside, offer_cmp};
 ghost use Rattle.candidates.specs.OfferLaws.{offer_cmp_total};
 
-use crate::known::{Known, is_below, record_of};
+use crate::known::{is_below, record_of};
 use crate::recorded::Recorded;
 use debversion::Version;
 use rules::name_cmp;
@@ -66,8 +70,8 @@ impl<'a> Offer<'a> {
         self.priority
     }
 
-    // The same offer once more.
-    fn again(&self) -> Offer<'a>
+    /// The same offer once more.
+    pub fn again(&self) -> Offer<'a>
         ensures { result ≡ self.now }
     {
         Offer {
@@ -109,7 +113,8 @@ pub fn eligible_beside<'a>(
     }
 }
 
-fn is_eligible(known: &Known<'_, '_>, offer: &Offer<'_>) -> bool
+fn is_eligible(known: &[Recorded<'_, '_>], offer: &Offer<'_>) -> bool
+    requires { IsStrictlySortedBy record_cmp known.now }
     ensures { result ≡ is_eligible known.now offer.now }
 {
     is_eligible_beside(record_of(known, offer.name), offer)
@@ -117,27 +122,13 @@ fn is_eligible(known: &Known<'_, '_>, offer: &Offer<'_>) -> bool
 
 /// The offers that may be chosen: those with a priority above 0 that are no downgrade with a priority below 1000.
 /// Linear.
-pub fn eligible<'a>(known: &Known<'_, '_>, offers: Vec<Offer<'a>>) -> Vec<Offer<'a>>
+pub fn eligible<'a>(known: &[Recorded<'_, '_>], offers: Vec<Offer<'a>>) -> Vec<Offer<'a>>
+    requires { IsStrictlySortedBy record_cmp known.now }
     ensures { result.items ≡ eligible known.now offers.entry.items }
 {
     let mut kept = offers;
     kept.retain(|offer| is_eligible(known, offer));
     kept
-}
-
-/// The offers once more, where this says so, and else none.
-pub fn again_if<'a>(
-    alloc: Global,
-    wanted: bool,
-    offers: &[Offer<'a>],
-) -> Result<Vec<Offer<'a>>, AllocError>
-    ensures { IfOk result (λ copies. copies.items ≡ (if wanted then offers.now else [])) }
-{
-    if wanted {
-        offers.iter().map(|offer| offer.again()).collect(alloc)
-    } else {
-        Ok(Vec::new(alloc))
-    }
 }
 
 /// The offers of one name in the order of their versions, of those of one version one. About n log n comparisons of n offers.
@@ -151,25 +142,13 @@ pub fn by_version<'a>(offers: Vec<Offer<'a>>) -> Result<Vec<Offer<'a>>, AllocErr
     Ok(ordered)
 }
 
-/// The offer that is to be chosen first, if there is one: of several names the last one's. Linear.
-pub fn first_choice<'a>(offers: Vec<Offer<'a>>) -> Option<Offer<'a>>
-    ensures { IsFirstChoice offers.entry.items result }
+/// The candidate of the name whose versions that may be chosen these are, if it has one: the version of the greatest
+/// priority, and of these the highest (apt_preferences(5)). Linear.
+pub fn candidate_of<'k, 'a>(eligible: &'k [Offer<'a>]) -> Option<&'k Offer<'a>>
+    ensures { (inputs : Inputs) (name : List ℕ) → AreEligibleOf inputs name eligible.now
+        → IsCandidateOf inputs name (option_copied result) }
 {
-    offers.into_iter().min()
-}
-
-/// The offer of each name that is to be chosen first, in the order of names. About n log n comparisons of n offers, and about
-/// n where names and versions ascend and each name has one priority.
-pub fn best_of<'a>(offers: Vec<Offer<'a>>) -> Result<Vec<Offer<'a>>, AllocError>
-    ensures { IfOk result (λ best. AreBest offers.entry.items best.items) }
-{
-    let mut best = offers;
-    // The last name is first: so offers that come with ascending names and versions are one falling run, which the sort
-    // turns round at once.
-    best.sort()?;
-    best.dedup_by(|later, kept| later.name() == kept.name());
-    best.reverse();
-    Ok(best)
+    eligible.iter().min()
 }
 
 impl PartialEq for Offer<'_> {

@@ -202,7 +202,7 @@ pub fn version_places<'p, 'a>(
     Ok(places)
 }
 
-// How many places at the front have the name and the version of this one.
+// How many of these places at the front have the name and the version of the one before them.
 fn run_length(first: &Place<'_, '_>, places: &[Place<'_, '_>]) -> usize
     ensures value { result ≡ prefix_len (is_like first.now) places.now }
     ensures within { result ≤ length places.now }
@@ -225,7 +225,7 @@ pub fn run_from<'s, 'p, 'a>(
     let left = places.split_at(start).1;
     match left.split_first() {
         None => None,
-        Some((first, _)) => Some((first, left.split_at(run_length(first, left)).0)),
+        Some((first, behind)) => Some((first, left.split_at(run_length(first, behind) + 1).0)),
     }
 }
 

@@ -5,12 +5,12 @@ ghost use Rattle.std.specs.List.Sorted.{IsSorted, IsStrictlySortedBy};
 ghost use Rattle.std.specs.Option.{option_or};
 ghost use Rattle.rules.specs.Priority.{status_origin};
 ghost use Rattle.candidates.specs.Place.{place_cmp, stanzas_of};
-ghost use Rattle.candidates.specs.Rated.{AreChosen, AreEligible, AreEligibleAmong, AreRated, HasPlace, IsEligibleOfRun, IsFrom, IsOfRun, StandsAlone, origins_with, standing_alone};
+ghost use Rattle.candidates.specs.Rated.{AreEligible, AreEligibleAmong, AreInOrder, AreRated, HasPlace, IsEligibleOfRun, IsFrom, IsOfRun, StandsAlone, origins_with, standing_alone};
 ghost use Rattle.candidates.specs.Recorded.{record_cmp};
 ghost use Rattle.candidates.specs.Stanza.{IsOrdered, listed_cmp};
 
-use crate::known::{Known, record_of, standing_in};
-use crate::offer::{Offer, again_if, best_of, eligible, eligible_beside};
+use crate::known::{record_of, standing_in};
+use crate::offer::{Offer, by_version, eligible, eligible_beside};
 use crate::order::{Found, stanza_of};
 use crate::place::{Place, run_from};
 use crate::recorded::Recorded;
@@ -59,28 +59,32 @@ fn offer_from<'a>(
     }
 }
 
-fn kept<'a>(standing: Option<Version<'a>>, first: &Place<'_, 'a>) -> Version<'a>
-    ensures { Some result ≡ option_or standing.entry (Some first.now.listed.pkg.version) }
+// The text of a version that is kept: that of what stands, or else this one.
+fn kept<'a>(standing: Option<Version<'a>>, version: Version<'a>) -> Version<'a>
+    ensures { Some result ≡ option_or standing.entry (Some version.entry) }
 {
     match standing {
-        Some(version) => version,
-        None => first.version(),
+        Some(own) => own,
+        None => version,
     }
 }
 
-// The offer of the version of the first place, of which these are all places, where it stands in this text, if it does.
+// The offer of the version, which is that of the first place and of which these are all places, where it stands in this text,
+// if it does.
 fn offer_of<'a>(
     alloc: Global,
     prefs: &Prefs,
     standing: Option<Version<'a>>,
+    version: Version<'a>,
     first: &Place<'_, 'a>,
     run: &[Place<'_, 'a>],
 ) -> Result<Offer<'a>, AllocError>
-    requires { run.now ≢ [] }
+    requires version { version ≡ first.now.listed.pkg.version }
+    requires run { run.now ≢ [] }
     ensures { IfOk result (λ offer. IsOfRun prefs.now standing.entry first.now run.now offer) }
 {
     let origins = origins_with(alloc, standing.is_some(), run)?;
-    let version = kept(standing, first);
+    let version = kept(standing, version);
     Ok(offer_from(prefs, first.name(), version, origins.as_slice()))
 }
 
@@ -88,16 +92,18 @@ fn offer_of<'a>(
 fn eligible_of<'a>(
     alloc: Global,
     prefs: &Prefs,
-    known: &Known<'_, 'a>,
+    known: &[Recorded<'_, 'a>],
     first: &Place<'_, 'a>,
     run: &[Place<'_, 'a>],
 ) -> Result<Option<Offer<'a>>, AllocError>
-    requires { run.now ≢ [] }
+    requires known { IsStrictlySortedBy record_cmp known.now }
+    requires run { run.now ≢ [] }
     ensures { IfOk result (λ chosen. IsEligibleOfRun prefs.now known.now first.now run.now chosen) }
 {
     let record = record_of(known, first.name());
-    let standing = standing_in(record, &first.version());
-    let offer = offer_of(alloc, prefs, standing, first, run)?;
+    let version = first.version();
+    let standing = standing_in(record, &version);
+    let offer = offer_of(alloc, prefs, standing, version, first, run)?;
     Ok(eligible_beside(record, offer))
 }
 
@@ -105,9 +111,10 @@ fn eligible_of<'a>(
 fn listed_offers<'a>(
     alloc: Global,
     prefs: &Prefs,
-    known: &Known<'_, 'a>,
+    known: &[Recorded<'_, 'a>],
     places: &[Place<'_, 'a>],
 ) -> Result<Vec<Offer<'a>>, AllocError>
+    requires known { IsStrictlySortedBy record_cmp known.now }
     requires places { IsSorted place_cmp places.now }
     ensures { IfOk result (λ offers. AreEligibleAmong (HasPlace places.now) prefs.now known.now places.now offers.items) }
 {
@@ -165,37 +172,35 @@ fn standing_offers<'a>(
 pub fn eligible_offers<'a>(
     alloc: Global,
     prefs: &Prefs,
-    known: &Known<'_, 'a>,
+    known: &[Recorded<'_, 'a>],
     places: &[Place<'_, 'a>],
     ordered: &[Found<'_, 'a>],
 ) -> Result<Vec<Offer<'a>>, AllocError>
+    requires known { IsStrictlySortedBy record_cmp known.now }
     requires places { IsSorted place_cmp places.now }
     requires ordered { IsOrdered (stanzas_of places.now) ordered.now }
     ensures { IfOk result (λ offers. AreEligible prefs.now known.now places.now offers.items) }
 {
     let mut offers = listed_offers(alloc, prefs, known, places)?;
-    let further = standing_offers(alloc, prefs, known.as_slice(), places, ordered)?;
+    let further = standing_offers(alloc, prefs, known, places, ordered)?;
     let mut alone = eligible(known, further);
     offers.append(&mut alone)?;
     Ok(offers)
 }
 
-/// The offer of each name that is to be chosen first of those that may be, in the order of names, and each that may be, where
-/// all versions are asked for. About n log n comparisons of n versions, and for each what `Prefs::priority` costs.
-pub fn chosen_offers<'a>(
+/// The offers of the versions of one name that may be chosen, ascending by version.
+pub fn eligible_at<'a>(
     alloc: Global,
     prefs: &Prefs,
-    known: &Known<'_, 'a>,
+    known: &[Recorded<'_, 'a>],
     places: &[Place<'_, 'a>],
     ordered: &[Found<'_, 'a>],
-    asks_all_versions: bool,
-) -> Result<(Vec<Offer<'a>>, Vec<Offer<'a>>), AllocError>
+) -> Result<Vec<Offer<'a>>, AllocError>
+    requires known { IsStrictlySortedBy record_cmp known.now }
     requires places { IsSorted place_cmp places.now }
     requires ordered { IsOrdered (stanzas_of places.now) ordered.now }
-    ensures { IfOk result (λ chosen. AreChosen asks_all_versions prefs.now known.now places.now chosen.0.items chosen.1.items) }
+    ensures { IfOk result (λ offers. AreInOrder prefs.now known.now places.now offers.items) }
 {
     let offers = eligible_offers(alloc, prefs, known, places, ordered)?;
-    let all_versions = again_if(alloc, asks_all_versions, offers.as_slice())?;
-    let best = best_of(offers)?;
-    Ok((best, all_versions))
+    by_version(offers)
 }

@@ -1,9 +1,9 @@
-pub mod Asked
-pub mod BestOffer
-pub mod CandidatesInOrder
-pub mod Given
-pub mod Made
+pub mod OfNameLemmas
 pub mod PairsInOrder
+pub mod PairsOfName
 pub mod Searching
 pub mod Sought
 pub mod StartsApart
+pub mod Texts
+pub mod UniverseMade
+pub mod WalkLemmas

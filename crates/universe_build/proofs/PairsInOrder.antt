@@ -13,7 +13,7 @@ use Rattle.universe.specs.PairLaws.{is_of-from, is_of-parts, of_itself}
 use Rattle.rules.specs.UniverseLaws.{pair_cmp_total}
 use Rattle.candidates.proofs.Finding.{find-dedup}
 use Rattle.candidates.proofs.StanzaOrder.{bare, is_of-alike}
-use Rattle.universe_build.specs.Chosen.{ArePairs}
+use Rattle.universe_build.specs.ByName.{ArePairs}
 
 -- pairs in order that are freed of repetitions have each version once
 pub ArePairs-from_sort : (pairs sorted ordered : List Pair) → IsSorted pair_cmp sorted → IsPermutation pairs sorted

@@ -1,7 +1,9 @@
 -- What a binary search finds among what is sought, and that a goal is unknown alike among the records and stanzas in order.
 use Rattle.std.proofs.Common.{◌≡◌, ℕ, Bool, false, not, ◌&&◌, List, length, Result, Option, Some, None, refl, ap, ◌∙◌}
 use Rattle.std.specs.Prelude.{is_ok}
-use Rattle.std.specs.List.Sorted.{IsBinarySearchResult, IsSearchInRange, IsSorted}
+use Rattle.std.specs.Cmp.{on_total}
+use Rattle.std.specs.List.{list_any}
+use Rattle.std.specs.List.Sorted.{IsBinarySearchResult, IsSearchInRange, IsSorted, IsStrictlySortedBy}
 use Rattle.std.specs.Option.{option_map, option_map_or}
 use Rattle.std.specs.Ordering.{is_eq, ordering_reverse}
 use Rattle.std.specs.declared.cmp.Ordering.{Ordering}
@@ -20,10 +22,14 @@ use Rattle.universe.specs.PairLaws.{is_eq-then}
 use Rattle.universe.specs.SearchLaws.{searched_any}
 use Rattle.candidates.specs.Recorded.{IsByName, is_recorded}
 use Rattle.candidates.specs.Stanza.{IsOrdered, has_name}
-use Rattle.universe.specs.FindLaws.{find-agree}
+use Rattle.universe.specs.FindLaws.{find-agree, not_back}
 use Rattle.candidates.proofs.Searching.{has_name-ordered}
+use Rattle.rules.specs.VersionOrderLaws.{version_cmp_total}
+use Rattle.candidates.specs.Eligible.{offer_version_cmp}
+use Rattle.candidates.specs.Offer.{Offer}
+use Rattle.universe_build.specs.ByName.{is_version_of}
 use Rattle.universe_build.specs.Build.{first_unknown, is_unknown, named_by}
-use Rattle.universe_build.specs.Choice.{Exact, exact_at, exact_cmp, is_sought}
+use Rattle.universe_build.specs.Choice.{Exact, exact_at, exact_cmp, is_asked}
 use Rattle.universe_build.specs.ChoiceLaws.{exact_cmp_total}
 
 -- tied either way round
@@ -43,7 +49,7 @@ exact_ties exact found = ap is_eq (exact_cmp_total.antisymm exact (exact_at foun
 -- a binary search in what is sought tells whether the stanza is one
 pub searched_exact : (exacts : List Exact) (found : IndexPackage) (r : Result ℕ ℕ) → IsSorted exact_cmp exacts
     → IsSearchInRange r (length exacts) → IsBinarySearchResult (λ exact. exact_cmp exact (exact_at found)) exacts r
-    → is_ok r ≡ is_sought exacts found
+    → is_ok r ≡ is_asked exacts found
 searched_exact exacts found r ascending within at =
     searched_any (λ (exact : Exact). is_of exact.name exact.version found.pkg) (λ (exact : Exact). exact_cmp exact (exact_at found))
     exacts r (λ exact. exact_ties exact found)
@@ -70,3 +76,12 @@ first_unknown-ordered start known listed ordered are is lines = ap (option_map (
     (λ asked. is_unknown-agree known start ordered listed
     (λ name. ap (λ (o : Option Record). option_map_or (λ found. not (is_not_installed_state found.state)) o false) (are.same name))
     (has_name-ordered listed ordered is) asked.goal) lines)
+
+-- a binary search among versions that ascend tells whether one is that of the stanza
+pub searched_offer : (offers : List Offer) (found : IndexPackage) (r : Result ℕ ℕ) → IsStrictlySortedBy offer_version_cmp offers
+    → IsSearchInRange r (length offers) → IsBinarySearchResult (λ offer. version_cmp offer.version found.pkg.version) offers r
+    → is_ok r ≡ list_any (is_version_of found) offers
+searched_offer offers found r ascending within at =
+    searched_any (is_version_of found) (λ (offer : Offer). version_cmp offer.version found.pkg.version) offers r (λ offer. refl)
+    (searchable_from_sorted version_cmp_total (λ (offer : Offer). offer.version) offers found.pkg.version
+    (not_back offer_version_cmp (on_total (λ (offer : Offer). offer.version) version_cmp_total).antisymm offers ascending)) within at

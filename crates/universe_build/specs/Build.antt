@@ -1,21 +1,17 @@
 -- Which request is refused, and what its universe is made of (this project's own).
-use Rattle.std.specs.Prelude.{◌≡◌, ℕ, Bool, false, not, List, map, ◌&&◌, Option, Some, None}
+use Rattle.std.specs.Prelude.{ℕ, Bool, false, not, List, map, ◌&&◌, Option, Some, None}
 use Rattle.std.specs.List.{find}
 use Rattle.std.specs.Option.{option_map, option_map_or}
 pub use Rattle.candidates.specs.Inputs.{indices_of, inputs_of}
-use Rattle.pins.specs.Prefs.{Preferences}
-use Rattle.rules.specs.Available.{Index, Request, all_listed}
-use Rattle.rules.specs.Database.{HasDistinctNames, Record}
+use Rattle.rules.specs.Available.{Request}
+use Rattle.rules.specs.Database.{Record}
 use Rattle.rules.specs.Step.{IndexPackage}
 use Rattle.rules.specs.Universe.{Candidate, Pair, Universe, starts_of}
 use Rattle.rules.specs.declared.goal.Goal.{Goal}
 use Rattle.rules.specs.declared.goal.Goal.TheVariants as goal
 use Rattle.rules.specs.declared.goal.GoalLine.{GoalLine}
-use Rattle.candidates.specs.Candidates.{AreCandidates}
-use Rattle.candidates.specs.Eligible.{AreAllVersions}
-use Rattle.candidates.specs.Offer.{Offer}
-use Rattle.candidates.specs.Recorded.{IsByName, is_recorded}
-use Rattle.candidates.specs.Stanza.{IsOrdered, has_name}
+use Rattle.candidates.specs.Recorded.{is_recorded}
+use Rattle.candidates.specs.Stanza.{has_name}
 
 -- the goals of the lines
 abbrev pub goals_of : List GoalLine → List Goal
@@ -43,15 +39,6 @@ is_unknown start listed asked =
 abbrev pub first_unknown : List Record → List IndexPackage → List GoalLine → Option ℕ
 first_unknown start listed lines =
     option_map (λ asked. asked.line) (find (λ asked. is_unknown start listed asked.goal) lines)
-
--- the records, the stanzas and the candidates, each in their order, are those of the start, the indices and the preferences,
--- and the versions are those that may be chosen, where all are asked for
-pub record AreOffered (start : List Record) (indices : List Index) (prefs : Preferences) (all : Bool) (known : List Record) (ordered : List IndexPackage) (best versions : List Offer) : Type 0 where
-  pub distinct : HasDistinctNames start
-  pub records : IsByName start known
-  pub stanzas : IsOrdered (all_listed indices) ordered
-  pub candidates : (request : Request) → AreCandidates (inputs_of start indices prefs request) best
-  pub all_versions : (request : Request) → request.asks_all_versions ≡ all → AreAllVersions (inputs_of start indices prefs request) versions
 
 -- the universe of these pairs and candidates for the goals of the lines over the start
 abbrev pub universe_with : List Record → List GoalLine → List Pair → List Candidate → Universe

@@ -1,5 +1,5 @@
 pub mod Build
+pub mod ByName
 pub mod Choice
 pub mod ChoiceLaws
-pub mod Chosen
 pub mod Error

@@ -2,11 +2,11 @@
 // `rules`, which says which pairs are admitted, and on `candidates`. The main function is `build`.
 #![tactic(auto)]
 
-mod best;
+mod asked;
 mod built;
-mod chosen;
 mod error;
-mod exact;
+mod pairs;
+mod walk;
 
 pub use built::build;
 pub use error::UniverseError;

@@ -1,25 +1,24 @@
--- The record at the place of its name.
-use Rattle.std.proofs.Common.{◌≡◌, ◌<◌, ◌∙◌, List, ap, arith, length, sym}
-use Rattle.std.specs.List.{find, slice_get}
+-- A binary search among the records in order.
+use Rattle.std.proofs.Common.{rules, arith, ◌<◌, ◌∙◌, Result, ℕ, length, subst}
+use Rattle.std.specs.List.Sorted.{IsBinarySearchResult, IsSearchInRange}
+use Rattle.std.proofs.lemmas.Fn.{always_returns_same}
 use Rattle.rules.specs.Database.{Record}
-use Rattle.rules.specs.Step.{is_named}
+use Rattle.rules.specs.Name.{name_cmp}
 use Rattle.universe.specs.SearchLaws.{got}
-use Rattle.index.proofs.NameTable.{as_many, found_item, found_none}
-use Rattle.candidates.proofs.RecordNames.{name_of}
+use Rattle.candidates.proofs.RecordOrder.{searched_record, searched_no_record}
 use Rattle.candidates.proofs.known.record_of.Goals as goal
 
-pub returns-in-Some : goal.returns-in-Some
-returns-in-Some c =
-    let records : List Record = c.known.inside.records.items in
-    let many : length c.known.inside.names.keys ≡ length records = as_many name_of c.known.inside.names.keys records c.known.invariant.1 c.args.name.now in
-    let within : c.in-Some.place < length c.deref.result.now = omega (arith, many, c.in-Some.ensures.within, c.deref.ensures.len) in
-    got _ c.get.result c.deref.result.now c.in-Some.place within (c.get.ensures.lookup.2 within) (c.get.ensures.lookup.4 (omega arith))
-    ∙ ap (λ (xs : List Record). slice_get xs c.in-Some.place) c.deref.ensures.value
-    ∙ found_item name_of c.known.inside.names.keys records c.known.invariant.1 c.args.name.now c.in-Some.place
-    (sym c.in-Some.is ∙ c.get_index_of.ensures.index)
-    ∙ ap (find (is_named c.args.name.now)) c.known.view_is
+pub returns-in-Ok : goal.returns-in-Ok
+returns-in-Ok c =
+    let within : c.in-Ok.place < length c.args.known.now = subst (λ (r : Result ℕ ℕ). IsSearchInRange r (length c.args.known.now)) c.in-Ok.is c.binary_search_by.ensures.bound in
+    got _ c.get.result c.args.known.now c.in-Ok.place within (c.get.ensures.lookup.2 within) (c.get.ensures.lookup.4 (omega arith))
+    ∙ searched_record c.args.known.now c.args.name.now c.in-Ok.place c.requires
+    within
+    (subst (λ (r : Result ℕ ℕ). IsBinarySearchResult (λ (found : Record). name_cmp found.name c.args.name.now) c.args.known.now r) c.in-Ok.is
+    (c.binary_search_by.ensures.position (λ (found : Record). name_cmp found.name c.args.name.now) (always_returns_same _ _ _ (λ a r f k. search rules))))
 
-pub returns-in-None : goal.returns-in-None
-returns-in-None c = found_none name_of c.known.inside.names.keys c.known.inside.records.items c.known.invariant.1 c.args.name.now
-    (sym c.in-None.is ∙ c.get_index_of.ensures.index)
-    ∙ ap (find (is_named c.args.name.now)) c.known.view_is
+pub returns-in-Err : goal.returns-in-Err
+returns-in-Err c = searched_no_record c.args.known.now c.args.name.now c.in-Err.field-0 c.requires
+    (subst (λ (r : Result ℕ ℕ). IsSearchInRange r (length c.args.known.now)) c.in-Err.is c.binary_search_by.ensures.bound)
+    (subst (λ (r : Result ℕ ℕ). IsBinarySearchResult (λ (found : Record). name_cmp found.name c.args.name.now) c.args.known.now r) c.in-Err.is
+    (c.binary_search_by.ensures.position (λ (found : Record). name_cmp found.name c.args.name.now) (always_returns_same _ _ _ (λ a r f k. search rules))))

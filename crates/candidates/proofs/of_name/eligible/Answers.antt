@@ -8,7 +8,7 @@ use Rattle.candidates.specs.Inputs.{indices_of}
 use Rattle.candidates.specs.Place.{Place}
 use Rattle.candidates.specs.Rated.{AreInOrder}
 use Rattle.candidates.specs.Recorded.{IsByName}
-use Rattle.candidates.proofs.OfName.{AreEligibleOf-given}
+use Rattle.candidates.proofs.OneName.{AreEligibleOf-given}
 use Rattle.candidates.proofs.of_name.eligible.Goals as goal
 
 pub returns : goal.returns
@@ -16,9 +16,11 @@ returns c = λ request.
     let start : List Record = records_of (map (λ r. r.now) c.args.start.now) in
     let named : c.records_named-named.result.items ≡ filter (is_named c.args.name.now) start =
     c.records_named-named.ensures ∙ ap (filter (is_named c.args.name.now)) c.in_ok-records_in.ensures in
-    AreEligibleOf-given start c.in_ok-known.known (indices_of c.args.indices.now) c.args.prefs.now request c.args.name.now
-    c.in_ok-places.places.items c.in_ok-ordered.ordered.items c.requires
-    (subst (λ (db : List Record). IsByName db c.in_ok-known.known) named c.in_ok-known.ensures)
+    AreEligibleOf-given start c.in_ok-known.known.items (indices_of c.args.indices.now) c.args.prefs.now request c.args.name.now
+    c.in_ok-places.places.items c.in_ok-offers.offers.items c.requires
+    (subst (λ (db : List Record). IsByName db c.in_ok-known.known.items) named c.in_ok-known.ensures)
     c.in_ok-places.ensures
-    (subst (λ (places : List Place). AreInOrder c.args.prefs.now c.in_ok-known.known places c.in_ok-ordered.ordered.items)
-    c.as_slice.ensures.value c.in_ok-ordered.ensures)
+    (subst (λ (places : List Place). AreInOrder c.args.prefs.now c.in_ok-known.known.items places c.in_ok-offers.offers.items)
+    c.as_slice-3.ensures.value
+    (subst (λ (known : List Record). AreInOrder c.args.prefs.now known c.as_slice-3.result.now c.in_ok-offers.offers.items)
+    c.as_slice-2.ensures.value c.in_ok-offers.ensures))

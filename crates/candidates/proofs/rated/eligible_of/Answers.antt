@@ -11,5 +11,5 @@ pub returns : goal.returns
 returns c = IsEligibleOfRun-from c.args.prefs.now c.args.known.now c.args.first.now c.args.run.now (option_copied c.record_of-record.result)
     c.standing_in-standing.result c.in_ok-offer.offer c.eligible_beside.result
     (c.record_of-record.ensures ∙ ap (λ (n : List ℕ). find (is_named n) c.args.known.now) c.name.ensures)
-    (c.standing_in-standing.ensures ∙ ap (λ (v : List ℕ). option_and_then (standing_as v) (option_copied c.record_of-record.result)) c.version.ensures)
+    (c.standing_in-standing.ensures ∙ ap (λ (v : List ℕ). option_and_then (standing_as v) (option_copied c.record_of-record.result)) c.version-version.ensures)
     c.in_ok-offer.ensures c.eligible_beside.ensures

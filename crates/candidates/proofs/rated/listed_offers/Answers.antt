@@ -6,8 +6,8 @@ use Rattle.candidates.specs.Rated.{IsEligibleOfRun}
 use Rattle.candidates.proofs.Listing.{AreEligibleAmong-behind, AreEligibleBehind, AreEligibleBehind-at, run_longer, run_not_empty}
 use Rattle.candidates.proofs.rated.listed_offers.Goals as goal
 
-pub eligible_of-requires : goal.eligible_of-requires
-eligible_of-requires c = run_not_empty (drop c.loop-first.start c.args.places.now) c.in-Some.first.now c.in-Some.run'.now c.in-Some.ensures.run
+pub eligible_of-requires-clause-run : goal.eligible_of-requires-clause-run
+eligible_of-requires-clause-run c = run_not_empty (drop c.loop-first.start c.args.places.now) c.in-Some.first.now c.in-Some.run'.now c.in-Some.ensures.run
 
 pub loop-first-smaller-in_default-2 : goal.loop-first-smaller-in_default-2
 loop-first-smaller-in_default-2 c =

@@ -1,38 +1,50 @@
--- What is found of the start and the indices is what is offered.
-use Rattle.std.proofs.Common.{◌≡◌, List, [], false, sym, subst}
-use Rattle.std.specs.List.Sorted.{IsStrictlySortedBy}
-use Rattle.rules.specs.Available.{Request}
-use Rattle.candidates.specs.Candidates.{AreCandidates}
-use Rattle.candidates.specs.Eligible.{AreAllVersions}
-use Rattle.candidates.specs.Inputs.{inputs_of}
-use Rattle.candidates.specs.Offer.{Offer, offer_name_cmp}
-use Rattle.universe_build.specs.Build.{indices_of, request_of}
+-- The universe of the pairs and the candidates of all names, and the first refusal.
+use Rattle.std.proofs.Common.{◌≡◌, refl, sym, subst, ◌∙◌}
+use Rattle.std.proofs.lemmas.Result.{err_from_is_err_and}
+use Rattle.rules.specs.Available.{all_listed}
+use Rattle.universe_build.specs.Build.{goals_of, universe_with}
+use Rattle.universe_build.specs.Choice.{AreExacts, exacts_of}
+use Rattle.universe_build.specs.Error.{IsBuilt, IsUniverseFault}
+use Rattle.universe_build.proofs.Searching.{first_unknown-ordered}
+use Rattle.universe_build.proofs.UniverseMade.{AreGiven-by, IsUniverse-made, given_by}
 use Rattle.universe_build.proofs.built.chosen.Goals as goal
 
-pub chosen_among-requires-clause-best : goal.chosen_among-requires-clause-best
-chosen_among-requires-clause-best c = subst (IsStrictlySortedBy offer_name_cmp) (sym c.as_slice.ensures.value)
-    (c.in_ok-known.ensures.candidates (request_of [] false)).ascending
+pub returns-in-Some-clause-err : goal.returns-in-Some-clause-err
+returns-in-Some-clause-err c = λ start indices distinct are.
+    sym (first_unknown-ordered start c.args.names.now.known (all_listed indices) c.args.names.now.ordered are.known are.ordered c.args.lines.now)
+    ∙ sym c.in-Some.ensures
+
+pub returns-in_err-pairs-2-clause-err : goal.returns-in_err-pairs-2-clause-err
+returns-in_err-pairs-2-clause-err c = λ start indices distinct are.
+    let refused = err_from_is_err_and c.from_residual-in_err-pairs-2.result c.from_residual-in_err-pairs-2.ensures.1 in
+    rw (refused.1, refused.2) (subst (IsUniverseFault start indices c.args.prefs.now c.args.lines.now c.args.asks_all_versions) (sym c.in_err-pairs-2.ensures.err.0) (
+      sym (first_unknown-ordered start c.args.names.now.known (all_listed indices) c.args.names.now.ordered are.known are.ordered c.args.lines.now)
+          ∙ sym c.in_default.ensures,
+      record {
+        u = universe_with start c.args.lines.now c.in_ok-pairs.pairs.items c.in_ok-pairs.candidates.items;
+        universe = IsUniverse-made start indices c.args.prefs.now c.args.lines.now c.args.asks_all_versions
+            c.in_ok-pairs.pairs.items c.in_ok-pairs.candidates.items
+            (c.in_ok-pairs.ensures.all (given_by start indices c.args.lines.now c.args.asks_all_versions)
+            (AreGiven-by start indices c.args.lines.now c.args.asks_all_versions c.args.names.now c.as_slice.result.now distinct are
+            (subst (AreExacts (exacts_of (goals_of c.args.lines.now))) (sym c.as_slice.ensures.value) c.in_ok-asked.ensures)))
+            c.in_ok-pairs.ensures.ascending;
+        beyond = c.in_err-pairs-2.ensures.err.1;
+      },
+    ))
 
 pub returns-clause-ok : goal.returns-clause-ok
-returns-clause-ok c = c.chosen_among.ensures.ok c.args.start.items (indices_of c.args.indices.now) c.args.prefs.now c.args.asks_all_versions (record {
-  distinct = c.requires;
-  records = c.in_ok-known.ensures.known;
-  stanzas = c.in_ok-known.ensures.ordered;
-  candidates = subst (λ (best : List Offer). (request : Request) → AreCandidates (inputs_of c.args.start.items (indices_of c.args.indices.now) c.args.prefs.now request) best)
-      (sym c.as_slice.ensures.value) c.in_ok-known.ensures.candidates;
-  all_versions = subst (λ (versions : List Offer). (request : Request) → request.asks_all_versions ≡ c.args.asks_all_versions
-      → AreAllVersions (inputs_of c.args.start.items (indices_of c.args.indices.now) c.args.prefs.now request) versions)
-      (sym c.as_slice-2.ensures.value) c.in_ok-known.ensures.all_versions;
-})
-
-pub returns-clause-err : goal.returns-clause-err
-returns-clause-err c = c.chosen_among.ensures.err c.args.start.items (indices_of c.args.indices.now) c.args.prefs.now c.args.asks_all_versions (record {
-  distinct = c.requires;
-  records = c.in_ok-known.ensures.known;
-  stanzas = c.in_ok-known.ensures.ordered;
-  candidates = subst (λ (best : List Offer). (request : Request) → AreCandidates (inputs_of c.args.start.items (indices_of c.args.indices.now) c.args.prefs.now request) best)
-      (sym c.as_slice.ensures.value) c.in_ok-known.ensures.candidates;
-  all_versions = subst (λ (versions : List Offer). (request : Request) → request.asks_all_versions ≡ c.args.asks_all_versions
-      → AreAllVersions (inputs_of c.args.start.items (indices_of c.args.indices.now) c.args.prefs.now request) versions)
-      (sym c.as_slice-2.ensures.value) c.in_ok-known.ensures.all_versions;
-})
+returns-clause-ok c = λ start indices distinct are.
+    let is : universe_with start c.args.lines.now c.in_ok-pairs.pairs.items c.in_ok-pairs.candidates.items
+    ≡ universe_with start c.args.lines.now c.in_ok-pairs-2.pairs c.new.result =
+    rw (c.in_ok-pairs-2.ensures.ok.0, c.new.ensures) refl in
+    subst (IsBuilt start indices c.args.prefs.now c.args.lines.now c.args.asks_all_versions) is (record {
+      known = sym (first_unknown-ordered start c.args.names.now.known (all_listed indices) c.args.names.now.ordered are.known are.ordered c.args.lines.now)
+          ∙ sym c.in_default.ensures;
+      universe = IsUniverse-made start indices c.args.prefs.now c.args.lines.now c.args.asks_all_versions
+          c.in_ok-pairs.pairs.items c.in_ok-pairs.candidates.items
+          (c.in_ok-pairs.ensures.all (given_by start indices c.args.lines.now c.args.asks_all_versions)
+          (AreGiven-by start indices c.args.lines.now c.args.asks_all_versions c.args.names.now c.as_slice.result.now distinct are
+          (subst (AreExacts (exacts_of (goals_of c.args.lines.now))) (sym c.as_slice.ensures.value) c.in_ok-asked.ensures)))
+          c.in_ok-pairs.ensures.ascending;
+      bounded = c.in_ok-pairs-2.ensures.ok.1;
+    })

@@ -1,0 +1,12 @@
+-- As many as are at the front with the name are all that have it.
+use Rattle.std.proofs.Common.{ℕ, take, drop, ap, ◌∙◌}
+use Rattle.candidates.proofs.NameSplit.{record_parts}
+use Rattle.candidates.proofs.names.split_records.Goals as goal
+
+pub returns-clause-own : goal.returns-clause-own
+returns-clause-own c = c.split_at.ensures.front ∙ ap (λ (n : ℕ). take n c.args.known.now) c.record_count.ensures.value
+    ∙ (record_parts c.args.known.now c.args.name.now c.requires.ascending c.requires.least).0
+
+pub returns-clause-left : goal.returns-clause-left
+returns-clause-left c = c.split_at.ensures.back ∙ ap (λ (n : ℕ). drop n c.args.known.now) c.record_count.ensures.value
+    ∙ (record_parts c.args.known.now c.args.name.now c.requires.ascending c.requires.least).1

@@ -1,8 +1,0 @@
--- The pairs so far, and those of the records that are left, are the pairs of all.
-use Rattle.std.proofs.Common.{◌≡◌, ◌++◌, drop}
-use Rattle.universe_build.specs.Chosen.{standing_pairs}
-use Rattle.universe_build.proofs.chosen.standing_pairs.Given as goal
-
-abbrev pub invariant-loop-found : goal.invariant-loop-found
-invariant-loop-found l =
-    l.pairs.items ++ standing_pairs l.ordered (drop l.found-index l.known) ≡ standing_pairs l.ordered l.known
