@@ -10,7 +10,7 @@ use Rattle.cli.specs.Applied.{IsSaidOfApplied}
 use Rattle.candidates.specs.Offer.{Offer}
 use Rattle.cli.specs.Calls.{IsSaidOfNames}
 use Rattle.cli.specs.Possible.{IsSaidOfPossible}
-use Rattle.keep_back.specs.KeptBack.{IsKeptBack}
+use Rattle.keep_back.specs.KeptBack.{IsKeptBack, IsKeptRefusal}
 use Rattle.keep_back.specs.declared.keep_back.KeptBack.{KeptBack}
 use Rattle.cli_engine.specs.Answer.{AreCandidateAnswers, IsAnswer, IsFirstRefusal}
 use Rattle.cli_engine.specs.Meaning.{IsSaid}
@@ -47,7 +47,7 @@ said_of_request texts limit (Ok found) answer refused = answer
 said_of_request texts limit (Err e) answer refused = refused
 
 pub said_of_possible : (texts : Texts) (limit : ℕ) (r : Result KeptBack Refusal)
-    → IfOk r (λ kept. IsKeptBack texts limit kept) → IfErr r (λ refused. IsRefusal texts refused) → IsSaidOfPossible texts limit r
+    → IfOk r (λ kept. IsKeptBack texts limit kept) → IfErr r (λ refused. IsKeptRefusal texts refused) → IsSaidOfPossible texts limit r
 said_of_possible texts limit (Ok kept) answer refused = answer
 said_of_possible texts limit (Err e) answer refused = refused
 

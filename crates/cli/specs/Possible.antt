@@ -7,16 +7,16 @@ use Rattle.cli.specs.declared.exit.Exit.TheVariants as exit
 use Rattle.cli.specs.declared.outcome.Outcome.{Outcome}
 use Rattle.cli.specs.declared.outcome.Outcome.TheVariants as outcome
 use Rattle.command_line.specs.declared.call.Format.{Format}
-use Rattle.inputs.specs.Refused.{IsRefusal}
 use Rattle.inputs.specs.Texts.{Texts, texts_of}
 use Rattle.inputs.specs.declared.refusal.Refusal.{Refusal}
-use Rattle.keep_back.specs.KeptBack.{IsKeptBack}
+use Rattle.keep_back.specs.KeptBack.{IsKeptBack, IsKeptRefusal}
 use Rattle.keep_back.specs.declared.keep_back.KeptBack.{KeptBack}
 
--- what is said of as much of a request as can be: the answer to what is left of it, or the first refusal
+-- what is said of as much of a request as can be: the answer to what is left of it, or the first refusal, of the request or of what is
+-- left of it
 abbrev pub IsSaidOfPossible : Texts → ℕ → Result KeptBack Refusal → Type 0
 IsSaidOfPossible texts limit (Ok kept) = IsKeptBack texts limit kept
-IsSaidOfPossible texts limit (Err refused) = IsRefusal texts refused
+IsSaidOfPossible texts limit (Err refused) = IsKeptRefusal texts refused
 
 -- the request that is left couldn't be written (E26)
 abbrev pub IsRequestUnwritten : Outcome → Type 0

@@ -4,9 +4,8 @@ ghost use Rattle.std.specs.Option.{option_map};
 ghost use Rattle.cli.specs.Calls.{texts_at};
 ghost use Rattle.cli.specs.Files.{Files, shelved_at};
 ghost use Rattle.cli.specs.Possible.{IsOutcomeOfKept, IsOutcomeOfLeft, IsOutcomeOfPossible, IsOutcomeOfWritten, IsRequestUnwritten, IsSaidOfPossible};
-ghost use Rattle.inputs.specs.Refused.{IsRefusal};
 ghost use Rattle.inputs.specs.Texts.{texts_of};
-ghost use Rattle.keep_back.specs.KeptBack.{IsKeptBack};
+ghost use Rattle.keep_back.specs.KeptBack.{IsKeptBack, IsKeptRefusal};
 
 use crate::arguments::Arguments;
 use crate::exit::Exit;
@@ -34,7 +33,7 @@ pub fn solve_possible<H: Host>(
     ensures answer { (at : Files) → H.files shelf.old.host ≡ Some at
         → IfOk result (λ kept. IsKeptBack (texts_of settings.now (shelved_at at shelf.old.paths)) limit kept) }
     ensures refused { (at : Files) → H.files shelf.old.host ≡ Some at
-        → IfErr result (λ refused. IsRefusal (texts_of settings.now (shelved_at at shelf.old.paths)) refused) }
+        → IfErr result (λ refused. IsKeptRefusal (texts_of settings.now (shelved_at at shelf.old.paths)) refused) }
 {
     solve_possible_from(alloc, shelf, settings, limit, told)
 }

@@ -8,7 +8,7 @@ use Rattle.cli_engine.specs.Solution.{IsSolution}
 use Rattle.cli_engine.specs.declared.solve.Answered.{Answered}
 use Rattle.inputs.specs.Before.{AreRead}
 use Rattle.inputs.specs.Meaning.{DenotesAsked, request_in}
-use Rattle.inputs.specs.Reading.{IsUnread}
+use Rattle.inputs.specs.Reading.{IsUnread, out_of_memory}
 use Rattle.inputs.specs.Refused.{IsRefusal}
 use Rattle.inputs.specs.Texts.{Found, Shelved, Texts, texts_of}
 use Rattle.inputs.specs.declared.refusal.Input.TheVariants as place
@@ -24,8 +24,8 @@ use Rattle.solver.specs.Solved.{IsSolved}
 use Rattle.solver.specs.declared.solved.Solved.{Solved}
 use Rattle.solver.specs.declared.solved.Solved.TheVariants as solved
 use Rattle.keep_back.specs.Before.{AreReadAs, IsAnswerTo, texts_for}
-use Rattle.keep_back.specs.Further.{IsFurther, IsKeptFor, IsLessBy, IsOneLess, IsRest, IsStep}
-use Rattle.keep_back.specs.KeptBack.{AreLinesOf, AreRefutedEach, IsKeptBack, IsLeft, asking, left_of}
+use Rattle.keep_back.specs.Further.{IsFurther, IsFurtherRefusal, IsKeptFor, IsLessBy, IsOneLess, IsRefusalFor, IsRefusedWith, IsRest, IsRestRefusal, IsStep}
+use Rattle.keep_back.specs.KeptBack.{AreLinesOf, AreRefutedEach, IsKeptBack, IsKeptRefusal, IsLeft, asking, left_of}
 use Rattle.keep_back.specs.Reason.{IsReasonOf, IsRefutation, IsWithin}
 use Rattle.keep_back.specs.declared.before.Before.{Before}
 use Rattle.keep_back.specs.declared.keep_back.KeptBack.{KeptBack}
@@ -208,6 +208,52 @@ is-kept before at limit request lines first None kept there read within answer s
 }
 is-kept before at limit request lines first (Some reason) kept there read within answer so spelled is holds =
     rest-kept before at limit reason.place request lines first kept there read within answer so spelled is holds
+
+-- What is left and is refused
+
+-- where no further line is left out
+pub refused-now : (before : Before) (at : Shelved) (left : Left) (refused : Refusal) → IsRefusedWith before at (lines_in left.wishes.items) refused
+    → IsFurtherRefusal before at left refused
+refused-now before at left refused is = record {
+  new = left;
+  further = none-further before left;
+  refused_so = is;
+}
+
+-- the first line and then others are left out
+pub rest-refused : (before : Before) (at : Shelved) (lines : List (List ℕ)) (place : ℕ) (old : Left) (refused : Refusal) → AreReadAs before at
+    → lines_in old.wishes.items ≡ remove lines place → IsFurtherRefusal before at old refused → IsRestRefusal before at lines place refused
+rest-refused before at lines place old refused read first is = record {
+  later = is.further.later;
+  refuted = subst (λ (ls : List (List ℕ)). AreRefutedEach (texts_for before at) ls is.further.later) first (is.further.refuted at read);
+  refused_so = subst (λ (ls : List (List ℕ)). IsRefusedWith before at ls refused)
+      (is.further.lines ∙ ap (λ (ls : List (List ℕ)). left_of ls is.further.later) first) is.refused_so;
+}
+
+-- the first line alone is, and memory is wanting
+pub rest-wanting : (before : Before) (at : Shelved) (lines : List (List ℕ)) (place : ℕ) → IsRestRefusal before at lines place out_of_memory
+rest-wanting before at lines place = record { later = []; refuted = tt; refused_so = inl refl }
+
+-- the request is refuted, and what is left of it is refused
+pub is-refused : (before : Before) (at : Shelved) (limit : ℕ) (request : List ℕ) (lines : List (List ℕ)) (first : Answered)
+    (reason : Option Reason) (refused : Refusal) → at.request ≡ Some request → AreReadAs before at → IsWithin (length lines) reason
+    → IsAnswerTo before limit request first → IsReasonOf first.solved reason → AreLinesOf (asking request (texts_for before at)) lines
+    → IsRefusalFor before at lines reason refused → IsKeptRefusal (texts_for before at) refused
+is-refused before at limit request lines first None refused there read within answer so spelled is = absurd is
+is-refused before at limit request lines first (Some reason) refused there read within answer so spelled is = inr (record {
+  lines = lines;
+  left_out = reason.place ∷ is.later;
+  request = text_of (left_of (remove lines reason.place) is.later);
+  left = (
+    subst (λ (texts : Texts). AreLinesOf texts lines) (asking-same (texts_for before at) request there) spelled,
+    subst AreRefuted (asking-same (texts_for before at) request there)
+        (are-refuted (asking request (texts_for before at)) limit first (answer at read) so),
+    within,
+    is.refuted,
+    refl,
+  );
+  refused_so = is.refused_so;
+})
 
 -- A request that can't be read
 

@@ -1,7 +1,6 @@
 -- What the texts before a request are read as, and what is true of each request that is asked over them.
-use Rattle.std.specs.Prelude.{◌≡◌, ℕ, List}
+use Rattle.std.specs.Prelude.{ℕ, List}
 use Rattle.candidates.specs.Inputs.{indices_of}
-use Rattle.cli_engine.specs.Refuted.{AreRefuted}
 use Rattle.cli_engine.specs.Solution.{IsSolution}
 use Rattle.cli_engine.specs.declared.solve.Answered.{Answered}
 use Rattle.inputs.specs.Before.{AreRead}

@@ -2,9 +2,11 @@
 use Rattle.std.specs.Prelude.{◌≡◌, ℕ, ◌<◌, List, [], ◌∷◌, ◌++◌, length, Option, None, Some}
 use Rattle.std.specs.List.{remove}
 use Rattle.cli_engine.specs.declared.solve.Answered.{Answered}
+use Rattle.inputs.specs.Refused.{IsRefusal}
 use Rattle.inputs.specs.Texts.{Shelved}
+use Rattle.inputs.specs.declared.refusal.Refusal.{Refusal}
 use Rattle.keep_back.specs.Before.{AreReadAs, IsAnswerTo, texts_for}
-use Rattle.keep_back.specs.KeptBack.{AreRefutedEach, left_of}
+use Rattle.keep_back.specs.KeptBack.{AreRefutedEach, asking, left_of}
 use Rattle.keep_back.specs.Reason.{IsRefutation}
 use Rattle.keep_back.specs.declared.before.Before.{Before}
 use Rattle.keep_back.specs.declared.keep_back.KeptBack.{KeptBack}
@@ -54,3 +56,24 @@ pub record IsRest (before : Before) (lines : List (List ℕ)) (place : ℕ) (kep
 abbrev pub IsKeptFor : Before → List ℕ → List (List ℕ) → Option Reason → KeptBack → Type 0
 IsKeptFor before text lines None kept = (kept.left_out ≡ []) × (kept.request ≡ text)
 IsKeptFor before text lines (Some reason) kept = IsRest before lines reason.place kept
+
+-- by what is read at this place, the request with these lines is refused so
+abbrev pub IsRefusedWith : Before → Shelved → List (List ℕ) → Refusal → Type 0
+IsRefusedWith before at lines refused = IsRefusal (asking (text_of lines) (texts_for before at)) refused
+
+-- further lines were left out, and what is left then is refused so
+pub record IsFurtherRefusal (before : Before) (at : Shelved) (old : Left) (refused : Refusal) : Type 0 where
+  pub new : Left
+  pub further : IsFurther before old new
+  pub refused_so : IsRefusedWith before at (lines_in new.wishes.items) refused
+
+-- of these lines the one at this place was left out, and then further ones, and what is left then is refused so
+pub record IsRestRefusal (before : Before) (at : Shelved) (lines : List (List ℕ)) (place : ℕ) (refused : Refusal) : Type 0 where
+  pub later : List ℕ
+  pub refuted : AreRefutedEach (texts_for before at) (remove lines place) later
+  pub refused_so : IsRefusedWith before at (left_of (remove lines place) later) refused
+
+-- a line is left out where there is a reason, and what is left then is refused so
+abbrev pub IsRefusalFor : Before → Shelved → List (List ℕ) → Option Reason → Refusal → Type 0
+IsRefusalFor before at lines None refused = ⊥
+IsRefusalFor before at lines (Some reason) refused = IsRestRefusal before at lines reason.place refused

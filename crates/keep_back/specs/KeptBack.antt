@@ -1,8 +1,10 @@
 -- As much of a request as can be: what is left of it where lines are left out, one after the other (this project's own).
-use Rattle.std.specs.Prelude.{◌≡◌, ℕ, ◌<◌, List, [], ◌∷◌, length, Some, ⊤}
+use Rattle.std.specs.Prelude.{◌≡◌, ◌⊎◌, ℕ, ◌<◌, List, [], ◌∷◌, length, Some, ⊤}
 use Rattle.std.specs.List.{remove}
 use Rattle.inputs.specs.Meaning.{Denotes}
+use Rattle.inputs.specs.Refused.{IsRefusal}
 use Rattle.inputs.specs.Texts.{Texts}
+use Rattle.inputs.specs.declared.refusal.Refusal.{Refusal}
 use Rattle.rules.specs.Database.{Record}
 use Rattle.rules.specs.Universe.{Universe}
 use Rattle.wishes.specs.Spelled.{spelled_out, text_of}
@@ -55,3 +57,15 @@ pub record IsKeptBack (texts : Texts) (limit : ℕ) (kept : KeptBack) : Type 0 w
   pub lines : List (List ℕ)
   pub left : IsLeft texts lines kept.left_out kept.request
   pub holds : IsSolution (asking kept.request texts) limit kept.answered
+
+-- lines were left out, and what is left of the request is refused so
+pub record IsLeftRefusal (texts : Texts) (refused : Refusal) : Type 0 where
+  pub lines : List (List ℕ)
+  pub left_out : List ℕ
+  pub request : List ℕ
+  pub left : IsLeft texts lines left_out request
+  pub refused_so : IsRefusal (asking request texts) refused
+
+-- it is the first refusal of the texts, or of what is left of their request
+abbrev pub IsKeptRefusal : Texts → Refusal → Type 0
+IsKeptRefusal texts refused = IsRefusal texts refused ⊎ IsLeftRefusal texts refused

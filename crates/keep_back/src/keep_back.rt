@@ -5,13 +5,12 @@ ghost use Rattle.inputs.specs.Before.{HasIndices, HasStart};
 ghost use Rattle.inputs.specs.Counting.{CountsRead};
 ghost use Rattle.inputs.specs.Indices.{released};
 ghost use Rattle.inputs.specs.Inputs.{shelved};
-ghost use Rattle.inputs.specs.Refused.{IsRefusal};
 ghost use Rattle.inputs.specs.Texts.{Shelved, texts_of};
 ghost use Rattle.inputs.specs.declared.refusal.Fault.TheVariants as fault;
 ghost use Rattle.status_text.specs.Slot.{slot_records};
 ghost use Rattle.keep_back.specs.Before.{AreReadAs, IsAnswerTo, texts_for};
-ghost use Rattle.keep_back.specs.Further.{IsFurther, IsKeptFor, IsLessBy, IsRest, IsStep};
-ghost use Rattle.keep_back.specs.KeptBack.{IsKeptBack};
+ghost use Rattle.keep_back.specs.Further.{IsFurther, IsFurtherRefusal, IsKeptFor, IsLessBy, IsRefusalFor, IsRefusedWith, IsRest, IsRestRefusal, IsStep};
+ghost use Rattle.keep_back.specs.KeptBack.{IsKeptBack, IsKeptRefusal};
 ghost use Rattle.keep_back.specs.Reason.{IsWithin};
 ghost use Rattle.wishes.specs.Spelled as Lines;
 ghost use Rattle.wishes.specs.Spelled.{lines_in};
@@ -71,8 +70,11 @@ fn step(
     left: &mut Left,
     limit: u32,
     told: &mut Sentences,
-) -> Result<Option<Answered>, AllocError>
+) -> Result<Option<Answered>, Refusal>
     ensures left { IfOk result (IsStep before.now limit left.old left.new) }
+    ensures refused { (at : Shelved) → AreReadAs before.now at
+        → IfErr result (IsRefusedWith before.now at (lines_in left.old.wishes.items)) }
+    ensures known { IfErr result (λ refused. refused.fault ≢ fault.Read) }
     ensures unasked { told.old.wanted ≡ false → told.new ≡ told.old }
 {
     let text = text_of(alloc, left.wishes.as_slice())?;
@@ -95,8 +97,11 @@ fn last(
     left: &Left,
     limit: u32,
     told: &mut Sentences,
-) -> Result<Answered, AllocError>
+) -> Result<Answered, Refusal>
     ensures answer { IfOk result (IsAnswerTo before.now limit (Lines.text_of (lines_in left.now.wishes.items))) }
+    ensures refused { (at : Shelved) → AreReadAs before.now at
+        → IfErr result (IsRefusedWith before.now at (lines_in left.now.wishes.items)) }
+    ensures known { IfErr result (λ refused. refused.fault ≢ fault.Read) }
     ensures unasked { told.old.wanted ≡ false → told.new ≡ told.old }
 {
     let text = text_of(alloc, left.wishes.as_slice())?;
@@ -111,9 +116,11 @@ fn rounds(
     left: &mut Left,
     limit: u32,
     told: &mut Sentences,
-) -> Result<Answered, AllocError>
+) -> Result<Answered, Refusal>
     ensures left { IfOk result (λ _. IsFurther before.now left.old left.new) }
     ensures answer { IfOk result (IsAnswerTo before.now limit (Lines.text_of (lines_in left.new.wishes.items))) }
+    ensures refused { (at : Shelved) → AreReadAs before.now at → IfErr result (IsFurtherRefusal before.now at left.old) }
+    ensures known { IfErr result (λ refused. refused.fault ≢ fault.Read) }
     ensures unasked { told.old.wanted ≡ false → told.new ≡ told.old }
 {
     for _ in 0..left.wishes.len() {
@@ -170,10 +177,13 @@ fn keep_rest(
     reason: &Reason,
     limit: u32,
     told: &mut Sentences,
-) -> Result<KeptBack, AllocError>
+) -> Result<KeptBack, Refusal>
     requires { reason.now.place < length wishes.items }
     ensures left { IfOk result (IsRest before.now (lines_in wishes.items) reason.now.place) }
     ensures answer { IfOk result (λ kept. IsAnswerTo before.now limit kept.request kept.answered) }
+    ensures refused { (at : Shelved) → AreReadAs before.now at
+        → IfErr result (IsRestRefusal before.now at (lines_in wishes.items) reason.now.place) }
+    ensures known { IfErr result (λ refused. refused.fault ≢ fault.Read) }
     ensures unasked { told.old.wanted ≡ false → told.new ≡ told.old }
 {
     let mut left = Left::new(alloc, wishes);
@@ -193,11 +203,14 @@ fn keep_for(
     reason: &Option<Reason>,
     limit: u32,
     told: &mut Sentences,
-) -> Result<KeptBack, AllocError>
+) -> Result<KeptBack, Refusal>
     requires within { IsWithin (length wishes.items) reason.now }
     requires answered { IsAnswerTo before.now limit text.items answered }
     ensures left { IfOk result (IsKeptFor before.now text.items (lines_in wishes.items) reason.now) }
     ensures answer { IfOk result (λ kept. IsAnswerTo before.now limit kept.request kept.answered) }
+    ensures refused { (at : Shelved) → AreReadAs before.now at
+        → IfErr result (IsRefusalFor before.now at (lines_in wishes.items) reason.now) }
+    ensures known { IfErr result (λ refused. refused.fault ≢ fault.Read) }
     ensures unasked { told.old.wanted ≡ false → told.new ≡ told.old }
 {
     match reason {
@@ -217,7 +230,7 @@ fn keep(
     ensures answer { (at : Shelved) → at.request ≡ Some text.items → AreReadAs before.now at
         → IfOk result (λ kept. IsKeptBack (texts_for before.now at) limit kept) }
     ensures refused { (at : Shelved) → at.request ≡ Some text.items → AreReadAs before.now at
-        → IfErr result (λ refused. IsRefusal (texts_for before.now at) refused) }
+        → IfErr result (λ refused. IsKeptRefusal (texts_for before.now at) refused) }
     ensures known { IfErr result (λ refused. refused.fault ≢ fault.Read) }
     ensures unasked { told.old.wanted ≡ false → told.new ≡ told.old }
 {
@@ -256,7 +269,7 @@ fn keep_by<'k, 'a: 'k, S: Shelf>(
         → IfOk result (λ found. IsKeptBack (texts_of settings.now at) limit found) }
     ensures refused { (at : Shelved) → S.found shelf.old ≡ Some at → HasStart (texts_of settings.now at) (slot_records status_file.now.slots)
         → HasIndices (texts_of settings.now at) (released releases.items kept.now)
-        → IfErr result (λ refused. IsRefusal (texts_of settings.now at) refused) }
+        → IfErr result (λ refused. IsKeptRefusal (texts_of settings.now at) refused) }
     ensures same { S.found shelf.new ≡ S.found shelf.old }
     ensures count { CountsRead result (S.faults shelf.old) (S.faults shelf.new) }
     ensures unasked { told.old.wanted ≡ false → told.new ≡ told.old }
@@ -278,8 +291,8 @@ fn keep_by<'k, 'a: 'k, S: Shelf>(
 /// `upgrade NAME` for each name of which it asks for another version, and goals that a core names are left out, one after the other,
 /// until what is left isn't refuted or the core names none: first goals about a held name, then the goal beside whose candidate most
 /// packages that stand can't stay so, and of two such the later one. Lines without a goal, `all-versions` and `no-remove` are
-/// conditions and stay. It is refused as `cli_engine::solve_from` refuses it. Sentences on the answer go to `told`, where they are asked
-/// for. Reading costs what `solve_from` says; each goal that is left out costs what solving costs there, a core and its sentences.
+/// conditions and stay. It is refused as `cli_engine::solve_from` refuses it, and what is left of it for its size (E10), where the goals
+/// in the place of `upgrade-all` are too many. Sentences on the answer go to `told`, where they are asked for. Reading costs what `solve_from` says; each goal that is left out costs what solving costs there, a core and its sentences.
 pub fn solve_possible_from<S: Shelf>(
     alloc: Global,
     shelf: &mut S,
@@ -290,9 +303,9 @@ pub fn solve_possible_from<S: Shelf>(
     // what is left is answered, and each request from which a line was left out is refuted
     ensures answer { (at : Shelved) → S.found shelf.old ≡ Some at
         → IfOk result (λ kept. IsKeptBack (texts_of settings.now at) limit kept) }
-    // the refusal is that of the request as it stands
+    // the refusal is that of the request as it stands, or of what is left of it
     ensures refused { (at : Shelved) → S.found shelf.old ≡ Some at
-        → IfErr result (λ refused. IsRefusal (texts_of settings.now at) refused) }
+        → IfErr result (λ refused. IsKeptRefusal (texts_of settings.now at) refused) }
     ensures same { S.found shelf.new ≡ S.found shelf.old }
     ensures count { CountsRead result (S.faults shelf.old) (S.faults shelf.new) }
     ensures unasked { told.old.wanted ≡ false → told.new ≡ told.old }
@@ -320,7 +333,7 @@ pub fn solve_possible_bytes(
     limit: u32,
 ) -> Result<KeptBack, Refusal>
     ensures answer { IfOk result (λ kept. IsKeptBack (texts_of settings.now (shelved inputs.now None)) limit kept) }
-    ensures refused { IfErr result (λ refused. IsRefusal (texts_of settings.now (shelved inputs.now None)) refused) }
+    ensures refused { IfErr result (λ refused. IsKeptRefusal (texts_of settings.now (shelved inputs.now None)) refused) }
 {
     let mut shelf = MemoryShelf::new(*inputs, None);
     let mut told = Sentences::new(alloc);

@@ -190,28 +190,8 @@ pub(crate) fn first_round(
     Ok((round, wishes))
 }
 
-// The same of a text that is left of a request, of which a refusal, which is one for its size, is as want of memory.
-fn requested_again<'k, 'a>(
-    alloc: Global,
-    before: &Before<'_, '_, 'k, '_, '_, 'a>,
-    text: &[u8],
-) -> Result<Requested<'k, 'a>, AllocError>
-    ensures ok { (at : Shelved) → AreReadAs before.now at → IfOk result (λ found.
-        DenotesAsked (asking text.now (texts_for before.now at)) found.universe (slot_records before.now.status_file.now.slots)
-        found.asks_all_versions) }
-    ensures few { IfOk result (λ found. length found.universe.pairs < 2 ^ 32) }
-    ensures distinct { IfOk result (λ found. HaveDistinctNames found.universe.starts) }
-    ensures built { IfOk result (λ found. IsBuiltOn (slot_records before.now.status_file.now.slots) found.universe) }
-    ensures solvable { IfOk result (λ found. IsSolvable (slot_records before.now.status_file.now.slots) found.universe) }
-{
-    match requested(alloc, before, text) {
-        Ok(requested) => Ok(requested),
-        Err(_) => Err(AllocError),
-    }
-}
-
-/// What is left of a request, with this text: what is answered to it, and which of these wishes is left out. Memory alone can fail; a
-/// text that is refused, which it is for its size alone, is as want of memory.
+/// What is left of a request, with this text: what is answered to it, and which of these wishes is left out. It is refused as
+/// `inputs::requested_in` refuses it, which for a text that is left is for its size alone.
 pub(crate) fn later_round(
     alloc: Global,
     before: &Before<'_, '_, '_, '_, '_, '_>,
@@ -219,16 +199,19 @@ pub(crate) fn later_round(
     wishes: &[Wish],
     limit: u32,
     told: &mut Sentences,
-) -> Result<Round, AllocError>
+) -> Result<Round, Refusal>
     ensures answer { IfOk result (λ round. IsAnswerTo before.now limit text.now round.answered) }
     ensures within { IfOk result (λ round. IsWithin (length wishes.now) round.reason) }
     ensures refuted { IfOk result (λ round. IsReasonOf round.answered.solved round.reason) }
+    ensures refused { (at : Shelved) → AreReadAs before.now at
+        → IfErr result (λ refused. IsRefusal (asking text.now (texts_for before.now at)) refused) }
+    ensures known { IfErr result (λ refused. refused.fault ≢ fault.Read) }
     ensures unasked { told.old.wanted ≡ false → told.new ≡ told.old }
 {
     let Requested {
         universe,
         asks_all_versions,
-    } = requested_again(alloc, before, text)?;
+    } = requested(alloc, before, text)?;
     let round = round_over(
         alloc,
         before,

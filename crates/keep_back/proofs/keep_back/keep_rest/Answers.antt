@@ -1,5 +1,5 @@
 -- The first line and then others are left out, each of a request that is refuted.
-use Rattle.std.proofs.Common.{◌≡◌, ◌∙◌, ℕ, List, [], ◌∷◌, ◌++◌, ap, subst, sym}
+use Rattle.std.proofs.Common.{◌∙◌, ℕ, List, [], ◌∷◌, ◌++◌, ap, subst, sym}
 use Rattle.std.specs.List.{remove}
 use Rattle.cli_engine.specs.declared.solve.Answered.{Answered}
 use Rattle.keep_back.specs.Before.{IsAnswerTo}

@@ -11,7 +11,7 @@ pub returns-in_err-kept-clause-refused : goal.returns-in_err-kept-clause-refused
 returns-in_err-kept-clause-refused g c = λ at known.
     let started = c.in_ok-status_file.ensures.ok (texts_of c.args.settings.now at) (c.in_ok-status.ensures.text at known) in
     let p = err_from_is_err_and c.from_residual-in_err-kept.result c.from_residual-in_err-kept.ensures.1 in
-    rw (p.1, p.2) (inl (c.in_err-kept.ensures.refused at (c.in_ok-status.ensures.same ∙ known) (slot_records c.in_ok-status_file.status_file.slots, started)))
+    rw (p.1, p.2) (inl (inl (c.in_err-kept.ensures.refused at (c.in_ok-status.ensures.same ∙ known) (slot_records c.in_ok-status_file.status_file.slots, started))))
 
 pub returns-clause-answer : goal.returns-clause-answer
 returns-clause-answer g c = λ at known.

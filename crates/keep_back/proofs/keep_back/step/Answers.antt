@@ -1,5 +1,5 @@
 -- What is answered and which line is left out make a step.
-use Rattle.std.proofs.Common.{◌≡◌, ◌∙◌, ℕ, List, ap, length, subst, sym}
+use Rattle.std.proofs.Common.{◌≡◌, ◌∙◌, ℕ, List, ap, length, subst}
 use Rattle.keep_back.specs.Before.{IsAnswerTo}
 use Rattle.keep_back.specs.Reason.{IsWithin}
 use Rattle.keep_back.proofs.KeepLemmas.{step-by}
