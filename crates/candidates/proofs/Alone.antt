@@ -17,8 +17,8 @@ use Rattle.rules.specs.Step.{IndexPackage, is_named}
 use Rattle.rules.specs.Universe.{IsOf}
 use Rattle.rules.specs.Version.{SameVersion}
 use Rattle.rules.specs.VersionOrderLaws.{SameVersion-refl}
-use Rattle.universe.specs.FindLaws.{find-exists, find-some}
-use Rattle.universe.specs.PairLaws.{is_of-parts}
+use Rattle.universe_parts.specs.FindLaws.{find-exists, find-some}
+use Rattle.universe_parts.specs.PairLaws.{is_of-parts}
 use Rattle.candidates.specs.Offer.{IsFor, Offer, eligible, is_eligible}
 use Rattle.candidates.specs.Place.{Place, stanzas_of, with_version}
 use Rattle.candidates.specs.Rated.{AreEligible, AreEligibleAmong, AreRated, HasPlace, IsFrom, IsKept, IsRated, StandsAlone, origins_with, standing_alone}

@@ -13,7 +13,7 @@ use Rattle.rules.specs.ElementLaws.{Any-elim, Any-from_list_any, Contains-cons, 
 use Rattle.rules.specs.Package.{Pkg}
 use Rattle.rules.specs.Priority.{Origin, index_origin, indices_with, origins_of, status_origin}
 use Rattle.rules.specs.Step.{IndexPackage, is_named}
-use Rattle.universe.specs.FindLaws.{find-some}
+use Rattle.universe_parts.specs.FindLaws.{find-some}
 use Rattle.candidates.specs.Inputs.{inputs_of}
 use Rattle.candidates.specs.Place.{Place, place_at, places_in, places_of, stanzas_of, with_version}
 use Rattle.candidates.specs.Rated.{kept_version, origins_among}

@@ -15,8 +15,8 @@ use Rattle.rules.specs.Package.{Pkg}
 use Rattle.rules.specs.Step.{IndexPackage, is_named}
 use Rattle.rules.specs.Version.{SameVersion, version_cmp}
 use Rattle.rules.specs.VersionOrderLaws.{version_cmp-same_right}
-use Rattle.universe.specs.FindLaws.{find-agree, find-some}
-use Rattle.universe.specs.PairLaws.{is_of-parts}
+use Rattle.universe_parts.specs.FindLaws.{find-agree, find-some}
+use Rattle.universe_parts.specs.PairLaws.{is_of-parts}
 use Rattle.candidates.specs.Place.{Place, stanzas_of, with_version}
 use Rattle.candidates.specs.Rated.{kept_version}
 use Rattle.candidates.specs.Recorded.{IsByName, standing_as, standing_version}

@@ -16,7 +16,7 @@ use Rattle.rules.specs.Step.{IndexPackage, is_named}
 use Rattle.rules.specs.Universe.{IsOf}
 use Rattle.rules.specs.Version.{SameVersion}
 use Rattle.rules.specs.VersionOrderLaws.{SameVersion-refl, SameVersion-symm, SameVersion-trans}
-use Rattle.universe.specs.PairLaws.{is_of-from, is_of-parts}
+use Rattle.universe_parts.specs.PairLaws.{is_of-from, is_of-parts}
 use Rattle.candidates.specs.Offer.{IsFor, Offer, eligible, is_eligible, is_eligible_beside}
 use Rattle.candidates.specs.Place.{IsNextRun, Place, is_like, place_cmp, stanzas_of, with_version}
 use Rattle.candidates.specs.Rated.{AreEligibleAmong, AreRated, HasPlace, IsEligibleOfRun, IsOfRun, IsRated, kept_version, origins_with}

@@ -17,8 +17,8 @@ use Rattle.rules.specs.Name.{name_cmp}
 use Rattle.rules.specs.NamedLaws.{bytes_eq-same, bytes_eq-true}
 use Rattle.rules.specs.Step.{IndexPackage, is_named}
 use Rattle.rules.specs.Version.{version_cmp}
-use Rattle.universe.specs.FindLaws.{not_back}
-use Rattle.universe.specs.PairLaws.{is_of-parts, of_itself}
+use Rattle.universe_parts.specs.FindLaws.{not_back}
+use Rattle.universe_parts.specs.PairLaws.{is_of-parts, of_itself}
 use Rattle.candidates.specs.Least.{least_of, lesser}
 use Rattle.candidates.specs.Names.{AreNames, InOrder, IsAmong, IsBefore, IsSplit, Names, OfName, part_of}
 use Rattle.candidates.specs.Place.{AreSorted, Place, has_place_name, place_cmp, places_of, stanzas_of}

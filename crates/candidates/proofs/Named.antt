@@ -17,7 +17,7 @@ use Rattle.rules.specs.Step.{is_named}
 use Rattle.rules.specs.Universe.{StandsAs}
 use Rattle.rules.specs.Version.{SameVersion, version_cmp}
 use Rattle.rules.specs.VersionOrderLaws.{version_cmp-same_left, version_cmp-same_right}
-use Rattle.universe.specs.FindLaws.{find-exists, find-some}
+use Rattle.universe_parts.specs.FindLaws.{find-exists, find-some}
 use Rattle.candidates.specs.Recorded.{IsByName, is_downgrade, is_held, is_of_record, stands_above, stands_as}
 use Rattle.candidates.proofs.RecordOrder.{one_record}
 use mathlib.Core.Logic.{inl, inr}

@@ -14,8 +14,8 @@ use Rattle.rules.specs.Step.{IndexPackage, is_named}
 use Rattle.rules.specs.Universe.{IsKeptText}
 use Rattle.rules.specs.Version.{SameVersion}
 use Rattle.rules.specs.VersionOrderLaws.{SameVersion-refl, SameVersion-trans}
-use Rattle.universe.specs.FindLaws.{find-some}
-use Rattle.universe.specs.PairLaws.{is_of-parts}
+use Rattle.universe_parts.specs.FindLaws.{find-some}
+use Rattle.universe_parts.specs.PairLaws.{is_of-parts}
 use Rattle.candidates.specs.Eligible.{AreEligibleOf, IsOffer}
 use Rattle.candidates.specs.Inputs.{inputs_of}
 use Rattle.candidates.specs.Offer.{IsFor, Offer, is_eligible}

@@ -4,8 +4,8 @@ use Rattle.std.specs.List.{Contains}
 use Rattle.rules.specs.Available.{is_of}
 use Rattle.rules.specs.Step.{IndexPackage}
 use Rattle.rules.specs.Universe.{IsOf}
-use Rattle.universe.specs.FindLaws.{find-exists, find-some, sorted-one}
-use Rattle.universe.specs.PairLaws.{is_of-from, is_of-parts, same_pair}
+use Rattle.universe_parts.specs.FindLaws.{find-exists, find-some, sorted-one}
+use Rattle.universe_parts.specs.PairLaws.{is_of-from, is_of-parts, same_pair}
 use Rattle.candidates.specs.Stanza.{IsOrdered, stanza_of}
 use Rattle.candidates.specs.StanzaLaws.{listed_cmp_total}
 use Rattle.candidates.proofs.StanzaOrder.{listed_cmp-tied}

@@ -6,7 +6,7 @@ use Rattle.std.proofs.lemmas.List.Elements.{All-contains}
 use Rattle.rules.specs.ElementLaws.{All-intro, Any-elim, Any-from_list_any, Contains-map, Contains-map_intro, list_any-from_contains}
 use Rattle.rules.specs.Priority.{HasPriorityAmong, IsGreatest, Origin, deciding_among, names_it, pin_matches, priority_in}
 use Rattle.rules.specs.declared.release.Preference.{Preference}
-use Rattle.universe.specs.FindLaws.{find-agree}
+use Rattle.universe_parts.specs.FindLaws.{find-agree}
 use Rattle.candidates.proofs.Searching.{same_tests}
 
 -- the elements of one list are elements of the other, and the other way round

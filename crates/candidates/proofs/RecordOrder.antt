@@ -18,11 +18,11 @@ use Rattle.rules.specs.Step.{IndexPackage, is_named, no_relations}
 use Rattle.rules.specs.declared.status.Flag.TheVariants as flags
 use Rattle.rules.specs.declared.status.State.TheVariants.{NotInstalled}
 use Rattle.rules.specs.declared.status.Want.TheVariants.{Unknown}
-use Rattle.universe.specs.FindLaws.{not_back, sorted-one}
-use Rattle.universe.specs.PairLaws.{is_of-parts, pkg_order-ties, same_pair}
-use Rattle.universe.specs.SearchLaws.{searched_find, searched_none}
+use Rattle.universe_parts.specs.FindLaws.{not_back, sorted-one}
+use Rattle.universe_parts.specs.PairLaws.{is_of-parts, pkg_order-ties, same_pair}
+use Rattle.universe_parts.specs.SearchLaws.{searched_find, searched_none}
 use Rattle.candidates.specs.Stanza.{listed_cmp, stanza_of}
-use Rattle.universe.specs.Pair.{pkg_order}
+use Rattle.universe_parts.specs.Pair.{pkg_order}
 use Rattle.candidates.specs.StanzaLaws.{listed_cmp_total}
 use Rattle.candidates.specs.Recorded.{IsByName, record_cmp}
 use Rattle.candidates.specs.RecordedLaws.{record_cmp_total}

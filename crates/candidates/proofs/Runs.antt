@@ -11,7 +11,7 @@ use Rattle.std.proofs.lemmas.List.Elements.{Contains-append_right, filter-append
 use Rattle.std.proofs.lemmas.List.Sorted.{ranks_by, sorted_far}
 use Rattle.rules.specs.ElementLaws.{Contains-filter, Contains-head, Contains-nil}
 use Rattle.rules.specs.VersionOrderLaws.{SameVersion-refl, SameVersion-symm, SameVersion-trans}
-use Rattle.universe.specs.PairLaws.{is_of-from, is_of-parts}
+use Rattle.universe_parts.specs.PairLaws.{is_of-from, is_of-parts}
 use Rattle.candidates.specs.Place.{IsNextRun, Place, is_like, place_cmp}
 use Rattle.candidates.specs.StanzaLaws.{place_cmp_total}
 use Rattle.candidates.proofs.Filtered.{filter_none}

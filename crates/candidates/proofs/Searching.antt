@@ -14,9 +14,9 @@ use Rattle.rules.specs.ElementLaws.{Any-elim, Any-from_list_any, list_any-from_c
 use Rattle.rules.specs.Name.{name_cmp}
 use Rattle.rules.specs.Step.{IndexPackage}
 use Rattle.rules.specs.Version.{version_cmp}
-use Rattle.universe.specs.FindLaws.{find-some}
-use Rattle.universe.specs.PairLaws.{of_itself}
-use Rattle.universe.specs.SearchLaws.{searched_any}
+use Rattle.universe_parts.specs.FindLaws.{find-some}
+use Rattle.universe_parts.specs.PairLaws.{of_itself}
+use Rattle.universe_parts.specs.SearchLaws.{searched_any}
 use Rattle.candidates.specs.Stanza.{IsOrdered, has_name, listed_cmp}
 use Rattle.candidates.proofs.Ordered.{found_ordered, ordered_stanza}
 

@@ -19,7 +19,7 @@ use Rattle.rules.specs.Step.{IndexPackage, no_relations}
 use Rattle.rules.specs.Universe.{IsOf}
 use Rattle.rules.specs.Version.{version_cmp}
 use Rattle.rules.specs.VersionOrderLaws.{version_cmp-same_left}
-use Rattle.universe.specs.PairLaws.{is_eq-then, is_of-from, is_of-parts}
+use Rattle.universe_parts.specs.PairLaws.{is_eq-then, is_of-from, is_of-parts}
 use Rattle.candidates.specs.Place.{AreSorted, Place, place_at, place_cmp, stanzas_of}
 use Rattle.candidates.specs.Stanza.{IsOrdered, listed_cmp}
 use Rattle.candidates.specs.StanzaLaws.{listed_cmp_total, place_cmp_total}

@@ -10,7 +10,7 @@ use Rattle.rules.specs.Available.{same_version}
 use Rattle.rules.specs.ElementLaws.{Any-intro}
 use Rattle.rules.specs.Version.{SameVersion, version_cmp}
 use Rattle.rules.specs.VersionOrderLaws.{SameVersion-refl, version_cmp-same_left, version_cmp_total}
-use Rattle.universe.specs.FindLaws.{find-exists, find-some}
+use Rattle.universe_parts.specs.FindLaws.{find-exists, find-some}
 use Rattle.candidates.specs.Eligible.{AreByVersion, offer_version_cmp}
 use Rattle.candidates.specs.Offer.{Offer}
 use Rattle.candidates.proofs.Finding.{find-dedup}

@@ -5,7 +5,7 @@ ghost use Rattle.std.specs.Cmp.{eq_by_cmp_equiv, partial_equiv_from_equiv, po};
 ghost use Rattle.std.specs.List.Sorted.{IsSorted, IsStrictlySortedBy};
 ghost use Rattle.std.specs.Ordering.{as_partial_cmp, eq_by_cmp};
 ghost use Rattle.std.specs.Option.{option_copied};
-ghost use Rattle.universe.specs.Pair.{pkg_order};
+ghost use Rattle.universe_parts.specs.Pair.{pkg_order};
 ghost use Rattle.candidates.specs.Place.{place_cmp, stanzas_of};
 ghost use Rattle.candidates.specs.Stanza.{IsOrdered, has_name, listed_cmp, stanza_of};
 ghost use Rattle.candidates.specs.StanzaLaws.{listed_cmp_total};

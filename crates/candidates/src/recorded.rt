@@ -18,7 +18,7 @@ use status_text::StatusRecord;
 use std::alloc::{AllocError, Global};
 use std::cmp::Ordering;
 use std::marker::Model;
-use universe::Start;
+use universe_parts::Start;
 
 /// A record of the start. Records are ordered by the bytes of their names.
 #[derive(Drop)]

@@ -13,7 +13,7 @@ use Rattle.rules.specs.Name.{is_name}
 use Rattle.rules.specs.Universe.{Pair}
 use Rattle.rules.specs.Verdict.{IsBuiltOn}
 use Rattle.rules.proofs.VerdictLemmas.{universe_is_built}
-use Rattle.universe.specs.Universe.{HaveDistinctNames}
+use Rattle.universe_parts.specs.Parts.{HaveDistinctNames}
 use Rattle.universe_build.proofs.StartsApart.{starts_apart}
 use Rattle.inputs.specs.Meaning.{asked_of}
 use Rattle.inputs.specs.Before.{HasIndices, HasStart}

@@ -2,7 +2,7 @@
 ghost use Rattle.std.specs.Prelude.{◌≡◌, ◌^◌, ◌<◌, false, length};
 ghost use Rattle.rules.specs.Verdict.{IsBuiltOn};
 ghost use Rattle.status_text.specs.Slot.{slot_records};
-ghost use Rattle.universe.specs.Universe.{HaveDistinctNames};
+ghost use Rattle.universe_parts.specs.Parts.{HaveDistinctNames};
 ghost use Rattle.cli_engine.specs.Good.{IsGoodIfPlan};
 
 use crate::judged::tell_judged;
@@ -63,7 +63,7 @@ fn tell_refuted(
         return Ok(());
     }
     add_lines(alloc, universe, refutation, told)?;
-    let premises = Premises::new(alloc, universe)?;
+    let premises = Premises::new(alloc, universe);
     let shorter = core(&premises, refutation)?;
     let text = sentences(&premises, indices, &shorter, asks_all_versions)?;
     told.add(text.as_slice())

@@ -12,7 +12,7 @@ ghost use Rattle.rules.specs.Names.{HasNames, HasPairNames};
 ghost use Rattle.rules.specs.Universe.{IsUniverse};
 ghost use Rattle.rules.specs.Verdict.{IsBuiltOn};
 ghost use Rattle.status_text.specs.Slot.{slot_records};
-ghost use Rattle.universe.specs.Universe.{HaveDistinctNames};
+ghost use Rattle.universe_parts.specs.Parts.{HaveDistinctNames};
 
 use crate::sentences::Sentences;
 use hints::{idle_inputs, providers_of};
@@ -138,6 +138,7 @@ pub(crate) fn read_asked<'p, 'a, S: Shelf>(
         status_file,
         indices,
         prefs,
+        None,
         text.as_slice(),
     );
     tell_unknown(alloc, indices, text.as_slice(), &answer, told)?;

@@ -11,7 +11,7 @@ use Rattle.refutation.specs.Premise.{BreaksAnother, ConflictsWithOther, IsEither
 use Rattle.refutation.specs.declared.literal.Literal.{Literal}
 use Rattle.refutation.specs.declared.line.Premise.{Premise}
 use Rattle.refutation.specs.declared.line.Premise.TheVariants as premise
-use Rattle.universe.specs.Universe.{packages_of}
+use Rattle.universe_parts.specs.Parts.{packages_of}
 use Rattle.encode.specs.Against.{IsAgainstBy, IsAgainstEach, premise_against}
 use Rattle.encode.specs.Growing.{IsAgainst, IsAgainstOf, IsOfFirst, PkgIsAt}
 use Rattle.encode.specs.declared.against.Against.{Against}

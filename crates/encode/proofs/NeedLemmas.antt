@@ -14,7 +14,7 @@ use Rattle.encode.specs.Growing.{IsDependsOf, IsNeed, IsNeedOf, IsOfFirst, IsPre
 use Rattle.encode.specs.Numbers.{IsOutOrMatching}
 use Rattle.encode.proofs.NumberLemmas.{none_in}
 use Rattle.encode.proofs.PairLemmas.{at_number, at_place, has_pkg, item_there, within_pairs}
-use Rattle.universe.specs.Universe.{packages_of}
+use Rattle.universe_parts.specs.Parts.{packages_of}
 use mathlib.Core.Logic.{inl, inr}
 
 -- that a pair has a clause in a field, and the literals that the clause says

@@ -16,7 +16,7 @@ use Rattle.rules.specs.Universe.{Pair, Universe}
 use Rattle.index.specs.Providers.{IsProviderAt, plain_atom}
 use Rattle.refutation.specs.Clause.{item_at}
 use Rattle.refutation.specs.Premise.{PairHas}
-use Rattle.universe.specs.Universe.{packages_of}
+use Rattle.universe_parts.specs.Parts.{packages_of}
 use Rattle.encode.specs.Numbers.{AreNumbersOf, IsNumberAt, is_of_other}
 use mathlib.Core.Logic.{inl, inr}
 

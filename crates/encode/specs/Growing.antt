@@ -3,7 +3,7 @@ use Rattle.std.specs.Prelude.{◌≡◌, ◌↔◌, ◌⊎◌, ⊤, ℕ, ◌<◌
 use Rattle.std.specs.List.{AllZip, Contains, slice_get}
 use Rattle.rules.specs.Package.{Pkg}
 use Rattle.rules.specs.Universe.{Universe}
-use Rattle.universe.specs.Universe.{packages_of}
+use Rattle.universe_parts.specs.Parts.{packages_of}
 use Rattle.refutation.specs.declared.line.Premise.{Premise}
 use Rattle.refutation.specs.declared.line.Premise.TheVariants as premise
 use Rattle.encode.specs.Encoding.{Encoding, IsClauseOf}

@@ -4,7 +4,7 @@ ghost use Rattle.std.specs.Prelude.{◌≡◌, ◌↔◌, ◌⊎◌, ◌+◌, �
 ghost use Rattle.std.specs.List.{Any, Contains, slice_get};
 ghost use Rattle.std.specs.Option.{option_copied};
 ghost use Rattle.index.specs.Providers.{IsProviderAt};
-ghost use Rattle.universe.specs.Universe.{packages_of};
+ghost use Rattle.universe_parts.specs.Parts.{packages_of};
 ghost use Rattle.encode.specs.Numbers.{AreNumbersOf, IsAsked, IsNumberAt};
 
 use crate::preferences::Preferences;
@@ -28,7 +28,7 @@ pub(crate) struct Facts<'u, 'w, 'p, 'a> {
 impl<'u, 'w, 'p, 'a> Model for Facts<'u, 'w, 'p, 'a> {
     ghost use Rattle.std.specs.Prelude.{◌≡◌, map};
     ghost use Rattle.rules.specs.Universe.{Universe as UniverseValue};
-    ghost use Rattle.universe.specs.Universe.{packages_of};
+    ghost use Rattle.universe_parts.specs.Parts.{packages_of};
 
     ghost Value = { UniverseValue };
 

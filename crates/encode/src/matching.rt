@@ -4,7 +4,7 @@ ghost use Rattle.std.specs.Prelude.{◌≡◌, ◌≢◌, ◌↔◌, ◌⊎◌, 
 ghost use Rattle.std.specs.List.{Any, Contains, filter};
 ghost use Rattle.rules.specs.Package.{Matches, MatchesSome};
 ghost use Rattle.refutation.specs.Premise.{PairHas};
-ghost use Rattle.universe.specs.Universe.{packages_of};
+ghost use Rattle.universe_parts.specs.Parts.{packages_of};
 ghost use Rattle.providers.specs.Matching.{IsMatchAt};
 ghost use Rattle.encode.specs.Numbers.{AreNumbersOf, is_of_other};
 

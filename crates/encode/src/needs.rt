@@ -4,7 +4,7 @@ ghost use Rattle.std.specs.Prelude.{◌≡◌, ◌+◌, Some, OnOk};
 ghost use Rattle.std.specs.List.{slice_get};
 ghost use Rattle.refutation.specs.Premise.{IsPremise};
 ghost use Rattle.refutation.specs.declared.line.Premise.TheVariants as premise;
-ghost use Rattle.universe.specs.Universe.{packages_of};
+ghost use Rattle.universe_parts.specs.Parts.{packages_of};
 ghost use Rattle.encode.specs.Growing.{Grows, IsDependsOf, IsNeed, IsNeedOf, IsPreDependsOf, PkgIsAt};
 
 use crate::basis::Basis;

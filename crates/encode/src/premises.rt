@@ -3,7 +3,7 @@
 
 ghost use Rattle.std.specs.Prelude.{◌≡◌, IfOk, OnOk, length, map};
 ghost use Rattle.refutation.specs.Premise.{IsPremise};
-ghost use Rattle.universe.specs.Universe.{packages_of};
+ghost use Rattle.universe_parts.specs.Parts.{packages_of};
 ghost use Rattle.encode.specs.Encoding.{IsEncoding};
 ghost use Rattle.encode.specs.Growing.{Grows};
 

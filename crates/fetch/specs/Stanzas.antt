@@ -4,7 +4,7 @@ use Rattle.std.specs.List.{All, AllZip, Any, slice_get}
 use Rattle.std.specs.Option.{option_and_then}
 use Rattle.rules.specs.Step.{IndexPackage}
 use Rattle.rules.specs.Universe.{Pair}
-use Rattle.universe.specs.Universe.{numbered}
+use Rattle.universe_parts.specs.Parts.{numbered}
 use Rattle.fetch.specs.Fetched.{IsFetched, IsGone, Items, items_in}
 
 -- what is there of a pair: its stanza as it was read at first, if the indices have one, and the bytes of that stanza once they were fetched

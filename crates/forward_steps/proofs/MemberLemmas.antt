@@ -9,7 +9,7 @@ use Rattle.rules.specs.Minimal.{pkg_at}
 use Rattle.rules.specs.Package.{Pkg}
 use Rattle.rules.specs.Universe.{Pair, Universe}
 use Rattle.rules.proofs.Rising.{pairs_head, pairs_tail}
-use Rattle.universe.specs.Universe.{packages_of}
+use Rattle.universe_parts.specs.Parts.{packages_of}
 use Rattle.forward_steps.specs.Selection.{IsOneEach, bare, chosen, member_at, with_stanza}
 
 -- the name of a member

@@ -13,8 +13,8 @@ use Rattle.rules.specs.Sound.{HasMember, HasVersion}
 use Rattle.rules.specs.State.{is_present_state, is_unconfigured_state}
 use Rattle.rules.specs.Universe.{IsOf, Pair}
 use Rattle.rules.proofs.EndLemmas.{both_true}
-use Rattle.universe.specs.FindLaws.{find-none, find-some}
-use Rattle.universe.specs.Universe.{packages_of}
+use Rattle.universe_parts.specs.FindLaws.{find-none, find-some}
+use Rattle.universe_parts.specs.Parts.{packages_of}
 use Rattle.forward_steps.specs.Selection.{IsOneEach, is_leaving, is_member_version, is_waiting, member_of}
 use Rattle.forward_steps.proofs.StandingLemmas.{of_from_test, test_from_of, the_only}
 

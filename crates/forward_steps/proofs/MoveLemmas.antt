@@ -16,7 +16,7 @@ use Rattle.rules.specs.declared.step.Rule.TheVariants as rule
 use Rattle.rules.specs.declared.step.Step.{Step}
 use Rattle.rules.specs.declared.step.Step.TheVariants as step
 use Rattle.rules.proofs.QuietLemmas.{the_record}
-use Rattle.universe.specs.Universe.{packages_of}
+use Rattle.universe_parts.specs.Parts.{packages_of}
 use Rattle.forward_steps.specs.Door.{CannotPurge, CannotRemove, CannotUnpack, Moves, NoPartPasses, NoneConfigured, NoneRemoved}
 use Rattle.forward_steps.specs.Group.{IsGroupOf}
 use Rattle.forward_steps.specs.Forward.{IsAtRest, IsForward, IsOfSelected}

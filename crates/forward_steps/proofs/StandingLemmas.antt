@@ -20,7 +20,7 @@ use Rattle.rules.specs.Verdict.{IsBuiltOn}
 use Rattle.rules.specs.Version.{SameVersion, version_cmp}
 use Rattle.rules.specs.VersionOrderLaws.{same_version_equivalence}
 use Rattle.rules.proofs.EndLemmas.{both_true}
-use Rattle.universe.specs.FindLaws.{find-some}
+use Rattle.universe_parts.specs.FindLaws.{find-some}
 use Rattle.forward_steps.specs.Work.{is_standing}
 
 -- an order that passes the test is equality

@@ -13,7 +13,7 @@ use Rattle.rules.specs.declared.goal.Goal.{Goal}
 use Rattle.rules.specs.declared.goal.Goal.TheVariants as goal
 use Rattle.rules.specs.declared.step.Step.{Step}
 use Rattle.rules.specs.declared.step.Step.TheVariants as step
-use Rattle.universe.specs.Universe.{packages_of}
+use Rattle.universe_parts.specs.Parts.{packages_of}
 use Rattle.forward_steps.specs.Forward.{IsForward}
 use Rattle.forward_steps.specs.Selection.{IsOneEach}
 use Rattle.forward_steps.specs.Work.{work_left}

@@ -10,7 +10,7 @@ use Rattle.rules.specs.Package.{Pkg}
 use Rattle.rules.specs.State.{is_present_state, is_unconfigured_state}
 use Rattle.rules.specs.Step.{no_relations}
 use Rattle.rules.specs.Universe.{Pair, Universe, listed_of}
-use Rattle.universe.specs.Universe.{numbered}
+use Rattle.universe_parts.specs.Parts.{numbered}
 
 -- the packages of the pairs of these numbers, counted from 1
 abbrev pub chosen : Universe → List ℕ → List Pkg

@@ -4,7 +4,7 @@ ghost use Rattle.std.specs.Prelude.{◌≡◌, IfOk, IfSome, map};
 ghost use Rattle.std.specs.List.{Contains, filter_map};
 ghost use Rattle.std.specs.Option.{option_copied};
 ghost use Rattle.forward_steps.specs.Selection.{IsOneEach, chosen, is_member_version, member_at, member_of, with_stanza};
-ghost use Rattle.universe.specs.Universe.{packages_of};
+ghost use Rattle.universe_parts.specs.Parts.{packages_of};
 
 use crate::rank::ranks_of;
 use debversion::Version;

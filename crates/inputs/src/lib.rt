@@ -22,7 +22,7 @@ pub use inputs::{Inputs, MemoryShelf};
 pub use laws::{a_meaning_is_not_refused, texts_have_one_meaning};
 pub use preferences::read_preferences;
 pub use refusal::{Fault, Input, Refusal, refused_at};
-pub use request::{Requested, read_requested, read_universe, requested_in};
+pub use request::{Requested, listed_in, read_requested, read_universe, requested_in};
 pub use settings::Settings;
 pub use shelf::{Part, ReadError, Shelf};
 pub use sources::{read_sources, read_sources_text};

@@ -1,5 +1,6 @@
 //! The request, and the universe that it is answered from.
-ghost use Rattle.std.specs.Prelude.{◌≡◌, ◌≢◌, ◌<◌, ◌^◌, IfErr, IfOk, Ok, Some, length, map};
+ghost use Rattle.std.specs.Prelude.{◌≡◌, ◌≢◌, ◌<◌, ◌^◌, IfErr, IfOk, IfSome, Ok, Some, length, map};
+ghost use Rattle.std.specs.Option.{option_copied};
 ghost use Rattle.candidates.specs.Inputs.{indices_of, inputs_of};
 ghost use Rattle.rules.specs.Available.{Request as RequestOf, all_listed};
 ghost use Rattle.rules.specs.Database.{HasDistinctNames};
@@ -8,8 +9,9 @@ ghost use Rattle.rules.specs.Names.{HasListedNames, HasNames, HasPairNames};
 ghost use Rattle.rules.specs.Universe.{IsUniverse};
 ghost use Rattle.rules.specs.Verdict.{IsBuiltOn};
 ghost use Rattle.status_text.specs.Slot.{slot_records};
-ghost use Rattle.universe.specs.Universe.{HaveDistinctNames};
-ghost use Rattle.universe_build.specs.Error.{IsBuilt};
+ghost use Rattle.universe_parts.specs.Parts.{HaveDistinctNames};
+ghost use Rattle.universe_build.specs.Error.{IsBuilt, IsUniverseFault};
+ghost use Rattle.universe_build.specs.Listing.{IsListing};
 ghost use Rattle.universe_request.specs.Request as Read;
 ghost use Rattle.inputs.specs.Before.{AreRead};
 ghost use Rattle.inputs.specs.Counting.{CountsRead};
@@ -27,9 +29,9 @@ use index::Index;
 use pins::Prefs;
 use rules::universe_is_built;
 use status_text::{StatusFile, StatusRecord};
-use std::alloc::Global;
+use std::alloc::{AllocError, Global};
 use universe::Universe;
-use universe_build::{UniverseError, build};
+use universe_build::{Listing, UniverseError, build};
 use universe_request::{Request, RequestError};
 
 /// What a request is answered from, and how its answer is written.
@@ -54,30 +56,58 @@ fn request_in(alloc: Global, text: &[u8], arch: &[u8]) -> Result<Request, Fault>
     }
 }
 
-// Builds the universe of the request.
-fn built<'p, 'a>(
+// The universe of the request: what is listed with its goals, where there is a listing that covers it, and else one of its own.
+fn lent_or_built<'p, 'a>(
     alloc: Global,
     start: &[&StatusRecord<'a>],
     indices: &'p [Index<'a>],
     prefs: &Prefs,
+    listing: Option<&Listing<'_, 'p, 'a>>,
     request: Request,
-) -> Result<Universe<'p, 'a>, Fault>
-    requires { HasDistinctNames (records_of (map (λ r. r.now) start.now)) }
+) -> Result<Universe<'p, 'a>, UniverseError>
+    requires distinct { HasDistinctNames (records_of (map (λ r. r.now) start.now)) }
+    requires listed { IfSome (option_copied listing)
+        (IsListing (records_of (map (λ r. r.now) start.now)) (indices_of indices.now) prefs.now) }
     ensures ok { IfOk result (λ u.
         IsBuilt (records_of (map (λ r. r.now) start.now)) (indices_of indices.now) prefs.now request.goals request.asks_all_versions u) }
-    ensures err { IfErr result (λ f. OrMemory
-        (IsBuildFault (records_of (map (λ r. r.now) start.now)) (indices_of indices.now) prefs.now request) f) }
-    ensures known { IfErr result (λ f. f ≢ fault.Read) }
+    ensures err { IfErr result (λ e.
+        IsUniverseFault (records_of (map (λ r. r.now) start.now)) (indices_of indices.now) prefs.now request.goals request.asks_all_versions e) }
 {
     let asks_all_versions = request.asks_all_versions();
-    match build(
+    if let Some(listing) = listing {
+        if listing.asks_all_versions() == asks_all_versions && listing.covers(request.as_slice()) {
+            return listing.universe(alloc, request.into_vec());
+        }
+    }
+    build(
         alloc,
         start,
         indices,
         prefs,
         request.into_vec(),
         asks_all_versions,
-    ) {
+    )
+}
+
+// Builds the universe of the request.
+fn built<'p, 'a>(
+    alloc: Global,
+    start: &[&StatusRecord<'a>],
+    indices: &'p [Index<'a>],
+    prefs: &Prefs,
+    listing: Option<&Listing<'_, 'p, 'a>>,
+    request: Request,
+) -> Result<Universe<'p, 'a>, Fault>
+    requires distinct { HasDistinctNames (records_of (map (λ r. r.now) start.now)) }
+    requires listed { IfSome (option_copied listing)
+        (IsListing (records_of (map (λ r. r.now) start.now)) (indices_of indices.now) prefs.now) }
+    ensures ok { IfOk result (λ u.
+        IsBuilt (records_of (map (λ r. r.now) start.now)) (indices_of indices.now) prefs.now request.goals request.asks_all_versions u) }
+    ensures err { IfErr result (λ f. OrMemory
+        (IsBuildFault (records_of (map (λ r. r.now) start.now)) (indices_of indices.now) prefs.now request) f) }
+    ensures known { IfErr result (λ f. f ≢ fault.Read) }
+{
+    match lent_or_built(alloc, start, indices, prefs, listing, request) {
         Ok(universe) => Ok(universe),
         Err(UniverseError::UnknownName(line)) => Err(Fault::UnknownName(line)),
         Err(UniverseError::TooLarge) => Err(Fault::TooLarge),
@@ -91,10 +121,13 @@ fn universe_in<'p, 'a>(
     start: &[&StatusRecord<'a>],
     indices: &'p [Index<'a>],
     prefs: &Prefs,
+    listing: Option<&Listing<'_, 'p, 'a>>,
     text: &[u8],
     arch: &[u8],
 ) -> Result<Requested<'p, 'a>, Fault>
-    requires { HasDistinctNames (records_of (map (λ r. r.now) start.now)) }
+    requires distinct { HasDistinctNames (records_of (map (λ r. r.now) start.now)) }
+    requires listed { IfSome (option_copied listing)
+        (IsListing (records_of (map (λ r. r.now) start.now)) (indices_of indices.now) prefs.now) }
     ensures ok { IfOk result (λ found. (asked : Read.ReadRequest)
         × IsRequested arch.now (Some text.now) (records_of (map (λ r. r.now) start.now)) (indices_of indices.now) prefs.now asked found.universe
         × (found.asks_all_versions ≡ asked.asks_all_versions)) }
@@ -104,7 +137,7 @@ fn universe_in<'p, 'a>(
 {
     let request = request_in(alloc, text, arch)?;
     let asks_all_versions = request.asks_all_versions();
-    let universe = built(alloc, start, indices, prefs, request)?;
+    let universe = built(alloc, start, indices, prefs, listing, request)?;
     Ok(Requested {
         universe,
         asks_all_versions,
@@ -120,16 +153,35 @@ fn packages_are_named(indices: &[Index<'_>])
     }
 }
 
+/// What is listed of what is read before a request, for all versions or not: `requested_in` answers many requests by it. Memory alone
+/// can fail. It costs what `Listing::new` does.
+pub fn listed_in<'s, 'p, 'a>(
+    alloc: Global,
+    status_file: &'s StatusFile<'a>,
+    indices: &'p [Index<'a>],
+    prefs: &Prefs,
+    asks_all_versions: bool,
+) -> Result<Listing<'s, 'p, 'a>, AllocError>
+    ensures { IfOk result (IsListing (slot_records status_file.now.slots) (indices_of indices.now) prefs.now) }
+{
+    let records = status_file.records(alloc)?;
+    Listing::new(alloc, records.as_slice(), indices, prefs, asks_all_versions)
+}
+
 /// The universe that the request with this text is answered from, over what the texts before it are read as, and whether it asks for
-/// all versions. Linear in the text, and at the cost of `universe_build::build`.
+/// all versions. Linear in the text, and at the cost of `Listing::universe` where there is a listing of what is read before that
+/// covers the request, and else of `universe_build::build`.
 pub fn requested_in<'p, 'a>(
     alloc: Global,
     settings: &Settings<'_>,
     status_file: &StatusFile<'a>,
     indices: &'p [Index<'a>],
     prefs: &Prefs,
+    listing: Option<&Listing<'_, 'p, 'a>>,
     text: &[u8],
 ) -> Result<Requested<'p, 'a>, Refusal>
+    requires listed { IfSome (option_copied listing)
+        (IsListing (slot_records status_file.now.slots) (indices_of indices.now) prefs.now) }
     ensures ok { (at : Shelved) → at.request ≡ Some text.now
         → AreRead (texts_of settings.now at) (slot_records status_file.now.slots) (indices_of indices.now) prefs.now
         → IfOk result (λ found.
@@ -155,6 +207,7 @@ pub fn requested_in<'p, 'a>(
         records.as_slice(),
         indices,
         prefs,
+        listing,
         text,
         settings.arch,
     ) {
@@ -197,6 +250,7 @@ pub fn read_requested<'p, 'a, S: Shelf>(
         status_file,
         indices,
         prefs,
+        None,
         text.as_slice(),
     )
 }

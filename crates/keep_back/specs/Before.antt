@@ -6,6 +6,7 @@ use Rattle.cli_engine.specs.declared.solve.Answered.{Answered}
 use Rattle.inputs.specs.Before.{AreRead}
 use Rattle.inputs.specs.Texts.{Shelved, Texts, texts_of}
 use Rattle.status_text.specs.Slot.{slot_records}
+use Rattle.universe_build.specs.Listing.{IsListing, Listing}
 use Rattle.keep_back.specs.KeptBack.{asking}
 use Rattle.keep_back.specs.declared.before.Before.{Before}
 
@@ -17,6 +18,11 @@ texts_for before at = texts_of before.settings.now at
 abbrev pub AreReadAs : Before → Shelved → Type 0
 AreReadAs before at =
     AreRead (texts_for before at) (slot_records before.status_file.now.slots) (indices_of before.indices.now) before.prefs.now
+
+-- the listing is that of what is read
+abbrev pub IsListed : Before → Listing → Type 0
+IsListed before listing =
+    IsListing (slot_records before.status_file.now.slots) (indices_of before.indices.now) before.prefs.now listing
 
 -- from whatever texts this is read, the answer is true of them with this request
 abbrev pub IsAnswerTo : Before → ℕ → List ℕ → Answered → Type 0

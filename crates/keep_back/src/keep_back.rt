@@ -8,7 +8,7 @@ ghost use Rattle.inputs.specs.Inputs.{shelved};
 ghost use Rattle.inputs.specs.Texts.{Shelved, texts_of};
 ghost use Rattle.inputs.specs.declared.refusal.Fault.TheVariants as fault;
 ghost use Rattle.status_text.specs.Slot.{slot_records};
-ghost use Rattle.keep_back.specs.Before.{AreReadAs, IsAnswerTo, texts_for};
+ghost use Rattle.keep_back.specs.Before.{AreReadAs, IsAnswerTo, IsListed, texts_for};
 ghost use Rattle.keep_back.specs.Further.{IsFurther, IsFurtherRefusal, IsKeptFor, IsLessBy, IsRefusalFor, IsRefusedWith, IsRest, IsRestRefusal, IsStep};
 ghost use Rattle.keep_back.specs.KeptBack.{IsKeptBack, IsKeptRefusal};
 ghost use Rattle.keep_back.specs.Reason.{IsWithin};
@@ -23,12 +23,13 @@ use crate::round::{Round, first_round, later_round};
 use cli_engine::{Answered, Sentences, tell_idle_inputs};
 use index::KeptIndex;
 use inputs::{
-    Input, Inputs, MemoryShelf, Part, Refusal, Settings, Shelf, lend_indices, read_listed,
-    read_part, read_preferences, read_status, read_status_file,
+    Input, Inputs, MemoryShelf, Part, Refusal, Settings, Shelf, lend_indices, listed_in,
+    read_listed, read_part, read_preferences, read_status, read_status_file,
 };
 use rules::{Items, Release};
 use status_text::StatusFile;
 use std::alloc::{AllocError, Global};
+use universe_build::Listing;
 use wishes::{Wish, text_of};
 
 /// What is answered to as much of a request as can be.
@@ -64,13 +65,15 @@ fn leave_out_if(
 }
 
 // The answer to what is left, or without one it is refuted and a wish of it is left out.
-fn step(
+fn step<'k, 'a>(
     alloc: Global,
-    before: &Before<'_, '_, '_, '_, '_, '_>,
+    before: &Before<'_, '_, 'k, '_, '_, 'a>,
+    listing: &Listing<'_, 'k, 'a>,
     left: &mut Left,
     limit: u32,
     told: &mut Sentences,
 ) -> Result<Option<Answered>, Refusal>
+    requires listed { IsListed before.now listing.now }
     ensures left { IfOk result (IsStep before.now limit left.old left.new) }
     ensures refused { (at : Shelved) → AreReadAs before.now at
         → IfErr result (IsRefusedWith before.now at (lines_in left.old.wishes.items)) }
@@ -81,6 +84,7 @@ fn step(
     let Round { answered, reason } = later_round(
         alloc,
         before,
+        listing,
         text.as_slice(),
         left.wishes.as_slice(),
         limit,
@@ -91,13 +95,15 @@ fn step(
 }
 
 // The answer to what is left, of which no wish is left out.
-fn last(
+fn last<'k, 'a>(
     alloc: Global,
-    before: &Before<'_, '_, '_, '_, '_, '_>,
+    before: &Before<'_, '_, 'k, '_, '_, 'a>,
+    listing: &Listing<'_, 'k, 'a>,
     left: &Left,
     limit: u32,
     told: &mut Sentences,
 ) -> Result<Answered, Refusal>
+    requires listed { IsListed before.now listing.now }
     ensures answer { IfOk result (IsAnswerTo before.now limit (Lines.text_of (lines_in left.now.wishes.items))) }
     ensures refused { (at : Shelved) → AreReadAs before.now at
         → IfErr result (IsRefusedWith before.now at (lines_in left.now.wishes.items)) }
@@ -105,18 +111,28 @@ fn last(
     ensures unasked { told.old.wanted ≡ false → told.new ≡ told.old }
 {
     let text = text_of(alloc, left.wishes.as_slice())?;
-    let Round { answered, .. } = later_round(alloc, before, text.as_slice(), &[], limit, told)?;
+    let Round { answered, .. } = later_round(
+        alloc,
+        before,
+        listing,
+        text.as_slice(),
+        &[],
+        limit,
+        told,
+    )?;
     Ok(answered)
 }
 
 // The answer to what is left once no more is left out. There are no more steps than wishes.
-fn rounds(
+fn rounds<'k, 'a>(
     alloc: Global,
-    before: &Before<'_, '_, '_, '_, '_, '_>,
+    before: &Before<'_, '_, 'k, '_, '_, 'a>,
+    listing: &Listing<'_, 'k, 'a>,
     left: &mut Left,
     limit: u32,
     told: &mut Sentences,
 ) -> Result<Answered, Refusal>
+    requires listed { IsListed before.now listing.now }
     ensures left { IfOk result (λ _. IsFurther before.now left.old left.new) }
     ensures answer { IfOk result (IsAnswerTo before.now limit (Lines.text_of (lines_in left.new.wishes.items))) }
     ensures refused { (at : Shelved) → AreReadAs before.now at → IfErr result (IsFurtherRefusal before.now at left.old) }
@@ -124,11 +140,11 @@ fn rounds(
     ensures unasked { told.old.wanted ≡ false → told.new ≡ told.old }
 {
     for _ in 0..left.wishes.len() {
-        if let Some(answered) = step(alloc, before, left, limit, told)? {
+        if let Some(answered) = step(alloc, before, listing, left, limit, told)? {
             return Ok(answered);
         }
     }
-    last(alloc, before, left, limit, told)
+    last(alloc, before, listing, left, limit, told)
 }
 
 // The whole request with this text, and what is answered to it.
@@ -169,10 +185,11 @@ fn rest(alloc: Global, left: Left, answered: Answered) -> Result<KeptBack, Alloc
     })
 }
 
-// Leaves out the wish of the reason and then others, until the rest is answered.
+// Leaves out the wish of the reason and then others, until the rest is answered. All that is left is answered over one listing.
 fn keep_rest(
     alloc: Global,
     before: &Before<'_, '_, '_, '_, '_, '_>,
+    asks_all_versions: bool,
     wishes: Vec<Wish>,
     reason: &Reason,
     limit: u32,
@@ -188,7 +205,14 @@ fn keep_rest(
 {
     let mut left = Left::new(alloc, wishes);
     left.leave_out(reason)?;
-    let answered = rounds(alloc, before, &mut left, limit, told)?;
+    let listing = listed_in(
+        alloc,
+        before.status_file,
+        before.indices,
+        before.prefs,
+        asks_all_versions,
+    )?;
+    let answered = rounds(alloc, before, &listing, &mut left, limit, told)?;
     let kept = rest(alloc, left, answered)?;
     Ok(kept)
 }
@@ -215,7 +239,15 @@ fn keep_for(
 {
     match reason {
         None => Ok(whole(alloc, text, answered)),
-        Some(reason) => keep_rest(alloc, before, wishes, reason, limit, told),
+        Some(reason) => keep_rest(
+            alloc,
+            before,
+            answered.asks_all_versions,
+            wishes,
+            reason,
+            limit,
+            told,
+        ),
     }
 }
 

@@ -1,7 +1,7 @@
 // Which goal of a core is wanted least, and what is told where it is left out.
 
 ghost use Rattle.std.specs.Prelude.{◌^◌, ◌<◌, IfOk, length};
-ghost use Rattle.universe.specs.Universe.{HaveDistinctNames};
+ghost use Rattle.universe_parts.specs.Parts.{HaveDistinctNames};
 ghost use Rattle.keep_back.specs.Reason.{IsReasonOf, IsWithin};
 
 use debversion::Version;
@@ -250,7 +250,7 @@ fn reason_in(
     requires distinct { HaveDistinctNames universe.now.starts }
     ensures { IfOk result (IsWithin (length wishes.now)) }
 {
-    let premises = Premises::new(alloc, universe)?;
+    let premises = Premises::new(alloc, universe);
     let core = core(&premises, refutation)?;
     let Some(place) = least_wanted(&premises, universe, &core, wishes)? else {
         return Ok(None);

@@ -1,6 +1,7 @@
 // One request of those that are asked one after the other.
 
-ghost use Rattle.std.specs.Prelude.{◌≡◌, ◌≢◌, ◌^◌, ◌<◌, IfErr, IfOk, Some, false, length};
+ghost use Rattle.std.specs.Prelude.{◌≡◌, ◌≢◌, ◌^◌, ◌<◌, IfErr, IfOk, IfSome, Some, false, length};
+ghost use Rattle.std.specs.Option.{option_copied};
 ghost use Rattle.inputs.specs.Meaning.{DenotesAsked};
 ghost use Rattle.inputs.specs.Refused.{IsRefusal};
 ghost use Rattle.inputs.specs.Texts.{Shelved};
@@ -9,9 +10,9 @@ ghost use Rattle.solver.specs.Solvable.{IsSolvable};
 ghost use Rattle.solver.specs.Solved.{IsSolved};
 ghost use Rattle.rules.specs.Verdict.{IsBuiltOn};
 ghost use Rattle.status_text.specs.Slot.{slot_records};
-ghost use Rattle.universe.specs.Universe.{HaveDistinctNames};
+ghost use Rattle.universe_parts.specs.Parts.{HaveDistinctNames};
 ghost use Rattle.cli_engine.specs.Good.{IsGoodIfPlan};
-ghost use Rattle.keep_back.specs.Before.{AreReadAs, IsAnswerTo, texts_for};
+ghost use Rattle.keep_back.specs.Before.{AreReadAs, IsAnswerTo, IsListed, texts_for};
 ghost use Rattle.keep_back.specs.KeptBack.{AreLinesOf, asking};
 ghost use Rattle.keep_back.specs.Reason.{IsReasonOf, IsWithin};
 ghost use Rattle.wishes.specs.Spelled.{lines_in};
@@ -22,6 +23,7 @@ use cli_engine::{Answered, Refusal, Sentences, solve_over, tell_solved, tell_unk
 use inputs::{Requested, requested_in};
 use std::alloc::{AllocError, Global};
 use universe::Universe;
+use universe_build::Listing;
 use wishes::{Wish, wishes_of};
 
 /// What is answered to a request, and which wish of it is left out, if one is.
@@ -100,12 +102,15 @@ fn round_over<'a>(
     Ok(Round { answered, reason })
 }
 
-// What the request with this text asks for over what is read before it. It is refused as `inputs::requested_in` refuses it.
+// What the request with this text asks for over what is read before it, by its listing where there is one. It is refused as
+// `inputs::requested_in` refuses it.
 fn requested<'k, 'a>(
     alloc: Global,
     before: &Before<'_, '_, 'k, '_, '_, 'a>,
+    listing: Option<&Listing<'_, 'k, 'a>>,
     text: &[u8],
 ) -> Result<Requested<'k, 'a>, Refusal>
+    requires listed { IfSome (option_copied listing) (IsListed before.now) }
     ensures ok { (at : Shelved) → AreReadAs before.now at → IfOk result (λ found.
         DenotesAsked (asking text.now (texts_for before.now at)) found.universe (slot_records before.now.status_file.now.slots)
         found.asks_all_versions) }
@@ -123,6 +128,7 @@ fn requested<'k, 'a>(
         before.status_file,
         before.indices,
         before.prefs,
+        listing,
         text,
     ) {
         Ok(requested) => Ok(requested),
@@ -149,7 +155,7 @@ fn requested_telling<'k, 'a>(
     ensures known { IfErr result (λ refused. refused.fault ≢ fault.Read) }
     ensures unasked { told.old.wanted ≡ false → told.new ≡ told.old }
 {
-    let answer = requested(alloc, before, text);
+    let answer = requested(alloc, before, None, text);
     tell_unknown(alloc, before.indices, text, &answer, told)?;
     answer
 }
@@ -190,16 +196,18 @@ pub(crate) fn first_round(
     Ok((round, wishes))
 }
 
-/// What is left of a request, with this text: what is answered to it, and which of these wishes is left out. It is refused as
-/// `inputs::requested_in` refuses it, which for a text that is left is for its size alone.
-pub(crate) fn later_round(
+/// What is left of a request, with this text: what is answered to it, over the listing of what is read before it, and which of these
+/// wishes is left out. It is refused as `inputs::requested_in` refuses it, which for a text that is left is for its size alone.
+pub(crate) fn later_round<'k, 'a>(
     alloc: Global,
-    before: &Before<'_, '_, '_, '_, '_, '_>,
+    before: &Before<'_, '_, 'k, '_, '_, 'a>,
+    listing: &Listing<'_, 'k, 'a>,
     text: &[u8],
     wishes: &[Wish],
     limit: u32,
     told: &mut Sentences,
 ) -> Result<Round, Refusal>
+    requires listed { IsListed before.now listing.now }
     ensures answer { IfOk result (λ round. IsAnswerTo before.now limit text.now round.answered) }
     ensures within { IfOk result (λ round. IsWithin (length wishes.now) round.reason) }
     ensures refuted { IfOk result (λ round. IsReasonOf round.answered.solved round.reason) }
@@ -211,7 +219,7 @@ pub(crate) fn later_round(
     let Requested {
         universe,
         asks_all_versions,
-    } = requested(alloc, before, text)?;
+    } = requested(alloc, before, Some(listing), text)?;
     let round = round_over(
         alloc,
         before,

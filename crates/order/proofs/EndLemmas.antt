@@ -15,7 +15,7 @@ use Rattle.rules.specs.declared.step.Reason.{Reason}
 use Rattle.rules.specs.declared.step.Step.{Step}
 use Rattle.rules.specs.declared.step.Verdict.TheVariants as verdict
 use Rattle.plancheck_state.specs.InstalledLaws.{all_installed, installed_all}
-use Rattle.universe.specs.Universe.{packages_of}
+use Rattle.universe_parts.specs.Parts.{packages_of}
 use Rattle.forward_steps.specs.Door.{HasStanza}
 use Rattle.order.specs.Order.{InstalledAreSelected, IsWantedEnd}
 use Rattle.forward_steps.specs.Selection.{IsOneEach, is_member_version, member_at, with_stanza}

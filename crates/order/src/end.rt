@@ -5,7 +5,7 @@ ghost use Rattle.std.specs.List.{All, Any};
 ghost use Rattle.rules.specs.Database.{IsInstalled, installed_of, pkg_of};
 ghost use Rattle.rules.specs.Sound.{HasVersion};
 ghost use Rattle.rules.specs.Universe.{IsOf};
-ghost use Rattle.universe.specs.Universe.{packages_of};
+ghost use Rattle.universe_parts.specs.Parts.{packages_of};
 ghost use Rattle.forward_steps.specs.Door.{IsGround, IsReached, selected_in};
 ghost use Rattle.order.specs.Order.{InstalledAreSelected, IsWantedEnd};
 ghost use Rattle.forward_steps.specs.Selection.{IsOneEach, is_member_version};

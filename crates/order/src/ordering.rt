@@ -4,7 +4,7 @@ ghost use Rattle.std.specs.Prelude.{◌≡◌, IfOk};
 ghost use Rattle.std.specs.List.{All};
 ghost use Rattle.rules.specs.Database.{IsQuiet};
 ghost use Rattle.rules.specs.Verdict.{IsBuiltOn};
-ghost use Rattle.universe.specs.Universe.{packages_of};
+ghost use Rattle.universe_parts.specs.Parts.{packages_of};
 ghost use Rattle.forward_steps.specs.Door.{HasStanza, IsGround, IsReached, selected_in};
 ghost use Rattle.forward_steps.specs.Forward.{IsAtRest};
 ghost use Rattle.order.specs.Order.{IsOrder};

@@ -4,7 +4,7 @@ use Rattle.std.specs.List.{Contains, filter_map}
 use Rattle.std.specs.Option.{option_map}
 use Rattle.rules.specs.Package.{Pkg}
 use Rattle.rules.specs.Universe.{Universe}
-use Rattle.universe.specs.Universe.{numbered}
+use Rattle.universe_parts.specs.Parts.{numbered}
 
 -- the counting package of the pair of this number, if there is one
 abbrev pub pkg_of_number : Universe → ℕ → Option Pkg

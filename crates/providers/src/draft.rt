@@ -10,7 +10,7 @@ use relation::{Pkg, Provided};
 use std::alloc::{AllocError, Global};
 use std::marker::Model;
 use std::snapshot::Snapshot;
-use universe::{CountingProvides, Pair};
+use universe_parts::{CountingProvides, Pair};
 
 /// Packages, which contracts alone see, and what they offer by their own names and by items of Provides, in their order. The
 /// two stand apart, since packages come mostly in the order of their names.

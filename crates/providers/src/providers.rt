@@ -2,7 +2,7 @@
 ghost use Rattle.std.specs.Prelude.{◌≡◌, ◌↔◌, ◌++◌, ◌+◌, ◌*◌, ◌^◌, ◌<◌, ◌≤◌, ℕ, Contains, IfOk, length, map};
 ghost use Rattle.std.specs.List.Sorted.{IsStrictlyIncreasing};
 ghost use Rattle.index.specs.Providers.{IsProviderAt, providers_of};
-ghost use Rattle.universe.specs.Universe.{packages_of};
+ghost use Rattle.universe_parts.specs.Parts.{packages_of};
 ghost use Rattle.providers.specs.Matching.{HasToCompare, IsMatchAt};
 ghost use Rattle.providers.specs.Offers.{AreOrdered, item_offers_of, own_offers_of, versioned_of};
 ghost use Rattle.providers.specs.Range.{IsCounted};
@@ -18,7 +18,7 @@ use relation::{Atom, Pkg};
 use std::alloc::{AllocError, Global};
 use std::marker::Model;
 use std::snapshot::Snapshot;
-use universe::Universe;
+use universe_parts::Pairs;
 
 /// Packages, of which contracts alone know, and what they offer: in order, with a table of where the offers of each name
 /// stand. It borrows their texts.
@@ -57,16 +57,13 @@ fn draft_of<'a>(alloc: Global, packages: &[&Pkg<'a>]) -> Result<Draft<'a>, Alloc
 }
 
 // The packages of the pairs, and what they offer. The items that are read for it are let go before the next ones.
-fn draft_of_universe<'a>(
-    alloc: Global,
-    universe: &Universe<'_, 'a>,
-) -> Result<Draft<'a>, AllocError>
-    ensures packages { IfOk result (λ draft. draft.0 ≡ packages_of universe.now.pairs) }
+fn draft_of_pairs<'a>(alloc: Global, pairs: &Pairs<'_, 'a>) -> Result<Draft<'a>, AllocError>
+    ensures packages { IfOk result (λ draft. draft.0 ≡ packages_of pairs.now) }
     ensures own { IfOk result (λ draft. draft.1 ≡ own_offers_of draft.0) }
     ensures items { IfOk result (λ draft. draft.2 ≡ item_offers_of draft.0) }
 {
     let mut draft = Draft::new(alloc);
-    for pair in universe.pairs() {
+    for pair in pairs.as_slice() {
         draft.push_pair(alloc, pair)?;
     }
     Ok(draft)
@@ -115,15 +112,12 @@ impl<'a> Providers<'a> {
         Providers::of_draft(alloc, draft_of(alloc, packages)?)
     }
 
-    /// The packages of the pairs of the universe, in their order: the one at place 0 is that of the pair with the number 1.
-    /// Of one that doesn't stand, Provides alone is read. Memory alone can fail. It costs what `of_packages` does, and that.
-    pub fn of_universe(
-        alloc: Global,
-        universe: &Universe<'_, 'a>,
-    ) -> Result<Providers<'a>, AllocError>
-        ensures { IfOk result (λ providers. providers ≡ packages_of universe.now.pairs) }
+    /// The packages of the pairs, in their order: the one at place 0 is that of the first pair. Of one that doesn't stand,
+    /// Provides alone is read. Memory alone can fail. It costs what `of_packages` does, and that.
+    pub fn of_pairs(alloc: Global, pairs: &Pairs<'_, 'a>) -> Result<Providers<'a>, AllocError>
+        ensures { IfOk result (λ providers. providers ≡ packages_of pairs.now) }
     {
-        Providers::of_draft(alloc, draft_of_universe(alloc, universe)?)
+        Providers::of_draft(alloc, draft_of_pairs(alloc, pairs)?)
     }
 
     /// The positions in the list, counted from 0 and ascending, of the packages that match the name without a restriction:

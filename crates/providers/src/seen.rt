@@ -5,7 +5,7 @@ use index::IndexEntry;
 use relation::Pkg;
 use std::marker::Model;
 use std::snapshot::Snapshot;
-use universe::Pair;
+use universe_parts::Pair;
 
 /// A package that a contract can name, though no value of it is here: it was seen where it was read, or in the entry of an
 /// index that it can be read from.
@@ -18,7 +18,7 @@ pub(crate) struct SeenPkg<'a> {
 impl<'a> Model for SeenPkg<'a> {
     ghost use Rattle.std.specs.Option.{option_map};
     ghost use Rattle.rules.specs.Package.{Pkg as PkgValue};
-    ghost use Rattle.universe.specs.Pair.{counting_pkg};
+    ghost use Rattle.universe_parts.specs.Pair.{counting_pkg};
 
     ghost Value = { PkgValue };
 

@@ -3,7 +3,7 @@ use Rattle.std.proofs.Common.{◌≡◌, ℕ, zero, suc, ◌+◌, Bor, List, [],
 use Rattle.std.specs.Prelude.{slice_get}
 use Rattle.std.specs.Option.{option_copied}
 use Rattle.rules.specs.Universe.{Pair}
-use Rattle.universe.specs.Universe.{numbered}
+use Rattle.universe_parts.specs.Parts.{numbered}
 
 -- the pair that is lent at a place
 copied_at : (all : List (Bor Pair)) (place : ℕ) → option_copied (slice_get all place) ≡ slice_get (map (λ (pair : Bor Pair). pair.now) all) place

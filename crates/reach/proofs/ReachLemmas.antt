@@ -13,7 +13,7 @@ use Rattle.rules.specs.Package.{Atom, FitsByName, Matches, MatchesSome, Pkg}
 use Rattle.rules.specs.Universe.{Pair, Start, Universe}
 use Rattle.rules.specs.declared.goal.Goal.{Goal}
 use Rattle.rules.specs.declared.goal.Goal.TheVariants as goal
-use Rattle.universe.specs.Universe.{packages_of}
+use Rattle.universe_parts.specs.Parts.{packages_of}
 use Rattle.index.specs.Providers.{IsProviderAt, plain_atom}
 use Rattle.providers.specs.Matching.{IsMatchAt}
 use Rattle.reach.specs.Marks.{Extends, Found, IsOrdered, has}

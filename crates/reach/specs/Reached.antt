@@ -5,7 +5,7 @@ use Rattle.rules.specs.Package.{Pkg}
 use Rattle.rules.specs.Universe.{Universe}
 use Rattle.rules.specs.declared.goal.Goal.{Goal}
 use Rattle.rules.specs.declared.goal.Goal.TheVariants as goal
-use Rattle.universe.specs.Universe.{packages_of}
+use Rattle.universe_parts.specs.Parts.{packages_of}
 use Rattle.reach.specs.Marks.{has}
 
 -- the place of each package with the property is marked

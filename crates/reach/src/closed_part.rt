@@ -6,7 +6,7 @@ ghost use Rattle.std.specs.List.Sorted.{IsStrictlySortedBy};
 ghost use Rattle.rules.specs.Universe.{pair_cmp};
 ghost use Rattle.refutation.specs.Clause.{item_at};
 ghost use Rattle.part.specs.Part.{IsClosedPart, IsPart};
-ghost use Rattle.universe.specs.Universe.{packages_of};
+ghost use Rattle.universe_parts.specs.Parts.{packages_of};
 
 use crate::closing::reached_in;
 use crate::pairs_part::Part;
@@ -66,8 +66,8 @@ fn packages_of<'u, 'p, 'a>(
 
 /// The part of the universe that its request can reach: the pairs of each name that was present or that an install or upgrade
 /// goal names, and with a pair each that matches an atom of its Pre-Depends or Depends. More than 4,294,967,295 pairs are
-/// answered as want of memory, which alone can fail. Costs what `Providers::of_universe` costs, and is else linear in the
-/// pairs and in what the reached packages need.
+/// answered as want of memory, which alone can fail. What matches is found by the providers of the universe; linear in the pairs and
+/// in what the reached packages need.
 pub fn reach<'u, 'p, 'a>(
     alloc: Global,
     universe: &'u Universe<'p, 'a>,

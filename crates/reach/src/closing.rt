@@ -3,7 +3,7 @@
 ghost use Rattle.std.specs.Prelude.{◌≡◌, IfOk, OnOk, ℕ, length, true};
 ghost use Rattle.std.specs.List.{slice_get};
 ghost use Rattle.std.specs.Option.{option_copied};
-ghost use Rattle.universe.specs.Universe.{packages_of};
+ghost use Rattle.universe_parts.specs.Parts.{packages_of};
 ghost use Rattle.reach.specs.Marks.{Extends, IsOrdered, has};
 ghost use Rattle.reach.specs.Reached.{HasNeeds, HasReached};
 
@@ -72,9 +72,9 @@ pub(crate) fn reached_in(alloc: Global, universe: &Universe<'_, '_>) -> Result<M
     ensures long { IfOk result (λ found. length found.marks ≡ length universe.now.pairs) }
     ensures reached { IfOk result (λ found. HasReached universe.now found.marks) }
 {
-    let providers = Providers::of_universe(alloc, universe)?;
+    let providers = universe.providers();
     let mut marks = Marks::of_none(alloc, universe.pairs().len())?;
-    marks.mark_wanted(alloc, universe, &providers)?;
-    marks.close(alloc, universe, &providers)?;
+    marks.mark_wanted(alloc, universe, providers)?;
+    marks.close(alloc, universe, providers)?;
     Ok(marks)
 }

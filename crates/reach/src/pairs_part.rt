@@ -5,7 +5,7 @@ ghost use Rattle.std.specs.List.{slice_get};
 ghost use Rattle.std.specs.List.Sorted.{IsStrictlySortedBy};
 ghost use Rattle.std.specs.Option.{option_copied};
 ghost use Rattle.rules.specs.Universe.{candidate_of, pair_cmp, start_in};
-ghost use Rattle.universe.specs.Universe.{numbered, packages_of};
+ghost use Rattle.universe_parts.specs.Parts.{numbered, packages_of};
 
 use debversion::Version;
 use rules::Goal;
@@ -26,7 +26,7 @@ impl<'u, 'p, 'a> Model for Part<'u, 'p, 'a> {
     ghost use Rattle.std.specs.Prelude.{◌≡◌, map};
     ghost use Rattle.std.specs.List.Sorted.{IsStrictlySortedBy};
     ghost use Rattle.rules.specs.Universe.{Universe as UniverseValue, pair_cmp};
-    ghost use Rattle.universe.specs.Universe.{packages_of};
+    ghost use Rattle.universe_parts.specs.Parts.{packages_of};
 
     ghost Value = { UniverseValue };
 

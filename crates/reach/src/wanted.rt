@@ -4,7 +4,7 @@ ghost use Rattle.std.specs.Prelude.{◌≡◌, ◌↔◌, ⊤, IsTrue, MatchOpti
 ghost use Rattle.std.specs.List.{Any, slice_get};
 ghost use Rattle.std.specs.Option.{option_copied};
 ghost use Rattle.rules.specs.Minimal.{AsksFor, IsWanted, WasPresent};
-ghost use Rattle.universe.specs.Universe.{packages_of};
+ghost use Rattle.universe_parts.specs.Parts.{packages_of};
 ghost use Rattle.reach.specs.Marks.{Extends, has};
 ghost use Rattle.reach.specs.Reached.{HasAll, asked_by};
 

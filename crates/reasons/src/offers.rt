@@ -52,23 +52,39 @@ impl<'k, 'u, 'p, 'a, 'i> Teller<'k, 'u, 'p, 'a, 'i> {
         Ok(has_item(provides.items(), name))
     }
 
-    /// The numbers of the pairs of the name. Memory alone can fail. Linear in the pairs.
+    // Whether the pair at this place has the name.
+    fn is_named_at(&self, place: usize, name: &[u8]) -> bool {
+        match self.universe.pairs().get(place) {
+            None => false,
+            Some(pair) => pair.name() == name,
+        }
+    }
+
+    // Whether the pair at this place provides the name.
+    fn is_provider_at(&self, place: usize, name: &[u8]) -> Result<bool, AllocError> {
+        match self.universe.pairs().get(place) {
+            None => Ok(false),
+            Some(pair) => self.is_provider(pair, name),
+        }
+    }
+
+    /// The numbers of the pairs of the name. Memory alone can fail. Linear in the pairs that have or provide it.
     pub(crate) fn named(&self, name: &[u8]) -> Result<Vec<u32>, AllocError> {
         let mut numbers = Vec::new(self.alloc());
-        for (place, pair) in self.universe.pairs().iter().enumerate() {
-            if pair.name() == name {
+        for place in self.universe.providers().of(self.alloc(), name)? {
+            if self.is_named_at(place, name) {
                 push_place(&mut numbers, place)?;
             }
         }
         Ok(numbers)
     }
 
-    /// The numbers of the pairs that provide the name, whatever the version. Memory alone can fail. Linear in the pairs and in
-    /// what they provide.
+    /// The numbers of the pairs that provide the name, whatever the version. Memory alone can fail. Linear in the pairs that have
+    /// or provide it, and in what they provide.
     pub(crate) fn providing(&self, name: &[u8]) -> Result<Vec<u32>, AllocError> {
         let mut numbers = Vec::new(self.alloc());
-        for (place, pair) in self.universe.pairs().iter().enumerate() {
-            if self.is_provider(pair, name)? {
+        for place in self.universe.providers().of(self.alloc(), name)? {
+            if self.is_provider_at(place, name)? {
                 push_place(&mut numbers, place)?;
             }
         }

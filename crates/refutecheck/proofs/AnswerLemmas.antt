@@ -11,7 +11,7 @@ use Rattle.refutation.specs.Clause.{HasAt, IsListOf, item_at}
 use Rattle.refutation.specs.Premise.{PairHas, Selects}
 use Rattle.refutation.specs.declared.literal.Literal.{Literal}
 use Rattle.refutation.specs.declared.literal.Literal.TheVariants as literal
-use Rattle.universe.specs.Universe.{packages_of}
+use Rattle.universe_parts.specs.Parts.{packages_of}
 use Rattle.refutecheck.specs.Answer.{IsClauseWhere, IsNeedOf, IsOutOrMatching}
 use Rattle.refutecheck.proofs.PairLemmas.{has_at}
 use mathlib.Core.Logic.{inl, inr}

@@ -15,7 +15,7 @@ use Rattle.refutation.specs.Clause.{IsListOf, item_at}
 use Rattle.refutation.specs.Premise.{PairHas, PairsAre, Selects}
 use Rattle.refutation.specs.declared.literal.Literal.{Literal}
 use Rattle.refutation.specs.declared.literal.Literal.TheVariants as literal
-use Rattle.universe.specs.Universe.{packages_of}
+use Rattle.universe_parts.specs.Parts.{packages_of}
 use Rattle.refutecheck.specs.Sought.{IsSelectedAt}
 use mathlib.Core.Logic.{inl, inr}
 

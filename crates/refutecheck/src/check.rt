@@ -5,7 +5,7 @@ ghost use Rattle.std.specs.List.{AllZip, Contains};
 ghost use Rattle.refutation.specs.Following.{EndsFalse};
 ghost use Rattle.refutation.specs.Refutation.{IsGoodLine};
 ghost use Rattle.refutation.specs.declared.line.Line.{Line as LineValue};
-ghost use Rattle.universe.specs.Universe.{HaveDistinctNames};
+ghost use Rattle.universe_parts.specs.Parts.{HaveDistinctNames};
 ghost use Rattle.refutecheck.specs.Answer.{AreJudged, IsClauseOf, IsClauseWhere, IsLineAnswer, IsVerdict, Refutes};
 
 use crate::follow::follows;
@@ -144,7 +144,7 @@ pub fn check_refutation_by(
 
 /// The verdict on the refutation: yes exactly where every line is a premise of the universe or follows from the earlier
 /// lines that it hints at, and the last one's clause is empty (docs/FORMATS.md). A yes means that no selection of the
-/// pairs is acceptable. What the packages offer is sorted once, and none of them stays parsed; each line then costs what
+/// pairs is acceptable. What matches is found by the providers of the universe, and no package stays parsed; each line costs what
 /// its clause, or the clauses of its hints, have, and for a premise the packages that it names and those that have or
 /// provide its names, or a look-up where it was a line before. Memory alone can fail.
 pub fn check_refutation(
@@ -161,6 +161,6 @@ pub fn check_refutation(
     // where the answer is yes, no selection is acceptable
     ensures refutes { IfOk result (Refutes universe.now) }
 {
-    let premises = Premises::new(alloc, universe)?;
+    let premises = Premises::new(alloc, universe);
     check_refutation_by(&premises, refutation)
 }

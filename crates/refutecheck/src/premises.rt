@@ -8,12 +8,12 @@ ghost use Rattle.rules.specs.Universe.{candidate_of, start_in};
 ghost use Rattle.refutation.specs.Clause.{IsListOf, item_at};
 ghost use Rattle.refutation.specs.Premise.{PairHas, PairsAre, Selects};
 ghost use Rattle.refutation.specs.declared.literal.Literal.{Literal};
-ghost use Rattle.universe.specs.Universe.{HaveDistinctNames, packages_of};
+ghost use Rattle.universe_parts.specs.Parts.{HaveDistinctNames, packages_of};
 ghost use Rattle.refutecheck.specs.Sought.{IsSelectedAt, IsSought, is_no_remove};
 
 use crate::sought::{Sought, is_sought, name_of};
 use debversion::Version;
-use providers::{Providers, Ticks};
+use providers::Ticks;
 use refutation::Literal;
 use relation::Atom;
 use rules::{Goal, Items};
@@ -26,7 +26,6 @@ use universe::{CountingPkg, Pair, Start, Universe};
 pub struct Premises<'u, 'p, 'a> {
     alloc: Global,
     universe: &'u Universe<'p, 'a>,
-    providers: Providers<'a>,
     keeps: bool,
 }
 
@@ -34,15 +33,14 @@ impl<'u, 'p, 'a> Model for Premises<'u, 'p, 'a> {
     ghost use Rattle.std.specs.Prelude.{◌≡◌, ◌^◌, ◌<◌, length};
     ghost use Rattle.std.specs.List.{list_any};
     ghost use Rattle.rules.specs.Universe.{Universe as UniverseValue};
-    ghost use Rattle.universe.specs.Universe.{HaveDistinctNames, packages_of};
+    ghost use Rattle.universe_parts.specs.Parts.{HaveDistinctNames};
     ghost use Rattle.refutecheck.specs.Sought.{is_no_remove};
 
     ghost Value = { UniverseValue };
 
     ghost view = { λ p. p.universe.now };
 
-    ghost invariant = { λ p. (p.providers ≡ packages_of p.universe.now.pairs)
-        × (p.keeps ≡ list_any is_no_remove p.universe.now.goals)
+    ghost invariant = { λ p. (p.keeps ≡ list_any is_no_remove p.universe.now.goals)
         × (length p.universe.now.pairs < 2 ^ 32)
         × HaveDistinctNames p.universe.now.starts };
 }
@@ -62,23 +60,17 @@ fn has_no_remove(goals: &[Goal]) -> bool
 }
 
 impl<'u, 'p, 'a> Premises<'u, 'p, 'a> {
-    /// The premises of the universe. Memory alone can fail. About n log n comparisons of the n names that its packages have
-    /// and provide.
-    pub fn new(
-        alloc: Global,
-        universe: &'u Universe<'p, 'a>,
-    ) -> Result<Premises<'u, 'p, 'a>, AllocError>
+    /// The premises of the universe, whose providers they are found by. Linear in its goals.
+    pub fn new(alloc: Global, universe: &'u Universe<'p, 'a>) -> Premises<'u, 'p, 'a>
         requires few { length universe.now.pairs < 2 ^ 32 }
         requires distinct { HaveDistinctNames universe.now.starts }
-        ensures { IfOk result (λ premises. premises ≡ universe.now) }
+        ensures { result ≡ universe.now }
     {
-        let providers = Providers::of_universe(alloc, universe)?;
-        Ok(Premises {
+        Premises {
             alloc,
             universe,
-            providers,
             keeps: has_no_remove(universe.goals()),
-        })
+        }
     }
 
     /// The allocator that memory is taken from.
@@ -174,7 +166,7 @@ impl<'u, 'p, 'a> Premises<'u, 'p, 'a> {
         ensures { IfOk result (IsListOf (Selects self.now (IsSought sought.entry))) }
     {
         let mut literals = Vec::new(self.alloc);
-        let places = self.providers.of(self.alloc, name_of(sought))?;
+        let places = self.universe.providers().of(self.alloc, name_of(sought))?;
         self.push_places(&mut literals, places.as_slice(), sought)?;
         Ok(Items::new(literals))
     }
@@ -202,7 +194,10 @@ impl<'u, 'p, 'a> Premises<'u, 'p, 'a> {
             ⊎ Selects self.now (λ pkg. Matches pkg atom.now) found)) }
     {
         let mut ticks = Ticks::new();
-        let places = self.providers.matching(self.alloc, atom, &mut ticks)?;
+        let places = self
+            .universe
+            .providers()
+            .matching(self.alloc, atom, &mut ticks)?;
         self.push_all(literals, places.as_slice())?;
         Ok(())
     }

@@ -7,8 +7,8 @@ use Rattle.rules.specs.ElementLaws.{Any-elim, Any-intro, Contains-cons, Contains
 use Rattle.rules.specs.NamedLaws.{bytes_eq-same, bytes_eq-true}
 use Rattle.rules.specs.Universe.{Start, is_start_of}
 use Rattle.rules.proofs.Rising.{pairs_head, pairs_tail}
-use Rattle.universe.specs.FindLaws.{find-none, find-some}
-use Rattle.universe.specs.Universe.{HaveDistinctNames}
+use Rattle.universe_parts.specs.FindLaws.{find-none, find-some}
+use Rattle.universe_parts.specs.Parts.{HaveDistinctNames}
 use mathlib.Core.Logic.{inl, inr}
 
 -- the facts are about two names

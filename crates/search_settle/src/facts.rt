@@ -4,7 +4,7 @@ ghost use Rattle.std.specs.Prelude.{◌≡◌, ◌↔◌, IsTrue, MatchOption};
 ghost use Rattle.std.specs.Option.{option_copied};
 ghost use Rattle.rules.specs.Minimal.{IsWanted, Stood, WasPresent};
 ghost use Rattle.rules.specs.Version.{SameVersion};
-ghost use Rattle.universe.specs.Universe.{HaveDistinctNames};
+ghost use Rattle.universe_parts.specs.Parts.{HaveDistinctNames};
 ghost use Rattle.search_settle.specs.Asked.{asked_in};
 
 use crate::asked::Asked;

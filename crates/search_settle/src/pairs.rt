@@ -3,7 +3,7 @@
 ghost use Rattle.std.specs.Prelude.{◌≡◌, ◌++◌, ◌∷◌, [], Bool, false, IfOk, OnOk};
 ghost use Rattle.search_settle.specs.Encoded.{IsKnown};
 ghost use Rattle.search_settle.specs.Settled.{IsCovered};
-ghost use Rattle.universe.specs.Universe.{HaveDistinctNames};
+ghost use Rattle.universe_parts.specs.Parts.{HaveDistinctNames};
 
 use crate::asked::Asked;
 use crate::facts::{is_wanted, stood, was_present};

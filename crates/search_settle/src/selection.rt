@@ -5,7 +5,7 @@ ghost use Rattle.clauses.specs.Clause.{MakesAllTrue};
 ghost use Rattle.rules.specs.Minimal.{IsLocallyMinimal};
 ghost use Rattle.rules.specs.Sound.{IsAcceptable};
 ghost use Rattle.refutation.specs.Laws.{HasAscendingPairs, HasNeededPairs};
-ghost use Rattle.universe.specs.Universe.{HaveDistinctNames};
+ghost use Rattle.universe_parts.specs.Parts.{HaveDistinctNames};
 ghost use Rattle.encode.specs.Encoding.{IsEncoding};
 ghost use Rattle.refutation.specs.Selection.{selects};
 ghost use Rattle.search_settle.specs.Encoded.{StandingArePresent};

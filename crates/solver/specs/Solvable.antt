@@ -6,7 +6,7 @@ use Rattle.refutation.specs.Laws.{HasAscendingPairs, HasNeededPairs}
 use Rattle.rules.specs.Database.{Record}
 use Rattle.rules.specs.Universe.{Universe}
 use Rattle.rules.specs.Verdict.{IsBuiltOn}
-use Rattle.universe.specs.Universe.{HaveDistinctNames}
+use Rattle.universe_parts.specs.Parts.{HaveDistinctNames}
 
 -- the universe is built on the start and counts each pair by the record that stands, or else by the indices; pairs have numbers of
 -- 32 bits, ascend, and are there where they must be selected; no two facts are about one name; and names are package names

@@ -13,7 +13,7 @@ ghost use Rattle.rules.specs.Minimal.{IsLocallyMinimal};
 ghost use Rattle.rules.specs.Sound.{IsAcceptable};
 ghost use Rattle.search.specs.Found.{IsSelection};
 ghost use Rattle.search_settle.specs.Encoded.{StandingArePresent};
-ghost use Rattle.universe.specs.Universe.{HaveDistinctNames};
+ghost use Rattle.universe_parts.specs.Parts.{HaveDistinctNames};
 
 use encode::Encoding;
 use part::{list_is_lifted, part_has_needed_pairs, part_is_acceptable, part_is_minimal};

@@ -6,8 +6,9 @@ use plancheck_end::first_against;
 use plancheck_state::Records;
 use rules::{Goal, GoalLine, Reason};
 use std::alloc::{AllocError, Global};
+use std::rc::Rc;
 use std::test::Fail;
-use universe::{Candidate, Candidates, Pairs, Start, Starts, Universe};
+use universe::{Admitted, Candidate, Candidates, Pairs, Start, Starts, Universe};
 use universe_request::Request;
 
 // The candidates are in the order of their names.
@@ -35,7 +36,8 @@ pub(crate) fn universe_of<'p, 'a>(
 ) -> Result<Universe<'p, 'a>, Fail> {
     let candidates = candidates_two(alloc)?;
     let pairs = Pairs::new(Vec::new(alloc));
-    Ok(Universe::new(pairs, goals, starts_two(alloc)?, candidates))
+    let admitted = Admitted::new(alloc, pairs, starts_two(alloc)?, candidates)?;
+    Ok(Universe::new(Rc::new(alloc, admitted)?, goals))
 }
 
 fn goals_of(alloc: Global, lines: Vec<GoalLine>) -> Result<Vec<Goal>, AllocError> {

@@ -1,10 +1,9 @@
 //! What a universe is asked by name and by number. Who provides a name is counted by hand from Policy 7.5.
 use crate::packages::is_answered;
 use debversion::Version;
-use providers::Providers;
 use std::alloc::{AllocError, Global};
 use std::test::Fail;
-use universe::{Universe, lend_packages};
+use universe::Universe;
 
 const STATUS: &[u8] = b"\
 Package: a\nStatus: install ok installed\nVersion: 1.5\nArchitecture: all\nProvides: web\n\n\
@@ -21,9 +20,7 @@ Package: c\nVersion: 1\nArchitecture: all\nProvides: mail:i386\n";
 // Who has the name provides it, and so does each item of Provides that isn't foreign, in whatever version; a package that
 // provides a name twice has one place.
 fn are_provided(alloc: Global, universe: &Universe<'_, '_>) -> Result<bool, AllocError> {
-    let packages = universe.packages(alloc)?;
-    let lent = lend_packages(alloc, packages.as_slice())?;
-    let providers = Providers::of_packages(alloc, lent.as_slice())?;
+    let providers = universe.providers();
     Ok(
         providers.of(alloc, b"mail")?.as_slice() == [1, 4].as_slice()
             && providers.of(alloc, b"sh")?.as_slice() == [1, 2].as_slice()

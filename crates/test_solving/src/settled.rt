@@ -1,7 +1,7 @@
 //! Selections of all pairs of small universes that are settled. What is wanted is worked by hand: a pair of a name that
 //! wasn't present stays only where a goal asks for it or a pair that stays needs it.
 ghost use Rattle.refutation.specs.Laws.{HasAscendingPairs, HasNeededPairs};
-ghost use Rattle.universe.specs.Universe.{HaveDistinctNames};
+ghost use Rattle.universe_parts.specs.Parts.{HaveDistinctNames};
 ghost use Rattle.search_settle.specs.Encoded.{StandingArePresent};
 
 use crate::clauses_true::{all_numbers, makes_all_true};

@@ -1,5 +1,1 @@
-pub mod Pair
-pub mod Universe
-pub mod FindLaws
-pub mod PairLaws
-pub mod SearchLaws
+pub mod Admitted

@@ -1,3 +1,4 @@
+pub mod Beside
 pub mod OfNameLemmas
 pub mod PairsInOrder
 pub mod PairsOfName

@@ -8,8 +8,8 @@ use Rattle.std.proofs.lemmas.List.Sorted.{Contains-permutation, IsPermutation-sy
 use Rattle.rules.specs.Available.{is_of}
 use Rattle.rules.specs.ElementLaws.{Any-intro}
 use Rattle.rules.specs.Universe.{IsOf, Pair, pair_cmp}
-use Rattle.universe.specs.FindLaws.{find-exists, find-some}
-use Rattle.universe.specs.PairLaws.{is_of-from, is_of-parts, of_itself}
+use Rattle.universe_parts.specs.FindLaws.{find-exists, find-some}
+use Rattle.universe_parts.specs.PairLaws.{is_of-from, is_of-parts, of_itself}
 use Rattle.rules.specs.UniverseLaws.{pair_cmp_total}
 use Rattle.candidates.proofs.Finding.{find-dedup}
 use Rattle.candidates.proofs.StanzaOrder.{bare, is_of-alike}

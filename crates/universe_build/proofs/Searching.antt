@@ -18,11 +18,11 @@ use Rattle.rules.specs.Step.{IndexPackage}
 use Rattle.rules.specs.Version.{version_cmp}
 use Rattle.rules.specs.declared.goal.Goal.{Goal}
 use Rattle.rules.specs.declared.goal.GoalLine.{GoalLine}
-use Rattle.universe.specs.PairLaws.{is_eq-then}
-use Rattle.universe.specs.SearchLaws.{searched_any}
+use Rattle.universe_parts.specs.PairLaws.{is_eq-then}
+use Rattle.universe_parts.specs.SearchLaws.{searched_any}
 use Rattle.candidates.specs.Recorded.{IsByName, is_recorded}
 use Rattle.candidates.specs.Stanza.{IsOrdered, has_name}
-use Rattle.universe.specs.FindLaws.{find-agree, not_back}
+use Rattle.universe_parts.specs.FindLaws.{find-agree, not_back}
 use Rattle.candidates.proofs.Searching.{has_name-ordered}
 use Rattle.rules.specs.VersionOrderLaws.{version_cmp_total}
 use Rattle.candidates.specs.Eligible.{offer_version_cmp}

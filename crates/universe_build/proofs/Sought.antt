@@ -12,7 +12,7 @@ use Rattle.rules.specs.declared.goal.Goal.{Goal}
 use Rattle.rules.specs.declared.goal.Goal.TheVariants as goal
 use Rattle.rules.specs.declared.op.Op.{Op}
 use Rattle.rules.specs.declared.op.Op.TheVariants as operator
-use Rattle.universe.specs.PairLaws.{is_of-from, is_of-parts}
+use Rattle.universe_parts.specs.PairLaws.{is_of-from, is_of-parts}
 use Rattle.universe_build.specs.Choice.{Exact, exact_of, exacts_of, is_asked, is_exactly}
 use mathlib.Core.Logic.{inl, inr}
 
@@ -82,7 +82,7 @@ NamesExactly-from name version (goal.Upgrade own) exact is named same = absurd (
 NamesExactly-from name version goal.UpgradeAll exact is named same = absurd (let e : None ≡ Some exact = is in cc)
 NamesExactly-from name version goal.NoRemove exact is named same = absurd (let e : None ≡ Some exact = is in cc)
 
-NamesExactly-is : (name version : List ℕ) (asked : Goal) → NamesExactly name version asked
+pub NamesExactly-is : (name version : List ℕ) (asked : Goal) → NamesExactly name version asked
     → (exact : Exact) × (exact_of asked ≡ Some exact) × (exact.name ≡ name) × SameVersion version exact.version
 NamesExactly-is name version (goal.Install own None) names = absurd names
 NamesExactly-is name version (goal.Install own (Some restriction)) names =

@@ -4,7 +4,7 @@ use Rattle.std.proofs.lemmas.List.Elements.{All-map}
 use Rattle.std.proofs.lemmas.List.Kept.{AllPairs-cons}
 use Rattle.rules.specs.Database.{HasDistinctNames, Record}
 use Rattle.rules.specs.Universe.{Start, start_of, starts_of}
-use Rattle.universe.specs.Universe.{HaveDistinctNames}
+use Rattle.universe_parts.specs.Parts.{HaveDistinctNames}
 
 pub starts_apart : (db : List Record) → HasDistinctNames db → HaveDistinctNames (starts_of db)
 unfolding HasDistinctNames HaveDistinctNames

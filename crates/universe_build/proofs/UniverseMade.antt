@@ -1,5 +1,6 @@
 -- The pairs of all admitted versions and the candidates of all names, in their orders, make the universe of a request.
-use Rattle.std.proofs.Common.{◌≡◌, Bool, List, Some, refl}
+use Rattle.std.proofs.Common.{◌≡◌, Bool, List, [], Some, refl, arith}
+use Rattle.std.proofs.lemmas.List.Sorted.{IsPermutation-refl}
 use Rattle.pins.specs.Prefs.{Preferences}
 use Rattle.rules.specs.Available.{Index, counting_package, index_package}
 use Rattle.rules.specs.Database.{HasDistinctNames, Record}
@@ -49,3 +50,7 @@ AreGiven-by start indices lines all names asked distinct are exacts = record {
   asked_is = exacts;
   all_is = refl;
 }
+
+-- what is asked for where there is no goal
+pub none_asked : AreExacts (exacts_of (goals_of [])) []
+none_asked = record { ascending = λ k d a b. absurd (omega (arith, b)); same = IsPermutation-refl [] }

@@ -3,3 +3,4 @@ pub mod ByName
 pub mod Choice
 pub mod ChoiceLaws
 pub mod Error
+pub mod Listing

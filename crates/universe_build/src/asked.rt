@@ -2,9 +2,10 @@
 
 ghost use Rattle.std.specs.Prelude.{◌≡◌, IfOk, refl};
 ghost use Rattle.std.specs.Cmp.{eq_by_cmp_equiv, partial_equiv_from_equiv, po};
-ghost use Rattle.std.specs.List.{filter_map};
+ghost use Rattle.std.specs.List.{filter_map, list_any};
 ghost use Rattle.std.specs.List.Sorted.{IsSorted};
 ghost use Rattle.std.specs.Ordering.{as_partial_cmp, eq_by_cmp};
+ghost use Rattle.rules.specs.Available.{is_of};
 ghost use Rattle.universe_build.specs.Build.{goals_of};
 ghost use Rattle.universe_build.specs.Choice.{AreExacts, exact_at, exact_by, exact_cmp, exact_of, exacts_of, is_asked, is_exactly};
 ghost use Rattle.universe_build.specs.ChoiceLaws.{exact_cmp_total};
@@ -15,6 +16,7 @@ use rules::{Goal, GoalLine, Name, Op, Restriction, name_cmp};
 use std::alloc::{AllocError, Global};
 use std::cmp::Ordering;
 use std::marker::Model;
+use universe::Pairs;
 
 /// A version of a name that a goal asks for with `=`, over the text of the goal.
 #[derive(Drop)]
@@ -29,6 +31,15 @@ impl<'g> Model for Exact<'g> {
     ghost Value = { ExactValue };
 
     ghost view = { λ e. record { name = e.name.now; version = e.version } };
+}
+
+impl Exact<'_> {
+    /// Whether it is the version of a pair. A binary search.
+    pub fn is_among(&self, pairs: &Pairs<'_, '_>) -> bool
+        ensures { result ≡ list_any (λ pair. is_of self.now.name self.now.version pair.pkg) pairs.now }
+    {
+        pairs.has(self.name, &self.version)
+    }
 }
 
 fn is_exactly(op: Op) -> bool
@@ -62,7 +73,8 @@ fn exact_by<'g>(name: &'g Name, restriction: &'g Restriction) -> Option<Exact<'g
     }
 }
 
-fn exact_of(goal: &Goal) -> Option<Exact<'_>>
+/// What the goal asks for with `=`, if it does.
+pub fn exact_of(goal: &Goal) -> Option<Exact<'_>>
     ensures { result ≡ exact_of goal.now }
 {
     match goal {

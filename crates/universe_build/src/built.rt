@@ -21,7 +21,8 @@ use pins::Prefs;
 use rules::{Goal, GoalLine, PAIRS};
 use status_text::StatusRecord;
 use std::alloc::{AllocError, Global};
-use universe::{Candidates, Pair, Pairs, Start, Starts, Universe};
+use std::rc::Rc;
+use universe::{Admitted, Candidates, Pair, Pairs, Start, Starts, Universe};
 
 fn named_by(goal: &Goal) -> Option<&[u8]>
     ensures { option_copied result ≡ named_by goal.now }
@@ -43,7 +44,8 @@ fn is_unknown(names: &Names<'_, '_, '_>, goal: &Goal) -> bool
     }
 }
 
-fn first_unknown(names: &Names<'_, '_, '_>, lines: &[GoalLine]) -> Option<usize>
+/// The line of the first goal that names a package that nothing has.
+pub(crate) fn first_unknown(names: &Names<'_, '_, '_>, lines: &[GoalLine]) -> Option<usize>
     ensures { result ≡ first_unknown names.now.known names.now.ordered lines.now }
 {
     lines
@@ -52,7 +54,8 @@ fn first_unknown(names: &Names<'_, '_, '_>, lines: &[GoalLine]) -> Option<usize>
         .map(|asked| asked.line)
 }
 
-fn goals_of(alloc: Global, lines: Vec<GoalLine>) -> Result<Vec<Goal>, AllocError>
+/// The goals of the lines.
+pub(crate) fn goals_of(alloc: Global, lines: Vec<GoalLine>) -> Result<Vec<Goal>, AllocError>
     ensures { IfOk result (λ goals. goals.items ≡ goals_of lines.items) }
 {
     lines.into_iter().map(|asked| asked.goal).collect(alloc)
@@ -64,12 +67,29 @@ fn starts_of<'a>(alloc: Global, start: &[Recorded<'_, 'a>]) -> Result<Vec<Start<
     start.iter().map(|found| found.start()).collect(alloc)
 }
 
-// The facts of the records, with a table of their names.
-fn facts_of<'a>(alloc: Global, start: &[Recorded<'_, 'a>]) -> Result<Starts<'a>, AllocError>
+/// The facts of the records, with a table of their names.
+pub(crate) fn facts_of<'a>(
+    alloc: Global,
+    start: &[Recorded<'_, 'a>],
+) -> Result<Starts<'a>, AllocError>
     requires { HasDistinctNames start.now }
     ensures { IfOk result (λ facts. facts ≡ starts_of start.now) }
 {
     Starts::new(alloc, starts_of(alloc, start)?)
+}
+
+/// The parts of universes, with the providers of the pairs, to be shared.
+pub(crate) fn shared<'p, 'a>(
+    alloc: Global,
+    pairs: Pairs<'p, 'a>,
+    starts: Starts<'a>,
+    candidates: Candidates<'a>,
+) -> Result<Rc<Admitted<'p, 'a>>, AllocError>
+    ensures { IfOk result (λ admitted.
+        admitted.value ≡ record { pairs = pairs.entry; starts = starts.entry; candidates = candidates.entry }) }
+{
+    let admitted = Admitted::new(alloc, pairs, starts, candidates)?;
+    Ok(Rc::new(alloc, admitted)?)
 }
 
 // The pairs, unless they are more than are admitted.
@@ -133,5 +153,8 @@ pub fn build<'p, 'a>(
     let names = Names::new(alloc, recorded, indices)?;
     let (pairs, candidates) = chosen(alloc, &names, prefs, goals.as_slice(), asks_all_versions)?;
     let goals = goals_of(alloc, goals)?;
-    Ok(Universe::new(pairs, goals, starts, candidates))
+    // What is found by names isn't wanted any more, and the table of providers is made without it.
+    drop(names);
+    let admitted = shared(alloc, pairs, starts, candidates)?;
+    Ok(Universe::new(admitted, goals))
 }

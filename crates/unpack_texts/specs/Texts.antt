@@ -11,7 +11,7 @@ use Rattle.inputs.specs.declared.refusal.Refusal.{Refusal}
 use Rattle.rules.specs.Step.{IndexPackage}
 use Rattle.rules.specs.Universe.{Universe, listed_for}
 use Rattle.rules.specs.declared.step.Step.{Step}
-use Rattle.universe.specs.Universe.{numbered}
+use Rattle.universe_parts.specs.Parts.{numbered}
 use Rattle.unpack_texts.specs.Wanted.{Unpacks}
 use Rattle.unpack_texts.specs.declared.ending.TheConstants.{NEWLINE}
 

@@ -3,7 +3,7 @@ ghost use Rattle.std.specs.Prelude.{◌≡◌, ◌<◌, IfErr, IfOk, OnOk, Some,
 ghost use Rattle.std.specs.Option.{option_copied};
 ghost use Rattle.inputs.specs.Counting.{CountsRead};
 ghost use Rattle.inputs.specs.Texts.{Shelved};
-ghost use Rattle.universe.specs.Universe.{numbered};
+ghost use Rattle.universe_parts.specs.Parts.{numbered};
 ghost use Rattle.unpack_texts.specs.Filled.{IsFilled};
 ghost use Rattle.unpack_texts.specs.Opened.{Belongs, IsGroupRefusal};
 ghost use Rattle.unpack_texts.specs.Texts.{AreTexts, IsTextsRefusal};

@@ -4,7 +4,7 @@ use Rattle.std.specs.List.Sorted.{IsBinarySearchResult, IsSearchInRange}
 use Rattle.std.proofs.lemmas.Fn.{always_returns_same}
 use Rattle.rules.specs.Database.{Record}
 use Rattle.rules.specs.Name.{name_cmp}
-use Rattle.universe.specs.SearchLaws.{got}
+use Rattle.universe_parts.specs.SearchLaws.{got}
 use Rattle.candidates.proofs.RecordOrder.{searched_record, searched_no_record}
 use Rattle.candidates.proofs.known.record_of.Goals as goal
 

@@ -3,8 +3,8 @@ use Rattle.std.proofs.Common.{rules, arith, ◌<◌, ◌∙◌, Result, ℕ, len
 use Rattle.std.specs.List.Sorted.{IsBinarySearchResult, IsSearchInRange}
 use Rattle.std.proofs.lemmas.Fn.{always_returns_same}
 use Rattle.rules.specs.Step.{IndexPackage}
-use Rattle.universe.specs.SearchLaws.{got}
-use Rattle.universe.specs.Pair.{pkg_order}
+use Rattle.universe_parts.specs.SearchLaws.{got}
+use Rattle.universe_parts.specs.Pair.{pkg_order}
 use Rattle.candidates.proofs.RecordOrder.{searched_stanza, searched_no_stanza}
 use Rattle.candidates.proofs.order.stanza_of.Goals as goal
 

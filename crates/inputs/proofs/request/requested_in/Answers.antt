@@ -1,17 +1,24 @@
 -- The universe of the request is built on the records of the status file, is no larger than is kept, and its facts are about
 -- distinct names.
-use Rattle.std.proofs.Common.{◌≡◌, Some, map, subst, sym}
+use Rattle.std.proofs.Common.{◌≡◌, IfSome, Some, map, subst, sym}
+use Rattle.std.specs.Option.{option_copied}
+use Rattle.universe_build.specs.Listing.{IsListing}
 use Rattle.rules.specs.FileRecord.{records_of}
 use Rattle.rules.specs.Universe.{IsUniverse}
 use Rattle.candidates.specs.Inputs.{indices_of, inputs_of}
 use Rattle.status_text.specs.Slot.{entries_of, slot_records}
-use Rattle.universe.specs.Universe.{HaveDistinctNames}
+use Rattle.universe_parts.specs.Parts.{HaveDistinctNames}
 use Rattle.universe_build.proofs.StartsApart.{starts_apart}
 use Rattle.inputs.specs.Meaning.{IsRequested, asked_of}
 use Rattle.inputs.specs.Texts.{Found}
 use Rattle.inputs.proofs.DenoteLemmas.{built_on}
 use Rattle.inputs.proofs.NameLemmas.{pairs_named, status_named}
 use Rattle.inputs.proofs.request.requested_in.Goals as goal
+
+pub universe_in-requires-clause-listed : goal.universe_in-requires-clause-listed
+universe_in-requires-clause-listed c =
+    let same : map (λ r. r.now) c.as_slice.result.now ≡ entries_of c.args.status_file.now.slots = rw c.as_slice.ensures.value c.in_ok-records.ensures.records in
+    subst (λ es. IfSome (option_copied c.args.listing) (IsListing (records_of es) (indices_of c.args.indices.now) c.args.prefs.now)) (sym same) c.requires.listed
 
 pub returns-in-Ok-clause-built : goal.returns-in-Ok-clause-built
 returns-in-Ok-clause-built c =

@@ -1,7 +1,7 @@
 -- The packages of the pairs so far.
 use Rattle.std.proofs.Common.{◌≡◌, Bor, map, take}
 use Rattle.rules.specs.Universe.{Pair}
-use Rattle.universe.specs.Universe.{packages_of}
+use Rattle.universe_parts.specs.Parts.{packages_of}
 use Rattle.reach.proofs.closed_part.packages_of.Given as goal
 
 abbrev pub invariant-loop-pair : goal.invariant-loop-pair

@@ -1,7 +1,7 @@
 -- What is settled over the part is lifted, and the laws of parts say what follows.
 use Rattle.std.proofs.Common.{subst, sym}
 use Rattle.refutation.specs.Selection.{selects}
-use Rattle.universe.specs.Universe.{HaveDistinctNames}
+use Rattle.universe_parts.specs.Parts.{HaveDistinctNames}
 use Rattle.solver.proofs.LiftLemmas.{lifted_ascend, lifted_lists, standing_in_part, standing_were, within_part}
 use Rattle.solver.proofs.lift.settled.Goals as goal
 

@@ -5,7 +5,7 @@ use Rattle.std.proofs.lemmas.List.Elements.{All-cons, All-nil}
 use Rattle.std.proofs.lemmas.List.Kept.{AllPairs-cons}
 use Rattle.rules.specs.NamedLaws.{bytes_eq-same}
 use Rattle.rules.specs.Universe.{Start}
-use Rattle.universe.specs.Universe.{HaveDistinctNames}
+use Rattle.universe_parts.specs.Parts.{HaveDistinctNames}
 use Rattle.test_plans.proofs.ends.starts_two.Goals as goal
 
 abbrev AreOfTwo : Start → Start → Type 0

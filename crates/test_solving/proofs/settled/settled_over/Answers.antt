@@ -1,7 +1,7 @@
 -- What the universe of inputs has, over no records.
 use Rattle.std.proofs.Common.{[], sym, subst, arith}
 use Rattle.rules.specs.Database.{HasDistinctNames}
-use Rattle.universe.specs.Universe.{HaveDistinctNames}
+use Rattle.universe_parts.specs.Parts.{HaveDistinctNames}
 use Rattle.universe_build.proofs.StartsApart.{starts_apart}
 use Rattle.test_solving.proofs.settled.settled_over.Goals as goal
 

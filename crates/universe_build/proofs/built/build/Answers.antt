@@ -23,7 +23,7 @@ returns-clause-ok c =
     let start : List Record = records_of (map (λ r. r.now) c.args.start.now) in
     let starts : c.as_slice.result.now ≡ start = c.as_slice.ensures.value ∙ c.in_ok-recorded.ensures in
     let is : universe_with start c.as_slice-2.result.now c.in_ok-pairs.pairs c.in_ok-pairs.candidates ≡ c.new-2.result =
-    rw (c.new-2.ensures, c.in_ok-goals.ensures, c.in_ok-starts.ensures, starts, c.as_slice-2.ensures.value) refl in
+    rw (c.new-2.ensures, c.in_ok-goals.ensures, c.in_ok-admitted.ensures, c.in_ok-starts.ensures, starts, c.as_slice-2.ensures.value) refl in
     subst (IsBuilt start (indices_of c.args.indices.now) c.args.prefs.now c.args.goals.items c.args.asks_all_versions) is
     (subst (λ lines. IsBuilt start (indices_of c.args.indices.now) c.args.prefs.now lines c.args.asks_all_versions
     (universe_with start c.as_slice-2.result.now c.in_ok-pairs.pairs c.in_ok-pairs.candidates))

@@ -1,6 +1,6 @@
 -- The records have distinct names.
 use Rattle.std.proofs.Common.{sym, subst}
-use Rattle.universe.specs.Universe.{HaveDistinctNames}
+use Rattle.universe_parts.specs.Parts.{HaveDistinctNames}
 use Rattle.universe_build.proofs.StartsApart.{starts_apart}
 use Rattle.universe_build.proofs.built.facts_of.Goals as goal
 

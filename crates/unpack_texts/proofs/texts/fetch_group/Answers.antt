@@ -10,7 +10,7 @@ use Rattle.std.proofs.lemmas.Result.{err_from_is_err_and}
 use Rattle.rules.specs.Step.{IndexPackage}
 use Rattle.fetch.specs.Fetched.{items_in}
 use Rattle.inputs.specs.Texts.{Found}
-use Rattle.universe.specs.Universe.{numbered}
+use Rattle.universe_parts.specs.Parts.{numbered}
 use Rattle.unpack_texts.specs.Filled.{IsFilled, filled}
 use Rattle.unpack_texts.specs.Opened.{Belongs, IsOpenedFault}
 use Rattle.unpack_texts.specs.Texts.{IsEnded, opened}

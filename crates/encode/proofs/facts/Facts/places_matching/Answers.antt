@@ -1,7 +1,7 @@
 -- What matches, the preferred first.
 use Rattle.std.proofs.Common.{ℕ, List}
 use Rattle.rules.specs.Package.{Pkg}
-use Rattle.universe.specs.Universe.{packages_of}
+use Rattle.universe_parts.specs.Parts.{packages_of}
 use Rattle.providers.specs.Matching.{IsMatchAt}
 use Rattle.encode.proofs.NumberLemmas.{same_places}
 use Rattle.encode.proofs.facts.Facts.places_matching.Goals as goal

@@ -2,7 +2,7 @@
 use Rattle.std.proofs.Common.{ℕ, List}
 use Rattle.rules.specs.Package.{Pkg}
 use Rattle.index.specs.Providers.{IsProviderAt}
-use Rattle.universe.specs.Universe.{packages_of}
+use Rattle.universe_parts.specs.Parts.{packages_of}
 use Rattle.encode.proofs.NumberLemmas.{same_places}
 use Rattle.encode.proofs.facts.Facts.places_of.Goals as goal
 

@@ -3,7 +3,7 @@ use Rattle.std.proofs.Common.{◌≡◌, ◌<◌, ◌∙◌, List, ap, arith, le
 use Rattle.std.specs.List.{slice_get}
 use Rattle.index.proofs.NameTable.{as_many, found_item, found_none}
 use Rattle.rules.specs.Universe.{Pair}
-use Rattle.universe.specs.SearchLaws.{got}
+use Rattle.universe_parts.specs.SearchLaws.{got}
 use Rattle.forward_steps.specs.Selection.{member_of}
 use Rattle.forward_steps.proofs.MemberLemmas.{name_of}
 use Rattle.forward_steps.proofs.member.Members.of.Goals as goal

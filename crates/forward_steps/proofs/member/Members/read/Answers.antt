@@ -1,6 +1,6 @@
 -- The members are of different names, as what is chosen.
 use Rattle.std.proofs.Common.{ap, subst, sym, ◌∙◌}
-use Rattle.universe.specs.Universe.{packages_of}
+use Rattle.universe_parts.specs.Parts.{packages_of}
 use Rattle.forward_steps.specs.Selection.{IsOneEach, chosen}
 use Rattle.forward_steps.proofs.MemberLemmas.{bare_one_each, chosen_members}
 use Rattle.forward_steps.proofs.member.Members.read.Goals as goal

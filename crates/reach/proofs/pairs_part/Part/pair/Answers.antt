@@ -1,7 +1,7 @@
 -- The pair that is lent at the place before is that of the number.
 use Rattle.std.proofs.Common.{List, ap, arith, ◌∙◌}
 use Rattle.rules.specs.Universe.{Pair, Universe}
-use Rattle.universe.specs.Universe.{numbered}
+use Rattle.universe_parts.specs.Parts.{numbered}
 use Rattle.reach.proofs.LentLemmas.{lent_numbered}
 use Rattle.reach.proofs.pairs_part.Part.pair.Goals as goal
 

@@ -11,7 +11,7 @@ pub returns : goal.returns
 returns c =
     let All : List Literal → Type 0 = λ literals. IsListOf (Selects c.args.self.now (IsSought c.args.sought)) literals in
     let none : c.new-literals.result.items ≡ [] = search rules in
-    subst All (sym c.new.ensures) (by_places c.args.self.now c.self.inside.providers (cc (c.self.invariant.0, c.self.view_is))
+    subst All (sym c.new.ensures) (by_places c.args.self.now c.providers.result.now (cc (c.providers.ensures, c.self.view_is))
     c.name_of.result.now c.in_ok-places.places.items c.as_slice.result.now c.as_slice.ensures.value (IsSought c.args.sought)
     c.in_ok-places.ensures.matching c.name_of.ensures c.new-literals.result.items c.push_places.new.literals.items none
     c.in_ok-push_places.ensures)

@@ -4,7 +4,7 @@ use Rattle.std.specs.Prelude.{◌↔◌}
 use Rattle.std.specs.List.{Any, Contains}
 use Rattle.std.proofs.lemmas.List.{take_all}
 use Rattle.refutation.specs.declared.literal.Literal.{Literal}
-use Rattle.universe.specs.Universe.{packages_of}
+use Rattle.universe_parts.specs.Parts.{packages_of}
 use Rattle.refutecheck.specs.Sought.{IsSelectedAt, IsSought}
 use Rattle.refutecheck.proofs.PairLemmas.{one_place_more}
 use Rattle.refutecheck.proofs.premises.Premises.push_places.Goals as goal

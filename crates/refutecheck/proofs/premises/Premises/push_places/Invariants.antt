@@ -3,7 +3,7 @@ use Rattle.std.proofs.Common.{take, ◌⊎◌}
 use Rattle.std.specs.Prelude.{◌↔◌}
 use Rattle.std.specs.List.{Any, Contains}
 use Rattle.refutation.specs.declared.literal.Literal.{Literal}
-use Rattle.universe.specs.Universe.{packages_of}
+use Rattle.universe_parts.specs.Parts.{packages_of}
 use Rattle.refutecheck.specs.Sought.{IsSelectedAt, IsSought}
 use Rattle.refutecheck.proofs.premises.Premises.push_places.Given as goal
 

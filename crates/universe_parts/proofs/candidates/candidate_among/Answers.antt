@@ -1,0 +1,24 @@
+-- A binary search among the candidates in order.
+use Rattle.std.proofs.Common.{rules, arith, ◌<◌, ◌∙◌, Result, ℕ, length, subst}
+use Rattle.std.specs.List.Sorted.{IsBinarySearchResult, IsSearchInRange}
+use Rattle.std.proofs.lemmas.Fn.{always_returns_same}
+use Rattle.rules.specs.Name.{name_cmp}
+use Rattle.rules.specs.Universe.{Candidate}
+use Rattle.universe_parts.proofs.CandidateOrder.{searched_candidate, searched_no_candidate}
+use Rattle.universe_parts.specs.SearchLaws.{got}
+use Rattle.universe_parts.proofs.candidates.candidate_among.Goals as goal
+
+pub returns-in-Ok : goal.returns-in-Ok
+returns-in-Ok c =
+    let within : c.in-Ok.place < length c.args.candidates.now = subst (λ (r : Result ℕ ℕ). IsSearchInRange r (length c.args.candidates.now)) c.in-Ok.is c.binary_search_by.ensures.bound in
+    got _ c.get.result c.args.candidates.now c.in-Ok.place within (c.get.ensures.lookup.2 within) (c.get.ensures.lookup.4 (omega arith))
+    ∙ searched_candidate c.args.candidates.now c.args.name.now c.in-Ok.place c.requires
+    within
+    (subst (λ (r : Result ℕ ℕ). IsBinarySearchResult (λ (candidate : Candidate). name_cmp candidate.name c.args.name.now) c.args.candidates.now r) c.in-Ok.is
+    (c.binary_search_by.ensures.position (λ (candidate : Candidate). name_cmp candidate.name c.args.name.now) (always_returns_same _ _ _ (λ a r f k. search rules))))
+
+pub returns-in-Err : goal.returns-in-Err
+returns-in-Err c = searched_no_candidate c.args.candidates.now c.args.name.now c.in-Err.field-0 c.requires
+    (subst (λ (r : Result ℕ ℕ). IsSearchInRange r (length c.args.candidates.now)) c.in-Err.is c.binary_search_by.ensures.bound)
+    (subst (λ (r : Result ℕ ℕ). IsBinarySearchResult (λ (candidate : Candidate). name_cmp candidate.name c.args.name.now) c.args.candidates.now r) c.in-Err.is
+    (c.binary_search_by.ensures.position (λ (candidate : Candidate). name_cmp candidate.name c.args.name.now) (always_returns_same _ _ _ (λ a r f k. search rules))))

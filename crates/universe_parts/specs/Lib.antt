@@ -1,0 +1,5 @@
+pub mod Pair
+pub mod Parts
+pub mod FindLaws
+pub mod PairLaws
+pub mod SearchLaws
