@@ -1,15 +1,14 @@
 -- A run on the file of a disk, with its error as the journal's.
-use Rattle.std.proofs.Common.{◌≡◌, ◌≢◌, ◌⊎◌, inl, inr, ⊎_elim, ℕ, List, [], Ok, Err, refl, sym, ap, ◌∙◌, subst}
+use Rattle.std.proofs.Common.{◌≡◌, ◌≢◌, ◌⊎◌, inl, inr, ⊎_elim, ℕ, List, [], refl, sym, ap, ◌∙◌, subst}
 use Rattle.disk.specs.Calls.{Stays}
 use Rattle.disk.specs.Facts.{DiskFacts, LeavesOnly}
-use Rattle.disk.specs.RunLaws.{weaker}
 use Rattle.journal.specs.Payload.{Recorded}
 use Rattle.journal.specs.declared.error.OpenError.{OpenError}
 use Rattle.journal.specs.declared.error.OpenError.TheVariants as open_error
 use Rattle.inputs.specs.Counting.{one_more}
 use Rattle.run_plan.specs.Fault.{IsFinishError, IsRunFault}
 use Rattle.run_plan.specs.Fault as Run
-use Rattle.run_plan.specs.Run.{HasBegun, IsLeft, ShowsEnd, ShowsFromNothing}
+use Rattle.run_plan.specs.Run.{HasBegun, IsLeft}
 use Rattle.run_plan.specs.declared.error.RunError.{RunError}
 use Rattle.run_plan.specs.declared.error.RunError.TheVariants.{NotBegun, NotFinished}
 use Rattle.run_plan.proofs.LeftLemmas.{behind_reading, by_reading}
@@ -17,12 +16,11 @@ use Rattle.apply.specs.declared.error.BeginError.TheVariants.{NotOpened}
 use Rattle.apply.specs.declared.error.CatchUpError.TheVariants as error
 use Rattle.apply_engine.specs.Counting.{CountsFault, IsDiskFault}
 use Rattle.apply_engine.specs.Journal.{IsJournalFault, IsOwned, IsStop, fault_of}
-use Rattle.apply_engine.specs.Left.{IsLeftBy, IsLeftSo}
-use Rattle.apply_engine.specs.declared.applied.Applied.TheVariants.{Done}
-use Rattle.apply_engine.specs.declared.applied.CarriedOut.{CarriedOut}
-use Rattle.apply_engine.specs.declared.refusal.ApplyRefusal.TheVariants.{Journal}
-use Rattle.apply_engine.specs.declared.refusal.JournalFault.{JournalFault}
-use Rattle.apply_engine.specs.declared.refusal.JournalFault.TheVariants as fault
+use Rattle.apply_engine.specs.Left.{IsDoneOn, IsStoppedOn, IsTaken}
+use Rattle.apply_engine.specs.declared.applied.Applied.{Applied}
+use Rattle.apply_engine.specs.declared.applied.Applied.TheVariants.{Judged, Done, Stopped}
+use Rattle.apply_engine.specs.declared.fault.JournalFault.{JournalFault}
+use Rattle.apply_engine.specs.declared.fault.JournalFault.TheVariants as fault
 
 -- what stopped a run that had begun is an error of its end
 pub stop_is_of_end : (e : RunError) (found : JournalFault) → IsOwned e found → IsStop found → IsFinishError e
@@ -67,78 +65,44 @@ counts_as e found old new (inr named) failed other = record {
   other = λ none. other (λ disk. (let not_disk : error.NotApplicable named.1.0 ≡ error.Disk = subst Run.IsDiskFault named.1.1 disk in cc));
 }
 
--- what a run leaves behind a reading, with its plan
-pub left_by_run : (arch start : List ℕ) (plan : List Recorded) (a b d : DiskFacts) → Stays a b → LeavesOnly (IsLeft arch start plan b) b d
-    → LeavesOnly (IsLeftBy (λ begin records. (begin ≡ start) × (records ≡ plan)) arch a) a d
-left_by_run arch start plan a b d stays run =
-    weaker (IsLeft arch start plan a) (IsLeftBy (λ begin records. (begin ≡ start) × (records ≡ plan)) arch a) a d
-    (λ file left. ⊎_elim (λ means. inl means) (λ on. inr (record { start = start; plan = plan; planned = (refl, refl); onward = on })) left)
-    (behind_reading arch start plan a b d stays run)
+-- a file that was only read before
+module _ (arch start : List ℕ) (records : List Recorded) (a b d : DiskFacts) where
+  any_behind : Stays a b → (b.seen ≢ [] → LeavesOnly (IsLeft arch start records b) b d) → a.seen ≢ [] → LeavesOnly (IsLeft arch start records a) a d
+  any_behind stays run some = behind_reading arch start records a b d stays (run (λ none. some (sym stays.seen ∙ none)))
 
--- what a reading alone leaves
-pub left_by_reading : (P : List ℕ → List Recorded → Type 0) (arch start : List ℕ) (plan : List Recorded) (a b : DiskFacts) → P start plan → Stays a b
-    → LeavesOnly (IsLeftBy P arch a) a b
-left_by_reading P arch start plan a b is stays =
-    weaker (IsLeft arch start plan a) (IsLeftBy P arch a) a b
-    (λ file left. ⊎_elim (λ means. inl means) (λ on. inr (record { start = start; plan = plan; planned = is; onward = on })) left)
-    (by_reading arch start plan a b stays)
-
--- with this start and this plan
-abbrev pub Is : List ℕ → List Recorded → List ℕ → List Recorded → Type 0
-Is start plan begin records = (begin ≡ start) × (records ≡ plan)
-
-module _ (arch start file : List ℕ) (plan : List Recorded) (a b d : DiskFacts) (stays : Stays a b) (same : file ≡ a.seen)
-    (run : file ≢ [] → LeavesOnly (IsLeft arch start plan b) b d) where
-  -- a run that came to the plan's end
-  pub run_done : (done : CarriedOut) → (file ≢ [] → HasBegun arch start plan file) → ((c : List ℕ) → d.leaves c → ShowsEnd arch start plan c)
-      → IsLeftSo (Is start plan) arch a d (Ok (Done done))
-  run_done done begun kept = record {
-    any_moment = λ some. left_by_run arch start plan a b d stays (run (λ none. some (sym same ∙ none)));
-    done = record {
-      start = start;
-      plan = plan;
-      planned = (refl, refl);
-      begun = λ some. subst (λ (bytes : List ℕ). HasBegun arch start plan bytes) same (begun (λ none. some (sym same ∙ none)));
-      kept = kept;
-    };
-    stopped = tt;
+  done_behind : Stays a b → IsDoneOn arch start records b d → IsDoneOn arch start records a d
+  done_behind stays done = record {
+    any_moment = any_behind stays done.any_moment;
+    begun = λ some. subst (HasBegun arch start records) stays.seen (done.begun (λ none. some (sym stays.seen ∙ none)));
+    kept = done.kept;
   }
 
-  -- one that didn't
-  pub run_stopped : (found : JournalFault) → IsJournalFault arch start plan file found
-      → (file ≡ [] → IsStop found → (c : List ℕ) → d.leaves c → ShowsFromNothing arch start plan c)
-      → IsLeftSo (Is start plan) arch a d (Err (Journal found))
-  run_stopped found cause created = record {
-    any_moment = λ some. left_by_run arch start plan a b d stays (run (λ none. some (sym same ∙ none)));
-    done = tt;
-    stopped = record {
-      start = start;
-      plan = plan;
-      planned = (refl, refl);
-      fault = subst (λ (bytes : List ℕ). IsJournalFault arch start plan bytes found) same cause;
-      created = λ stop empty. created (same ∙ empty) stop;
-    };
+  stopped_behind : (cause : JournalFault) → Stays a b → IsStoppedOn cause arch start records b d → IsStoppedOn cause arch start records a d
+  stopped_behind cause stays stopped = record {
+    any_moment = any_behind stays stopped.any_moment;
+    fault = subst (λ (file : List ℕ). IsJournalFault arch start records file cause) stays.seen stopped.fault;
+    created = λ stop empty. stopped.created stop (stays.seen ∙ empty);
   }
+
+  pub taken_behind : (Before After : Type 0) → (Before → After) → (Before → Stays a b) → (applied : Applied)
+      → IsTaken After b applied d arch start records → IsTaken Before a applied d arch start records
+  taken_behind Before After on stays (Judged verdict) taken = taken
+  taken_behind Before After on stays (Done done) taken = (taken.0, λ honest. done_behind (stays honest) (taken.1 (on honest)))
+  taken_behind Before After on stays (Stopped cause) taken = λ honest. stopped_behind cause (stays honest) (taken (on honest))
 
 -- why a file isn't read
-unread : (arch start file : List ℕ) (plan : List Recorded) (e : OpenError) → (e ≡ open_error.OutOfMemory) ⊎ (e ≡ open_error.Disk)
-    → IsJournalFault arch start plan file (fault.NotBegun (NotOpened e))
-unread arch start file plan e (inl memory) = inl (inr (ap (λ (e : OpenError). fault.NotBegun (NotOpened e)) memory))
-unread arch start file plan e (inr disk) = inr (inl (ap (λ (e : OpenError). fault.NotBegun (NotOpened e)) disk))
+unread : (arch start file : List ℕ) (records : List Recorded) (e : OpenError) → (e ≡ open_error.OutOfMemory) ⊎ (e ≡ open_error.Disk)
+    → IsJournalFault arch start records file (fault.NotBegun (NotOpened e))
+unread arch start file records e (inl memory) = inl (inr (ap (λ (e : OpenError). fault.NotBegun (NotOpened e)) memory))
+unread arch start file records e (inr disk) = inr (inl (ap (λ (e : OpenError). fault.NotBegun (NotOpened e)) disk))
 
 -- a file that wasn't read
-pub unread_left : (arch start : List ℕ) (plan : List Recorded) (a b : DiskFacts) (e : OpenError) → Stays a b → (e ≡ open_error.OutOfMemory) ⊎ (e ≡ open_error.Disk)
-    → IsLeftSo (Is start plan) arch a b (Err (Journal (fault.NotBegun (NotOpened e))))
-unread_left arch start plan a b e stays cause = record {
-  any_moment = λ some. left_by_reading (Is start plan) arch start plan a b (refl, refl) stays;
-  done = tt;
-  stopped = record {
-    start = start;
-    plan = plan;
-    planned = (refl, refl);
-    fault = unread arch start a.seen plan e cause;
-    created = λ stop. absurd stop;
-  };
+pub unread_taken : (arch start : List ℕ) (records : List Recorded) (a b : DiskFacts) (e : OpenError) → Stays a b
+    → (e ≡ open_error.OutOfMemory) ⊎ (e ≡ open_error.Disk) → IsStoppedOn (fault.NotBegun (NotOpened e)) arch start records a b
+unread_taken arch start records a b e stays why = record {
+  any_moment = λ some. by_reading arch start records a b stays;
+  fault = unread arch start a.seen records e why;
+  created = λ stop. absurd stop;
 }
 
 -- what the disk counts of it

@@ -1,3 +1,2 @@
 pub mod CarryLemmas
-pub mod LeftLemmas
-pub mod PlannedLemmas
+pub mod SaidLemmas

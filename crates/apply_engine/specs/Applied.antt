@@ -1,36 +1,46 @@
--- What came of a plan, case by case.
-use Rattle.std.specs.Prelude.{⊤}
+-- What is said of a plan that is applied.
+use Rattle.std.specs.Prelude.{◌≢◌, ◌↔◌, ℕ, List, Result, Ok, Err}
+use Rattle.disk.specs.Facts.{DiskFacts}
+use Rattle.inputs.specs.Texts.{Found, Texts}
 use Rattle.inputs.specs.declared.refusal.Refusal.{Refusal}
 use Rattle.rules.specs.declared.step.Verdict.{Verdict}
-use Rattle.rules.specs.declared.step.Verdict.TheVariants as verdict
+use Rattle.rules.specs.declared.step.Verdict.TheVariants.{Yes}
+use Rattle.cli_engine.specs.Answer.{IsAnswer}
+use Rattle.apply_engine.specs.Counting.{CountsDisk}
+use Rattle.apply_engine.specs.Left.{IsTaken}
+use Rattle.apply_engine.specs.Planned.{IsApplyRefusal, OfGoodPlan, OfSomePlan}
 use Rattle.apply_engine.specs.declared.applied.Applied.{Applied}
-use Rattle.apply_engine.specs.declared.applied.Applied.TheVariants.{Judged, Done}
-use Rattle.apply_engine.specs.declared.applied.CarriedOut.{CarriedOut}
-use Rattle.apply_engine.specs.declared.refusal.ApplyRefusal.{ApplyRefusal}
-use Rattle.apply_engine.specs.declared.refusal.ApplyRefusal.TheVariants.{Text, Journal}
-use Rattle.apply_engine.specs.declared.refusal.JournalFault.{JournalFault}
+use Rattle.apply_engine.specs.declared.applied.Applied.TheVariants.{Judged}
 
--- the verdict on the plan: where it was carried out, yes
-abbrev pub verdict_of : Applied → Verdict
-verdict_of (Judged found) = found
-verdict_of (Done done) = verdict.Yes
+-- By the texts
 
--- where it was carried out, this is so
-abbrev pub IfDone : Applied → (CarriedOut → Type 0) → Type 0
-IfDone (Judged found) P = ⊤
-IfDone (Done done) P = P done
+-- this is what is refused first, and the disk is untouched
+pub record IsRefused (texts : Texts) (plan : Found) (Untouched : Type 0) (refused : Refusal) : Type 0 where
+  pub refusal : IsApplyRefusal texts plan refused
+  pub untouched : Untouched
 
--- where it was judged alone, this is so
-abbrev pub IfJudged : Applied → Type 0 → Type 0
-IfJudged (Judged found) P = P
-IfJudged (Done done) P = ⊤
+-- the verdict is true of the plan, it isn't yes, and the disk is untouched
+pub record IsJudgedAlone (texts : Texts) (plan : Found) (Untouched : Type 0) (verdict : Verdict) : Type 0 where
+  pub answer : IsAnswer texts plan verdict
+  pub no : verdict ≢ Yes
+  pub untouched : Untouched
 
--- where a text is refused, this is so
-abbrev pub IfText : ApplyRefusal → (Refusal → Type 0) → Type 0
-IfText (Text refused) P = P refused
-IfText (Journal fault) P = ⊤
+-- what is said of a plan: what is refused, the verdict that isn't yes, or, where it is yes, how a journal took the plan
+abbrev pub IsSaidOfApply : Texts → Found → Type 0 → Type 0 → DiskFacts → Result Applied Refusal → DiskFacts → Type 0
+IsSaidOfApply texts plan Honest Untouched old (Err refused) new = IsRefused texts plan Untouched refused
+IsSaidOfApply texts plan Honest Untouched old (Ok (Judged verdict)) new = IsJudgedAlone texts plan Untouched verdict
+IsSaidOfApply texts plan Honest Untouched old (Ok applied) new = OfGoodPlan texts plan (IsTaken Honest old applied new)
 
--- where the journal is refused, this is so
-abbrev pub IfJournal : ApplyRefusal → (JournalFault → Type 0) → Type 0
-IfJournal (Text refused) P = ⊤
-IfJournal (Journal fault) P = P fault
+-- By whatever texts
+
+-- the disk is untouched, or a journal took some plan so
+abbrev pub IsLeftSo : List ℕ → Type 0 → Type 0 → DiskFacts → Result Applied Refusal → DiskFacts → Type 0
+IsLeftSo arch Honest Untouched old (Err refused) new = Untouched
+IsLeftSo arch Honest Untouched old (Ok (Judged verdict)) new = (verdict ≢ Yes) × Untouched
+IsLeftSo arch Honest Untouched old (Ok applied) new = OfSomePlan arch (IsTaken Honest old applied new)
+
+-- the disk is honest where it was, it is left so, and it has counted what failed
+pub record IsKept (arch : List ℕ) (HonestOld HonestNew Untouched : Type 0) (old new : DiskFacts) (faults_old faults_new : ℕ) (result : Result Applied Refusal) : Type 0 where
+  pub honest : HonestNew ↔ HonestOld
+  pub left : IsLeftSo arch HonestOld Untouched old result new
+  pub count : CountsDisk result faults_old faults_new

@@ -1,12 +1,12 @@
--- What the shelf and the disk count.
+-- What the disk counts.
 use Rattle.std.specs.Prelude.{◌≡◌, ℕ, ⊤, Result, Ok, Err}
-use Rattle.inputs.specs.Counting.{CountsRead, one_more}
+use Rattle.inputs.specs.Counting.{one_more}
+use Rattle.inputs.specs.declared.refusal.Refusal.{Refusal}
 use Rattle.apply.specs.Opening.{IsDiskError}
 use Rattle.apply_engine.specs.declared.applied.Applied.{Applied}
-use Rattle.apply_engine.specs.declared.refusal.ApplyRefusal.{ApplyRefusal}
-use Rattle.apply_engine.specs.declared.refusal.ApplyRefusal.TheVariants.{Text, Journal}
-use Rattle.apply_engine.specs.declared.refusal.JournalFault.{JournalFault}
-use Rattle.apply_engine.specs.declared.refusal.JournalFault.TheVariants as fault
+use Rattle.apply_engine.specs.declared.applied.Applied.TheVariants.{Judged, Done, Stopped}
+use Rattle.apply_engine.specs.declared.fault.JournalFault.{JournalFault}
+use Rattle.apply_engine.specs.declared.fault.JournalFault.TheVariants as fault
 
 -- a call of the disk failed
 abbrev pub IsDiskFault : JournalFault → Type 0
@@ -19,23 +19,17 @@ IsDiskFault (fault.NotApplicable name) = ⊥
 IsDiskFault fault.Mismatch = ⊥
 
 -- the disk counts one more failure where one of its calls failed, and none else
-pub record CountsFault (found : JournalFault) (old new : ℕ) : Type 0 where
-  pub failed : IsDiskFault found → new ≡ one_more old
-  pub other : (¬ IsDiskFault found) → new ≡ old
+pub record CountsFault (cause : JournalFault) (old new : ℕ) : Type 0 where
+  pub failed : IsDiskFault cause → new ≡ one_more old
+  pub other : (¬ IsDiskFault cause) → new ≡ old
 
--- so it is of a run on a disk
-abbrev pub CountsJournal : {A : Type 0} → Result A JournalFault → ℕ → ℕ → Type 0
-CountsJournal (Ok done) old new = new ≡ old
-CountsJournal (Err found) old new = CountsFault found old new
+-- so it is of what came of a plan
+abbrev pub CountsApplied : Applied → ℕ → ℕ → Type 0
+CountsApplied (Judged verdict) old new = new ≡ old
+CountsApplied (Done done) old new = new ≡ old
+CountsApplied (Stopped cause) old new = CountsFault cause old new
 
--- so it is of a plan that is applied
-abbrev pub CountsDisk : Result Applied ApplyRefusal → ℕ → ℕ → Type 0
-CountsDisk (Ok applied) old new = new ≡ old
-CountsDisk (Err (Text refused)) old new = new ≡ old
-CountsDisk (Err (Journal found)) old new = CountsFault found old new
-
--- the shelf counts one more text where E5 is refused, and none else
-abbrev pub CountsTexts : Result Applied ApplyRefusal → ℕ → ℕ → Type 0
-CountsTexts (Ok applied) old new = new ≡ old
-CountsTexts (Err (Text refused)) old new = CountsRead {A = Applied} (Err refused) old new
-CountsTexts (Err (Journal found)) old new = new ≡ old
+-- and where a text is refused, nothing failed
+abbrev pub CountsDisk : Result Applied Refusal → ℕ → ℕ → Type 0
+CountsDisk (Ok applied) old new = CountsApplied applied old new
+CountsDisk (Err refused) old new = new ≡ old

@@ -8,8 +8,8 @@ use Rattle.apply.specs.declared.error.CatchUpError.TheVariants as error
 use Rattle.run_plan.specs.Fault.{IsRunFault}
 use Rattle.run_plan.specs.declared.error.RunError.{RunError}
 use Rattle.run_plan.specs.declared.error.RunError.TheVariants.{NotBegun, NotFinished}
-use Rattle.apply_engine.specs.declared.refusal.JournalFault.{JournalFault}
-use Rattle.apply_engine.specs.declared.refusal.JournalFault.TheVariants as fault
+use Rattle.apply_engine.specs.declared.fault.JournalFault.{JournalFault}
+use Rattle.apply_engine.specs.declared.fault.JournalFault.TheVariants as fault
 
 -- the same cause, which borrows nothing
 abbrev pub finish_fault_of : CatchUpError → JournalFault

@@ -1,4 +1,5 @@
 //! What came of a plan.
+use crate::fault::JournalFault;
 use rules::Verdict;
 
 /// A plan that was carried out.
@@ -15,6 +16,8 @@ pub struct CarriedOut {
 pub enum Applied {
     /// It isn't good, and nothing was done.
     Judged(Verdict),
-    /// It was carried out.
+    /// It is good, and was carried out.
     Done(CarriedOut),
+    /// It is good, and the journal didn't carry it out for this.
+    Stopped(JournalFault),
 }

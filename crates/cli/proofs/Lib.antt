@@ -1,4 +1,6 @@
+mod AppliedLemmas
+mod CallLemmas
 mod LineLemmas
-mod SaidLemmas
+mod ResultLemmas
 mod ShelfLemmas
 mod WordsLemmas

@@ -1,26 +1,9 @@
--- Lines of goals and of candidates, one more behind those so far.
-use Rattle.std.proofs.Common.{◌≡◌, ◌∙◌, ◌++◌, ℕ, List, [], ◌∷◌, Option, ap, append_assoc, arith, codes, length, refl, sym}
-use Rattle.candidates.specs.Offer.{Offer}
-use Rattle.cli.specs.Answer.{candidate_line, candidate_lines}
-use Rattle.cli.specs.Words.{lines_of}
+-- Lines of goals, one more behind those so far.
+use Rattle.std.proofs.Common.{◌≡◌, ◌∙◌, ◌++◌, ℕ, List, ◌∷◌, ap, append_assoc, codes, sym}
+use Rattle.cli.specs.Places.{lines_of}
 
 -- the line of one more goal
 pub one_line : (old after text : List ℕ) (all rest : List (List ℕ)) → after ≡ (old ++ text) ++ codes "\n" → all ≡ text ∷ rest
     → after ++ lines_of rest ≡ old ++ lines_of all
 one_line old after text all rest e is = ap (λ t. t ++ lines_of rest) e ∙ append_assoc (old ++ text) (codes "\n") (lines_of rest)
     ∙ append_assoc old text (codes "\n" ++ lines_of rest) ∙ sym (ap (λ ts. old ++ lines_of ts) is)
-
--- the line of the candidate of one more name
-pub one_name : (old after line name : List ℕ) (found : Option Offer) (names more : List (List ℕ)) (rest behind : List (Option Offer))
-    → after ≡ old ++ line → line ≡ candidate_line name found → names ≡ name ∷ more → rest ≡ found ∷ behind
-    → after ++ candidate_lines more behind ≡ old ++ candidate_lines names rest
-one_name old after line name found names more rest behind e is first next =
-    ap (λ t. t ++ candidate_lines more behind) (e ∙ ap (λ l. old ++ l) is)
-    ∙ append_assoc old (candidate_line name found) (candidate_lines more behind)
-    ∙ sym (ap (λ ns. old ++ candidate_lines ns rest) first ∙ ap (λ fs. old ++ candidate_lines (name ∷ more) fs) next)
-
--- without candidates there is no line
-pub none_left : (names : List (List ℕ)) (rest : List (Option Offer)) → length rest ≡ 0 → candidate_lines names rest ≡ []
-none_left [] rest none = refl
-none_left (name ∷ names) [] none = refl
-none_left (name ∷ names) (found ∷ rest) none = absurd (omega (arith, none))

@@ -4,8 +4,9 @@ use Rattle.clap.specs.Kinds.{HasKind, Kinds}
 use Rattle.clap.specs.Values.{kind_of}
 use Rattle.clap.specs.declared.error.Error.{Error}
 use Rattle.clap.specs.declared.error.kind.ErrorKind.TheVariants as kind
-use Rattle.cli.specs.Words.{IsOutcomeOfKind, IsOutcomeOfUsage}
-use Rattle.cli.specs.declared.outcome.Outcome.{Outcome}
+use Rattle.cli.specs.Words.{IsOutcomeOfUsage}
+use Rattle.outcomes.specs.Outcome.{IsOutcomeOfKind}
+use Rattle.outcomes.specs.declared.outcome.Outcome.{Outcome}
 
 -- what is printed of an error that isn't want of memory is what is printed of one of its kinds
 pub usage_by : (kinds : Kinds) (e : Error) (found : Outcome) → HasKind kinds e

@@ -1,37 +1,28 @@
 -- What is said of a plan that is to be carried out, and what is printed and written of that.
-use Rattle.std.specs.Prelude.{◌≡◌, ◌≢◌, ◌⊎◌, List, ℕ, codes, Option, Some, Result, Ok, Err}
-use Rattle.std.specs.Option.{option_map}
-use Rattle.apply_engine.specs.Applied.{IfDone, IfJudged, verdict_of}
-use Rattle.apply_engine.specs.Planned.{IsApplyRefusal, IsCarriedOut, IsPlanned}
+use Rattle.std.specs.Prelude.{◌≡◌, ◌≢◌, ◌⊎◌, List, ℕ, Option, Some, Result, Ok, Err}
+use Rattle.apply_engine.specs.Left.{IsCarriedOut}
+use Rattle.apply_engine.specs.Planned.{IsApplyRefusal, OfGoodPlan}
 use Rattle.apply_engine.specs.declared.applied.Applied.{Applied}
-use Rattle.apply_engine.specs.declared.applied.Applied.TheVariants.{Judged, Done}
-use Rattle.apply_engine.specs.declared.refusal.ApplyRefusal.{ApplyRefusal}
-use Rattle.cli.specs.Answer.{applied_line, verdict_line}
-use Rattle.cli.specs.Exit.{exit_of_apply_refusal, exit_of_verdict}
-use Rattle.cli.specs.Files.{Files, HasPut, shelved_at}
-use Rattle.cli.specs.Outcome.{IsComplaint}
-use Rattle.cli.specs.declared.exit.Exit.TheVariants as exit
-use Rattle.cli.specs.declared.files.Paths.{Paths}
-use Rattle.cli.specs.declared.outcome.Outcome.{Outcome}
-use Rattle.cli.specs.declared.outcome.Outcome.TheVariants as outcome
+use Rattle.apply_engine.specs.declared.applied.Applied.TheVariants.{Judged, Done, Stopped}
+use Rattle.cli.specs.Files.{Files, HasPut}
 use Rattle.cli_engine.specs.Answer.{IsAnswer}
-use Rattle.inputs.specs.Texts.{Found, Shelved, Texts}
+use Rattle.inputs.specs.Texts.{Found, Texts}
+use Rattle.inputs.specs.declared.refusal.Refusal.{Refusal}
+use Rattle.outcomes.specs.Answer.{applied_line, verdict_line}
+use Rattle.outcomes.specs.Exit.{exit_of_verdict}
+use Rattle.outcomes.specs.Outcome.{IsOutcomeOfRefusal, IsOutcomeOfStopped, IsUnwritten}
+use Rattle.outcomes.specs.declared.exit.Exit.TheVariants as exit
+use Rattle.outcomes.specs.declared.outcome.Outcome.{Outcome}
+use Rattle.outcomes.specs.declared.outcome.Outcome.TheVariants as outcome
 use Rattle.rules.specs.declared.step.Verdict.TheVariants as verdict
 
--- what is found at these paths, where the files are known
-abbrev pub found_of : Option Files → Paths → Option Shelved
-found_of known paths = option_map (λ files. shelved_at files paths) known
-
--- what is said of the plan: its verdict, where it is good that its steps were carried out, or why neither was had
-abbrev pub IsSaidOfApplied : Texts → Found → Result Applied ApplyRefusal → Type 0
-IsSaidOfApplied texts plan (Ok applied) = IsAnswer texts plan (verdict_of applied)
-    × IfJudged applied (verdict_of applied ≢ verdict.Yes)
-    × IfDone applied (IsCarriedOut (IsPlanned texts plan) texts.arch)
+-- what is said of the plan: its verdict, where that isn't yes; where it is good that its steps were carried out, or that the journal
+-- didn't; or the first refusal
+abbrev pub IsSaidOfApplied : Texts → Found → Result Applied Refusal → Type 0
+IsSaidOfApplied texts plan (Ok (Judged found)) = IsAnswer texts plan found × (found ≢ verdict.Yes)
+IsSaidOfApplied texts plan (Ok (Done done)) = OfGoodPlan texts plan (IsCarriedOut done)
+IsSaidOfApplied texts plan (Ok (Stopped fault)) = IsAnswer texts plan verdict.Yes
 IsSaidOfApplied texts plan (Err refused) = IsApplyRefusal texts plan refused
-
--- the output couldn't be written (E26)
-abbrev pub IsUnwritten : Outcome → Type 0
-IsUnwritten found = found ≡ outcome.Complaint (codes "debplan: output: E26 Write\n") exit.Device
 
 -- a plan was carried out, and the number of its steps is printed where the status text stands at the path of the output
 abbrev pub IsOutcomeOfDone : ℕ → List ℕ → List ℕ → Files → Option Files → Outcome → Type 0
@@ -45,8 +36,8 @@ abbrev pub IsOutcomeOfSteps : ℕ → Outcome → Type 0
 IsOutcomeOfSteps steps found = (found ≡ outcome.Answer (applied_line steps) exit.Success) ⊎ IsUnwritten found
 
 -- the outcome is that of what is said of the plan
-abbrev pub IsOutcomeOfApplied : Result Applied ApplyRefusal → Outcome → Type 0
+abbrev pub IsOutcomeOfApplied : Result Applied Refusal → Outcome → Type 0
 IsOutcomeOfApplied (Ok (Judged verdict)) found = found ≡ outcome.Answer (verdict_line verdict) (exit_of_verdict verdict)
 IsOutcomeOfApplied (Ok (Done done)) found = IsOutcomeOfSteps done.steps found
-IsOutcomeOfApplied (Err refused) found =
-    (line : List ℕ) × (found ≡ outcome.Complaint line (exit_of_apply_refusal refused)) × IsComplaint line
+IsOutcomeOfApplied (Ok (Stopped fault)) found = IsOutcomeOfStopped fault found
+IsOutcomeOfApplied (Err refused) found = IsOutcomeOfRefusal refused found

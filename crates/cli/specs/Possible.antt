@@ -1,50 +1,42 @@
--- What is said of as much of a request as can be, and what is printed and written of that.
-use Rattle.std.specs.Prelude.{◌≡◌, ◌⊎◌, ℕ, List, codes, Option, None, Some, Result, Ok, Err}
-use Rattle.cli.specs.Files.{Files, HasPut, shelved_at}
-use Rattle.cli.specs.Outcome.{IsOutcomeIn, IsOutcomeOfRefusal, IsOutcomeOfSolved}
-use Rattle.cli.specs.declared.arguments.Arguments.{Arguments}
-use Rattle.cli.specs.declared.exit.Exit.TheVariants as exit
-use Rattle.cli.specs.declared.outcome.Outcome.{Outcome}
-use Rattle.cli.specs.declared.outcome.Outcome.TheVariants as outcome
+-- What is printed and written of as much of a request as can be.
+use Rattle.std.specs.Prelude.{◌≡◌, ◌⊎◌, ℕ, List, Option, None, Some, Result, Ok, Err}
+use Rattle.cli.specs.Files.{Files, HasPut}
+use Rattle.cli.specs.declared.possible.Left.{Left}
 use Rattle.command_line.specs.declared.call.Format.{Format}
-use Rattle.inputs.specs.Texts.{Texts, texts_of}
+use Rattle.inputs.specs.Texts.{Texts}
 use Rattle.inputs.specs.declared.refusal.Refusal.{Refusal}
-use Rattle.keep_back.specs.KeptBack.{IsKeptBack, IsKeptRefusal}
+use Rattle.keep_back.specs.KeptBack.{IsSaidOfKept}
 use Rattle.keep_back.specs.declared.keep_back.KeptBack.{KeptBack}
+use Rattle.outcomes.specs.Outcome.{IsOutcomeIn, IsOutcomeOfRefusal, IsOutcomeOfSolved, IsRequestUnwritten}
+use Rattle.outcomes.specs.declared.outcome.Outcome.{Outcome}
 
--- what is said of as much of a request as can be: the answer to what is left of it, or the first refusal, of the request or of what is
--- left of it
-abbrev pub IsSaidOfPossible : Texts → ℕ → Result KeptBack Refusal → Type 0
-IsSaidOfPossible texts limit (Ok kept) = IsKeptBack texts limit kept
-IsSaidOfPossible texts limit (Err refused) = IsKeptRefusal texts refused
+-- this is printed, or where there is an output, that the request that is left couldn't be written there
+abbrev pub IsPrintedWhere : Option (List ℕ) → Outcome → Outcome → Type 0
+IsPrintedWhere None printed found = found ≡ printed
+IsPrintedWhere (Some path) printed found = (found ≡ printed) ⊎ IsRequestUnwritten found
 
--- the request that is left couldn't be written (E26)
-abbrev pub IsRequestUnwritten : Outcome → Type 0
-IsRequestUnwritten found = found ≡ outcome.Complaint (codes "debplan: request-out: E26 Write\n") exit.Device
-
--- the outcome is that of the answer to what is left, in this format
-abbrev pub IsOutcomeOfLeft : Format → KeptBack → Outcome → Type 0
-IsOutcomeOfLeft written kept found =
-    (plain : Outcome) × IsOutcomeOfSolved (Ok kept.answered) plain × IsOutcomeIn written plain found
-
--- the answer to what is left is printed where its text stands at this path
-abbrev pub IsOutcomeOfWritten : Format → KeptBack → List ℕ → Files → Option Files → Outcome → Type 0
-IsOutcomeOfWritten written kept path old new found =
-    (IsOutcomeOfLeft written kept found × ((after : Files) × (new ≡ Some after) × HasPut path kept.request old after))
+-- this is printed where the request that is left stands at this path, and else the files are as they were
+abbrev pub IsPutWhere : List ℕ → List ℕ → Outcome → Files → Option Files → Outcome → Type 0
+IsPutWhere path request printed old new found =
+    ((found ≡ printed) × ((after : Files) × (new ≡ Some after) × HasPut path request old after))
     ⊎ (IsRequestUnwritten found × (new ≡ Some old))
 
--- the outcome is that of the answer to what is left, or where that is to be written, that it couldn't be
-abbrev pub IsOutcomeOfKept : Format → KeptBack → Option (List ℕ) → Outcome → Type 0
-IsOutcomeOfKept written kept None found = IsOutcomeOfLeft written kept found
-IsOutcomeOfKept written kept (Some path) found = IsOutcomeOfLeft written kept found ⊎ IsRequestUnwritten found
+-- it is printed of the answer to what is left, in this format
+abbrev pub IsPrintedOfKept : Format → KeptBack → Outcome → Type 0
+IsPrintedOfKept written kept printed = (plain : Outcome) × IsOutcomeOfSolved (Ok kept.answered) plain × IsOutcomeIn written plain printed
+
+-- something is said of as much of the request as can be, and this is what is printed and written of it, or the refusal
+abbrev pub IsSaidOfLeft : Texts → ℕ → Format → Result Left Refusal → Type 0
+IsSaidOfLeft texts limit written (Ok left) = (kept : KeptBack) × IsSaidOfKept texts limit (Ok kept)
+    × IsPrintedOfKept written kept left.printed × (left.request ≡ kept.request)
+IsSaidOfLeft texts limit written (Err refused) = IsSaidOfKept texts limit (Err refused)
 
 -- the outcome is that of what is said
 abbrev pub IsOutcomeOfSaid : Format → Result KeptBack Refusal → Option (List ℕ) → Outcome → Type 0
-IsOutcomeOfSaid written (Ok kept) output found = IsOutcomeOfKept written kept output found
+IsOutcomeOfSaid written (Ok kept) output found = (printed : Outcome) × IsPrintedOfKept written kept printed × IsPrintedWhere output printed found
 IsOutcomeOfSaid written (Err refusal) output found = IsOutcomeOfRefusal refusal found
 
--- the outcome is that of what is said of as much of the request as can be, by the files
-abbrev pub IsOutcomeOfPossible : Files → Arguments → ℕ → Option (List ℕ) → Outcome → Type 0
-IsOutcomeOfPossible files arguments limit output found = (said : Result KeptBack Refusal)
-    × IsSaidOfPossible (texts_of arguments.settings (shelved_at files arguments.paths)) limit said
-    × IsOutcomeOfSaid arguments.format said output found
+-- the outcome is that of what is said of as much of the request as can be, by the texts
+abbrev pub IsOutcomeOfPossible : Texts → ℕ → Option (List ℕ) → Format → Outcome → Type 0
+IsOutcomeOfPossible texts limit output written found =
+    (said : Result KeptBack Refusal) × IsSaidOfKept texts limit said × IsOutcomeOfSaid written said output found

@@ -1,11 +1,14 @@
-// A call of the command line, by settings and paths.
+//! What an answer is given by: settings and paths, from the options of a command line.
 ghost use Rattle.std.specs.Prelude.{◌≡◌, IfOk, option_map};
-ghost use Rattle.cli.specs.Words.{HasGiven, IsAtRequest, IsCallOf, comparison_of, file_path, goal_lines, goals_of, lines_of};
-ghost use Rattle.command_line.specs.Asked.{Request as RequestOf, asked_by, given_by, request_by, texts_by};
+ghost use Rattle.cli.specs.Calls.{texts_at};
+ghost use Rattle.cli.specs.Files.{Files, text_at};
+ghost use Rattle.cli.specs.Places.{comparison_of, file_path, goal_lines, lines_of, request_at, texts_for};
+ghost use Rattle.command_line.specs.Asked.{Request as RequestOf, given_by, request_by, texts_by};
 
 use crate::files::{Paths, TextAt};
-use cli_engine::{Comparison, Settings};
-use command_line::{Call as Asked, Extent, Format, Options, Relation, Request};
+use cli_engine::Comparison;
+use command_line::{Format, Options, Relation, Request};
+use inputs::Settings;
 use std::alloc::{AllocError, Global};
 
 /// What an answer is given by: for which architecture texts are read, which release is preferred, where the texts are, whether
@@ -22,131 +25,10 @@ pub(crate) struct Arguments<'a> {
     pub(crate) format: Format,
 }
 
-/// What two versions are to be compared as.
-#[derive(Clone, Copy)]
-pub(crate) struct CompareArguments<'a> {
-    /// The version.
-    pub(crate) version: &'a str,
-    /// How it is to stand to the other.
-    pub(crate) relation: Comparison,
-    /// The other version.
-    pub(crate) other: &'a str,
-}
-
-/// Where the journal of a plan is, and where the status file at its end is written.
-#[derive(Clone, Copy)]
-pub(crate) struct Places<'a> {
-    /// The path of the journal.
-    pub(crate) journal: &'a str,
-    /// The path of the output.
-    pub(crate) output: &'a str,
-}
-
-/// What a command line asks for.
-#[derive(Clone, Copy)]
-pub(crate) enum Call<'a> {
-    /// To compare two versions.
-    Compare(CompareArguments<'a>),
-    /// To name the candidate of each of these names, which need not be those of packages.
-    Candidate(Arguments<'a>, &'a [&'a str]),
-    /// To solve a request to this extent, with at most so many conflicts of the search.
-    Solve(Arguments<'a>, u32, Extent<'a>),
-    /// To judge a plan.
-    CheckPlan(Arguments<'a>),
-    /// To judge a refutation.
-    CheckRefutation(Arguments<'a>),
-    /// To carry a plan out.
-    Apply(Arguments<'a>, Places<'a>),
-}
-
-/// The call that is asked for, by settings and paths, and by the text of its goals.
-pub(crate) fn call_by<'a>(asked: &'a Asked<'a>, goals: &'a [u8]) -> Call<'a>
-    requires { goals.now ≡ goals_of (asked_by asked.now) }
-    ensures { IsCallOf (asked_by asked.entry.now) result }
-{
-    match asked {
-        Asked::Compare {
-            version,
-            relation,
-            other,
-        } => Call::Compare(CompareArguments {
-            version: *version,
-            relation: comparison_by(*relation),
-            other: *other,
-        }),
-        Asked::Candidate {
-            options,
-            names,
-            explains,
-            format,
-        } => Call::Candidate(
-            arguments_by(options, TextAt::File(""), "", *explains, *format),
-            names.as_slice(),
-        ),
-        Asked::Solve {
-            options,
-            request,
-            limit,
-            extent,
-            explains,
-            format,
-        } => Call::Solve(
-            arguments_by(options, place_of(request, goals), "", *explains, *format),
-            *limit,
-            *extent,
-        ),
-        Asked::CheckPlan {
-            options,
-            request,
-            plan,
-            explains,
-            format,
-        } => Call::CheckPlan(arguments_by(
-            options,
-            place_of(request, goals),
-            *plan,
-            *explains,
-            *format,
-        )),
-        Asked::CheckRefutation {
-            options,
-            request,
-            refutation,
-            explains,
-            format,
-        } => Call::CheckRefutation(arguments_by(
-            options,
-            place_of(request, goals),
-            *refutation,
-            *explains,
-            *format,
-        )),
-        Asked::Apply {
-            options,
-            request,
-            plan,
-            journal,
-            output,
-        } => Call::Apply(
-            arguments_by(
-                options,
-                place_of(request, goals),
-                *plan,
-                false,
-                Format::Text,
-            ),
-            Places {
-                journal: *journal,
-                output: *output,
-            },
-        ),
-    }
-}
-
-// Where the request is, of which this is the text of its goals.
-fn place_of<'a>(request: &Request<'a>, goals: &'a [u8]) -> TextAt<'a>
+/// Where the request is, of which this is the text of its goals.
+pub(crate) fn place_of<'a>(request: &'a Request<'a>, goals: &'a [u8]) -> TextAt<'a>
     requires { goals.now ≡ goal_lines (request_by request.now) }
-    ensures { IsAtRequest (request_by request.now) result }
+    ensures { (at : Files) → text_at at result ≡ request_at at (request_by request.entry.now) }
 {
     match request {
         Request::File(path) => TextAt::File(*path),
@@ -154,22 +36,8 @@ fn place_of<'a>(request: &Request<'a>, goals: &'a [u8]) -> TextAt<'a>
     }
 }
 
-/// The text of the goals of the call, each a line, which is empty where it has none. Memory alone can fail.
-pub(crate) fn goals_in(alloc: Global, asked: &Asked<'_>) -> Result<Vec<u8>, AllocError>
-    ensures { IfOk result (λ text. text.items ≡ goals_of (asked_by asked.now)) }
-{
-    match asked {
-        Asked::Compare { .. } => Ok(Vec::new(alloc)),
-        Asked::Candidate { .. } => Ok(Vec::new(alloc)),
-        Asked::Solve { request, .. } => lines_in(alloc, request),
-        Asked::CheckPlan { request, .. } => lines_in(alloc, request),
-        Asked::CheckRefutation { request, .. } => lines_in(alloc, request),
-        Asked::Apply { request, .. } => lines_in(alloc, request),
-    }
-}
-
-// The text of the goals of the request.
-fn lines_in(alloc: Global, request: &Request<'_>) -> Result<Vec<u8>, AllocError>
+/// The text of the goals of the request, each a line, which is empty where it is a file. Memory alone can fail.
+pub(crate) fn goals_in(alloc: Global, request: &Request<'_>) -> Result<Vec<u8>, AllocError>
     ensures { IfOk result (λ text. text.items ≡ goal_lines (request_by request.now)) }
 {
     match request {
@@ -190,7 +58,8 @@ fn lines(alloc: Global, texts: &[&str]) -> Result<Vec<u8>, AllocError>
     Ok(all)
 }
 
-fn comparison_by(relation: Relation) -> Comparison
+/// How versions are compared, by the word of a command line.
+pub(crate) fn comparison_by(relation: Relation) -> Comparison
     ensures { result ≡ comparison_of relation }
 {
     match relation {
@@ -203,16 +72,18 @@ fn comparison_by(relation: Relation) -> Comparison
     }
 }
 
-// What an answer is given by, with the place of the request and the path of what is judged, which are empty where none is read.
-fn arguments_by<'a>(
-    options: &Options<'a>,
+/// What an answer is given by, with the place of the request and the path of what is judged, which are empty where none is read.
+pub(crate) fn arguments_by<'a>(
+    options: &'a Options<'a>,
     request: TextAt<'a>,
     judged: &'a str,
     explains: bool,
     format: Format,
 ) -> Arguments<'a>
-    ensures { (asked : RequestOf) → IsAtRequest asked request.entry
-        → HasGiven (given_by options.now) asked judged.entry.now explains format result }
+    ensures texts { (at : Files) (asked : RequestOf) → text_at at request.entry ≡ request_at at asked
+        → texts_at at result ≡ texts_for at (given_by options.entry.now) asked }
+    ensures judged { result.paths.judged.now ≡ judged.entry.now }
+    ensures format { result.format ≡ format }
 {
     Arguments {
         settings: settings_by(options),

@@ -1,13 +1,14 @@
 // The files of a host, at the paths of a command line, as a shelf.
 ghost use Rattle.std.specs.Prelude.{◌≡◌, IfErr, IfOk, None, Some};
 ghost use Rattle.std.specs.Option.{option_map};
+ghost use Rattle.std.proofs.Common.{◌∙◌, refl};
 ghost use Rattle.cli.specs.Files.{Files, shelved_at, text_at};
-ghost use Rattle.inputs.specs.Counting.{Counts};
-ghost use Rattle.inputs.specs.Texts.{part_of};
+ghost use Rattle.inputs.specs.Counting.{Counts, CountsRead};
+ghost use Rattle.inputs.specs.Texts.{part_of, texts_of};
 ghost use Rattle.inputs.specs.declared.shelf.ReadError.TheVariants as ReadError;
 
 use crate::host::Host;
-use inputs::{Part, ReadError, Shelf};
+use inputs::{Part, Question, ReadError, Refusal, Settings, Shelf, ask};
 use std::alloc::{AllocError, Global};
 
 /// Where a text is.
@@ -119,28 +120,30 @@ fn read_at<H: Host>(alloc: Global, host: &mut H, place: TextAt<'_>) -> Result<Ve
 
 /// The files of a host at these paths. The index of a source is the file that it names.
 #[derive(Drop)]
-pub struct HostShelf<'a, H> {
+pub struct HostShelf<'h, 'a, H> {
     /// The host.
-    pub host: H,
+    pub host: &'h mut H,
     /// The paths.
     pub paths: Paths<'a>,
     /// What is remembered of the texts, where sentences are wanted.
     pub seen: Option<Seen>,
 }
 
-impl<'a, H: Host> Shelf for HostShelf<'a, H> {
+impl<'h, 'a, H: Host> Shelf for HostShelf<'h, 'a, H> {
     type Text = H::Text;
 
-    ghost found = { λ shelf. option_map (λ files. shelved_at files shelf.paths) (H.files shelf.host) };
+    ghost found = { λ shelf. option_map (λ files. shelved_at files shelf.paths) (H.files shelf.host.now) };
 
-    ghost faults = { λ shelf. H.faults shelf.host };
+    ghost faults = { λ shelf. H.faults shelf.host.now };
+
+    ghost holds = { λ old new. new.host.ghost_name ≡ old.host.ghost_name };
 
     fn failures(&self) -> u64 {
         self.host.failures()
     }
 
     fn read(&mut self, alloc: Global, part: Part) -> Result<Vec<u8>, ReadError> {
-        let text = read_at(alloc, &mut self.host, self.paths.of(part))?;
+        let text = read_at(alloc, &mut *self.host, self.paths.of(part))?;
         note_text(alloc, &mut self.seen, part, text.as_slice())?;
         Ok(text)
     }
@@ -160,4 +163,29 @@ impl<'a, H: Host> Shelf for HostShelf<'a, H> {
     fn close(&mut self, text: H::Text) {
         self.host.close(text)
     }
+
+    ghost holds_still = { λ _. refl };
+
+    ghost holds_on = { λ _ _ _ first later. later ∙ first };
+}
+
+/// Asks the question of the files of a host, which are opened in the order status, sources, indices, preferences, and then as the
+/// question reads on: each once and at its turn, and none behind the first refusal, which is answered. A file that can't be read is
+/// refused (E5) at its place. Costs what `inputs::ask` costs.
+pub fn ask_files<H: Host, Q: Question>(
+    alloc: Global,
+    shelf: &mut HostShelf<'_, '_, H>,
+    settings: &Settings<'_>,
+    question: &Q,
+    beside: &mut Q::Beside,
+) -> Result<Q::Answer, Refusal>
+    ensures said { (at : Files) → H.files shelf.old.host.now ≡ Some at
+        → Q.says question.now (texts_of settings.now (shelved_at at shelf.old.paths)) (at shelf.old.paths.judged.now)
+        beside.old result beside.new }
+    ensures kept { Q.keeps question.now settings.now beside.old result beside.new }
+    ensures same { H.files shelf.new.host.now ≡ H.files shelf.old.host.now }
+    ensures count { CountsRead result (H.faults shelf.old.host.now) (H.faults shelf.new.host.now) }
+    ensures held { shelf.new.host.ghost_name ≡ shelf.old.host.ghost_name }
+{
+    ask(alloc, shelf, settings, question, beside)
 }

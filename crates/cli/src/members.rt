@@ -1,17 +1,17 @@
-// What a document has of an answer beside its text, where one is asked for. Its words aren't promised.
+//! What a document has of an answer beside its text, where one is asked for. Its words aren't promised.
 
 use crate::files::HostShelf;
 use crate::host::Host;
 use cli_engine::{
-    Answered, Candidate, Refusal, RefutationVerdict, Sentences, Settings, Solved, Undecided,
+    Answered, Candidate, JudgedPlan, JudgedRefutation, Refusal, RefutationVerdict, Settings,
+    Solved, Undecided,
 };
 use documents::{
     Archives, Members, candidate_value, no_candidate_value, put_bad_line, put_sentences, put_steps,
     put_text, put_undecided, put_verdict, read_archives,
 };
 use inputs::{Fault, open_index, read_sources, read_sources_text};
-use keep_back::KeptBack;
-use rules::{Items, Step, Verdict};
+use rules::Step;
 use serde_json::{Value, push};
 use stanza::ReadError;
 use std::alloc::{AllocError, Global};
@@ -20,82 +20,54 @@ use std::alloc::{AllocError, Global};
 /// a second time. Memory alone can fail.
 pub(crate) fn members_of_plan<H: Host>(
     alloc: Global,
-    shelf: &mut HostShelf<'_, H>,
+    shelf: &mut HostShelf<'_, '_, H>,
     settings: &Settings<'_>,
-    answer: &Result<Verdict, Refusal>,
-    told: &mut Sentences,
+    judged: &JudgedPlan,
+    sentences: &[u8],
 ) -> Result<Members, AllocError> {
-    let Some(mut members) = told.members.take() else {
-        return Ok(Members::new(alloc));
-    };
-    if let Ok(verdict) = answer {
-        put_verdict(alloc, &mut members, verdict)?;
-        put_plan(alloc, shelf, settings, told.steps.as_slice(), &mut members)?;
-        put_sentences(alloc, &mut members, told.text.as_slice())?;
-    }
+    let mut members = Members::new(alloc);
+    put_verdict(alloc, &mut members, &judged.verdict)?;
+    put_plan(
+        alloc,
+        shelf,
+        settings,
+        judged.steps.as_slice(),
+        &mut members,
+    )?;
+    put_sentences(alloc, &mut members, sentences)?;
     Ok(members)
 }
 
-/// The members of the answer to a request: of a plan its steps, as of one that is judged. Memory alone can fail.
+/// The members of the answer to a request: of a refutation its lines, and of a plan its steps, as of one that is judged. Memory alone can
+/// fail.
 pub(crate) fn members_of_solved<H: Host>(
     alloc: Global,
-    shelf: &mut HostShelf<'_, H>,
+    shelf: &mut HostShelf<'_, '_, H>,
     settings: &Settings<'_>,
-    answer: &Result<Answered, Refusal>,
-    told: &mut Sentences,
+    answered: Answered,
+    sentences: &[u8],
 ) -> Result<Members, AllocError> {
-    let Some(mut members) = told.members.take() else {
-        return Ok(Members::new(alloc));
-    };
-    if let Ok(found) = answer {
-        put_solved(alloc, shelf, settings, &found.solved, &mut members)?;
-        put_sentences(alloc, &mut members, told.text.as_slice())?;
-    }
+    let Answered {
+        solved,
+        members,
+        ..
+    } = answered;
+    let mut members = members.unwrap_or(Members::new(alloc));
+    put_solved(alloc, shelf, settings, &solved, &mut members)?;
+    put_sentences(alloc, &mut members, sentences)?;
     Ok(members)
 }
 
-/// Tells the members of the answer to what is left of a request: those of the answer, as `request` the text of what is left, and as
-/// `kept_back` the lines that tell what was left out. Memory alone can fail.
-pub(crate) fn tell_members_of_kept<H: Host>(
-    alloc: Global,
-    shelf: &mut HostShelf<'_, H>,
-    settings: &Settings<'_>,
-    answer: &Result<KeptBack, Refusal>,
-    told: &mut Sentences,
-) -> Result<(), AllocError> {
-    let Some(mut members) = told.members.take() else {
-        return Ok(());
-    };
-    if let Ok(kept) = answer {
-        put_solved(alloc, shelf, settings, &kept.answered.solved, &mut members)?;
-        put_sentences(alloc, &mut members, told.text.as_slice())?;
-        put_kept(alloc, kept, &mut members)?;
-    }
-    told.members = Some(members);
-    Ok(())
-}
-
-/// The members that were told, or none.
-pub(crate) fn members_in(alloc: Global, told: &mut Sentences) -> Members {
-    match told.members.take() {
-        Some(members) => members,
-        None => Members::new(alloc),
-    }
-}
-
-/// The members of the answer about a refutation. Memory alone can fail.
+/// The members of the answer about a refutation: its lines, and the verdict. Memory alone can fail.
 pub(crate) fn members_of_refutation(
     alloc: Global,
-    answer: &Result<RefutationVerdict, Refusal>,
-    told: &mut Sentences,
+    judged: JudgedRefutation,
+    sentences: &[u8],
 ) -> Result<Members, AllocError> {
-    let Some(mut members) = told.members.take() else {
-        return Ok(Members::new(alloc));
-    };
-    if let Ok(verdict) = answer {
-        put_bad_line(alloc, &mut members, bad_line(verdict))?;
-        put_sentences(alloc, &mut members, told.text.as_slice())?;
-    }
+    let JudgedRefutation { verdict, members } = judged;
+    let mut members = members.unwrap_or(Members::new(alloc));
+    put_bad_line(alloc, &mut members, bad_line(&verdict))?;
+    put_sentences(alloc, &mut members, sentences)?;
     Ok(members)
 }
 
@@ -103,25 +75,26 @@ pub(crate) fn members_of_refutation(
 pub(crate) fn members_of_names(
     alloc: Global,
     names: &[&str],
-    answer: &Result<Items<Option<Candidate>>, Refusal>,
-    told: &mut Sentences,
+    candidates: &[Option<Candidate>],
+    sentences: &[u8],
 ) -> Result<Members, AllocError> {
-    let Some(mut members) = told.members.take() else {
-        return Ok(Members::new(alloc));
-    };
-    if let Ok(found) = answer {
-        put_candidates(alloc, names, found.as_slice(), &mut members)?;
-        put_sentences(alloc, &mut members, told.text.as_slice())?;
-    }
+    let mut members = Members::new(alloc);
+    put_candidates(alloc, names, candidates, &mut members)?;
+    put_sentences(alloc, &mut members, sentences)?;
     Ok(members)
 }
 
-// Puts what is left of a request, and what is told of what isn't.
-fn put_kept(alloc: Global, kept: &KeptBack, members: &mut Members) -> Result<(), AllocError> {
-    let request = string_of(alloc, kept.request.as_slice())?;
+/// Puts what is left of a request, as `request` its text, and as `kept_back` the lines that tell what was left out. Memory alone can fail.
+pub(crate) fn put_kept(
+    alloc: Global,
+    request: &[u8],
+    notes: &[u8],
+    members: &mut Members,
+) -> Result<(), AllocError> {
+    let request = string_of(alloc, request)?;
     members.put(alloc, "request", request)?;
     let mut lines = Vec::new(alloc);
-    for line in kept.notes.as_slice().split(|byte| *byte == b'\n') {
+    for line in notes.split(|byte| *byte == b'\n') {
         if !line.is_empty() {
             push(&mut lines, string_of(alloc, line)?)?;
         }
@@ -145,7 +118,7 @@ fn bad_line(verdict: &RefutationVerdict) -> Option<usize> {
 // Puts what is answered to a request.
 fn put_solved<H: Host>(
     alloc: Global,
-    shelf: &mut HostShelf<'_, H>,
+    shelf: &mut HostShelf<'_, '_, H>,
     settings: &Settings<'_>,
     solved: &Solved,
     members: &mut Members,
@@ -173,7 +146,7 @@ fn why_undecided(why: &Undecided) -> &'static str {
 // Puts the steps of a plan.
 fn put_plan<H: Host>(
     alloc: Global,
-    shelf: &mut HostShelf<'_, H>,
+    shelf: &mut HostShelf<'_, '_, H>,
     settings: &Settings<'_>,
     steps: &[Step],
     members: &mut Members,
@@ -185,7 +158,7 @@ fn put_plan<H: Host>(
 // The archives of what the steps unpack, as far as the indices can be read again. Memory alone can fail.
 fn archives_of<'s, H: Host>(
     alloc: Global,
-    shelf: &mut HostShelf<'_, H>,
+    shelf: &mut HostShelf<'_, '_, H>,
     settings: &Settings<'_>,
     steps: &'s [Step],
 ) -> Result<Archives<'s>, AllocError> {
@@ -208,7 +181,7 @@ fn is_for_memory(refused: &Refusal) -> bool {
 // Finds archives in a second reading of the sources and of the indices that they name, in their order.
 fn find_archives<H: Host>(
     alloc: Global,
-    shelf: &mut HostShelf<'_, H>,
+    shelf: &mut HostShelf<'_, '_, H>,
     settings: &Settings<'_>,
     archives: &mut Archives<'_>,
 ) -> Result<(), Refusal> {
@@ -227,7 +200,7 @@ fn find_archives<H: Host>(
 // Finds archives in a second reading of the index of this number, which is this file.
 fn find_in_index<H: Host>(
     alloc: Global,
-    shelf: &mut HostShelf<'_, H>,
+    shelf: &mut HostShelf<'_, '_, H>,
     settings: &Settings<'_>,
     number: usize,
     file: &[u8],

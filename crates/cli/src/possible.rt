@@ -1,153 +1,190 @@
-// As much of a request as can be, answered by the files of a host.
-ghost use Rattle.std.specs.Prelude.{◌≡◌, IfErr, IfOk, Some};
+//! As much of a request as can be, answered by the files of a host.
+ghost use Rattle.std.specs.Prelude.{◌≡◌, IfOk, Some};
 ghost use Rattle.std.specs.Option.{option_map};
 ghost use Rattle.cli.specs.Calls.{texts_at};
-ghost use Rattle.cli.specs.Files.{Files, shelved_at};
-ghost use Rattle.cli.specs.Possible.{IsOutcomeOfKept, IsOutcomeOfLeft, IsOutcomeOfPossible, IsOutcomeOfWritten, IsRequestUnwritten, IsSaidOfPossible};
-ghost use Rattle.inputs.specs.Texts.{texts_of};
-ghost use Rattle.keep_back.specs.KeptBack.{IsKeptBack, IsKeptRefusal};
+ghost use Rattle.cli.specs.Files.{Files};
+ghost use Rattle.cli.specs.Possible.{IsOutcomeOfPossible, IsPrintedOfKept, IsPrintedWhere, IsPutWhere, IsSaidOfLeft};
 
 use crate::arguments::Arguments;
-use crate::exit::Exit;
-use crate::files::HostShelf;
+use crate::asking::{is_document, seen_if, show, want};
+use crate::files::{HostShelf, ask_files};
 use crate::host::{Host, PutError};
-use crate::members::{members_in, tell_members_of_kept};
-use crate::outcome::{Outcome, outcome_in, outcome_of_solved};
-use crate::program::{ask, seen_if};
-use crate::told::{tell_refusal, tell_unsolved};
-use cli_engine::{Input, Refusal, Sentences, Settings};
-use keep_back::{KeptBack, solve_possible_from};
+use crate::members::{members_of_solved, put_kept};
+use crate::told::{tell_refusal, tell_undecided};
+use cli_engine::{Answered, Input, Notes, Refusal, Settings};
+use command_line::Format;
+use documents::Members;
+use keep_back::{KeepBack, KeptBack};
+use outcomes::{
+    Outcome, outcome_in, outcome_of_answered, outcome_of_refusal, outcome_of_unwritten_request,
+};
 use rules::Items;
 use std::alloc::{AllocError, Global};
 
-/// Answers as much of the request as can be by the files of a host, with at most so many conflicts of each search. The files are
-/// opened in the order status, sources, indices, preferences and request, and refused as `check_plan` says. Costs what
-/// `keep_back::solve_possible_from` costs. Sentences on the answer go to `told`.
-pub fn solve_possible<H: Host>(
-    alloc: Global,
-    shelf: &mut HostShelf<'_, H>,
-    settings: &Settings<'_>,
-    limit: u32,
-    told: &mut Sentences,
-) -> Result<KeptBack, Refusal>
-    ensures answer { (at : Files) → H.files shelf.old.host ≡ Some at
-        → IfOk result (λ kept. IsKeptBack (texts_of settings.now (shelved_at at shelf.old.paths)) limit kept) }
-    ensures refused { (at : Files) → H.files shelf.old.host ≡ Some at
-        → IfErr result (λ refused. IsKeptRefusal (texts_of settings.now (shelved_at at shelf.old.paths)) refused) }
-{
-    solve_possible_from(alloc, shelf, settings, limit, told)
+/// What is left of a request, as it is printed and written.
+#[derive(Drop)]
+struct Left {
+    /// What is printed of its answer.
+    printed: Outcome,
+    /// Its text.
+    request: Items<u8>,
+    /// What is told of what was left out.
+    notes: Items<u8>,
 }
 
-// Tells why what is left is undecided, where it is and that is asked for. Where memory was wanting no answer is told.
-fn tell_left(answer: &Result<KeptBack, Refusal>, told: &mut Sentences) -> Result<(), AllocError> {
+// Tells why what is left is undecided, where it is. Where memory was wanting no answer is told.
+fn tell_left(answer: &Result<KeptBack, Refusal>, notes: &mut Notes) -> Result<(), AllocError> {
     match answer {
-        Ok(kept) => tell_unsolved(&kept.answered.solved, told),
+        Ok(kept) => tell_undecided(&kept.answered.solved, notes),
         Err(refusal) => {
             if let Input::Memory = refusal.place {
-                told.text.clear();
+                notes.text.clear();
             }
             Ok(())
         }
     }
 }
 
-// What is answered, by the files of the host. What a document has beside it is told.
+// What a document has of the answer to what is left, and of what was left out.
+fn members_of<H: Host>(
+    alloc: Global,
+    shelf: &mut HostShelf<'_, '_, H>,
+    settings: &Settings<'_>,
+    answered: Answered,
+    request: &[u8],
+    left_out: &[u8],
+    sentences: &[u8],
+) -> Result<Members, AllocError> {
+    let mut members = members_of_solved(alloc, shelf, settings, answered, sentences)?;
+    put_kept(alloc, request, left_out, &mut members)?;
+    Ok(members)
+}
+
+// What is left, as it is printed in this format and written.
+fn left_of<H: Host>(
+    alloc: Global,
+    shelf: &mut HostShelf<'_, '_, H>,
+    settings: &Settings<'_>,
+    format: Format,
+    kept: KeptBack,
+    sentences: &[u8],
+) -> Result<Left, AllocError>
+    ensures printed { IfOk result (λ left. IsPrintedOfKept format kept left.printed) }
+    ensures request { IfOk result (λ left. left.request ≡ kept.request) }
+{
+    let plain = outcome_of_answered(alloc, &kept.answered)?;
+    let KeptBack {
+        answered,
+        request,
+        notes,
+        ..
+    } = kept;
+    let members = if is_document(format) {
+        members_of(
+            alloc,
+            shelf,
+            settings,
+            answered,
+            request.as_slice(),
+            notes.as_slice(),
+            sentences,
+        )?
+    } else {
+        Members::new(alloc)
+    };
+    let printed = outcome_in(alloc, format, plain, members)?;
+    Ok(Left {
+        printed,
+        request,
+        notes,
+    })
+}
+
+// Shows what is told of what was left out, behind the notes on an answer that is explained.
+fn show_left(explains: bool, left_out: &[u8], notes: &mut Notes) -> Result<(), AllocError> {
+    show(explains, notes);
+    notes.text.extend_from_slice(left_out)
+}
+
+// What is printed of what is left, once its request stands at this path.
+fn outcome_of_put<H: Host>(
+    alloc: Global,
+    host: &mut H,
+    explains: bool,
+    output: &str,
+    left: Left,
+    notes: &mut Notes,
+) -> Result<Outcome, AllocError>
+    ensures printed { IfOk result (IsPrintedWhere (Some output.now) left.printed) }
+    ensures put { (at : Files) → H.files host.old ≡ Some at
+        → IfOk result (λ outcome. IsPutWhere output.now left.request left.printed at (H.files host.new) outcome) }
+{
+    match host.put(alloc, output.as_bytes(), left.request.as_slice()) {
+        Ok(()) => {
+            show_left(explains, left.notes.as_slice(), notes)?;
+            Ok(left.printed)
+        }
+        Err(PutError::Unwritten) => {
+            show(explains, notes);
+            outcome_of_unwritten_request(alloc)
+        }
+        Err(PutError::OutOfMemory) => Err(AllocError),
+    }
+}
+
+// The same, where the path of an output is given.
+fn outcome_of_left<H: Host>(
+    alloc: Global,
+    host: &mut H,
+    explains: bool,
+    output: Option<&str>,
+    left: Left,
+    notes: &mut Notes,
+) -> Result<Outcome, AllocError>
+    ensures { IfOk result (IsPrintedWhere (option_map (λ path. path.now) output.entry) left.printed) }
+{
+    match output {
+        None => {
+            show_left(explains, left.notes.as_slice(), notes)?;
+            Ok(left.printed)
+        }
+        Some(path) => outcome_of_put(alloc, host, explains, path, left, notes),
+    }
+}
+
+// What is said of the request by the files of the host: what is left of it, as it is printed and written, or the refusal.
 fn answer_of_possible<H: Host>(
     alloc: Global,
     host: &mut H,
     arguments: &Arguments<'_>,
     limit: u32,
-    told: &mut Sentences,
-) -> Result<Result<KeptBack, Refusal>, AllocError>
-    ensures { (at : Files) → H.files host.old ≡ Some at → IfOk result (IsSaidOfPossible (texts_at at arguments.now) limit) }
+    notes: &mut Notes,
+) -> Result<Result<Left, Refusal>, AllocError>
+    ensures { (at : Files) → H.files host.old ≡ Some at
+        → IfOk result (λ left. IsSaidOfLeft (texts_at at arguments.now) limit arguments.now.format left) }
 {
-    ask(alloc, arguments, told);
     let Arguments {
         settings,
         paths,
         explains,
-        ..
+        format,
     } = *arguments;
     let seen = seen_if(alloc, explains);
     let mut shelf = HostShelf { host, paths, seen };
-    let answer = solve_possible(alloc, &mut shelf, &settings, limit, told);
-    tell_refusal(alloc, &answer, &shelf, told)?;
-    tell_left(&answer, told)?;
-    tell_members_of_kept(alloc, &mut shelf, &settings, &answer, told)?;
-    Ok(answer)
-}
-
-// What is printed of a request that couldn't be written. Memory alone can fail.
-fn outcome_of_unwritten(alloc: Global) -> Result<Outcome, AllocError>
-    ensures { IfOk result IsRequestUnwritten }
-{
-    let line = Items::new(b"debplan: request-out: E26 Write\n".to_vec(alloc)?);
-    Ok(Outcome::Complaint(line, Exit::Device))
-}
-
-// Shows what is told of what was left out, behind the sentences that are asked for by themselves.
-fn show_notes(explains: bool, notes: &[u8], told: &mut Sentences) -> Result<(), AllocError> {
-    if !explains {
-        told.text.clear();
-    }
-    told.shown = true;
-    told.text.extend_from_slice(notes)
-}
-
-// What is printed of what is answered, with what is told of what was left out.
-fn outcome_of_left(
-    alloc: Global,
-    arguments: &Arguments<'_>,
-    kept: KeptBack,
-    told: &mut Sentences,
-) -> Result<Outcome, AllocError>
-    ensures { IfOk result (IsOutcomeOfLeft arguments.now.format kept) }
-{
-    let KeptBack {
-        answered,
-        notes,
-        ..
-    } = kept;
-    show_notes(arguments.explains, notes.as_slice(), told)?;
-    let members = members_in(alloc, told);
-    let plain = outcome_of_solved(alloc, &Ok(answered))?;
-    outcome_in(alloc, arguments.format, plain, members)
-}
-
-// The same, once the request that is left stands at this path.
-fn outcome_of_put<H: Host>(
-    alloc: Global,
-    host: &mut H,
-    arguments: &Arguments<'_>,
-    output: &str,
-    kept: KeptBack,
-    told: &mut Sentences,
-) -> Result<Outcome, AllocError>
-    ensures printed { IfOk result (IsOutcomeOfKept arguments.now.format kept (Some output.now)) }
-    ensures put { (at : Files) → H.files host.old ≡ Some at → IfOk result (λ outcome.
-        IsOutcomeOfWritten arguments.now.format kept output.now at (H.files host.new) outcome) }
-{
-    match host.put(alloc, output.as_bytes(), kept.request.as_slice()) {
-        Ok(()) => outcome_of_left(alloc, arguments, kept, told),
-        Err(PutError::Unwritten) => outcome_of_unwritten(alloc),
-        Err(PutError::OutOfMemory) => Err(AllocError),
-    }
-}
-
-// The same, once the request that is left stands at the path of the output, if there is one.
-fn outcome_of_kept<H: Host>(
-    alloc: Global,
-    host: &mut H,
-    arguments: &Arguments<'_>,
-    output: Option<&str>,
-    kept: KeptBack,
-    told: &mut Sentences,
-) -> Result<Outcome, AllocError>
-    ensures { IfOk result (IsOutcomeOfKept arguments.now.format kept (option_map (λ path. path.now) output.entry)) }
-{
-    match output {
-        None => outcome_of_left(alloc, arguments, kept, told),
-        Some(path) => outcome_of_put(alloc, host, arguments, path, kept, told),
+    let question = KeepBack {
+        limit,
+        has_document: is_document(format),
+    };
+    let answer = ask_files(alloc, &mut shelf, &settings, &question, notes);
+    tell_refusal(alloc, &answer, &shelf, notes)?;
+    tell_left(&answer, notes)?;
+    match answer {
+        Ok(kept) => {
+            let sentences = notes.text.as_slice();
+            let left = left_of(alloc, &mut shelf, &settings, format, kept, sentences)?;
+            Ok(Ok(left))
+        }
+        Err(refusal) => Ok(Err(refusal)),
     }
 }
 
@@ -159,13 +196,17 @@ pub(crate) fn outcome_of_possible<H: Host>(
     arguments: &Arguments<'_>,
     limit: u32,
     output: Option<&str>,
-    told: &mut Sentences,
+    notes: &mut Notes,
 ) -> Result<Outcome, AllocError>
-    ensures { (at : Files) → H.files host.old ≡ Some at → IfOk result (λ outcome.
-        IsOutcomeOfPossible at arguments.now limit (option_map (λ path. path.now) output.entry) outcome) }
+    ensures { (at : Files) → H.files host.old ≡ Some at → IfOk result (λ outcome. IsOutcomeOfPossible
+        (texts_at at arguments.now) limit (option_map (λ path. path.now) output.entry) arguments.now.format outcome) }
 {
-    match answer_of_possible(alloc, host, arguments, limit, told)? {
-        Ok(kept) => outcome_of_kept(alloc, host, arguments, output, kept, told),
-        Err(refusal) => outcome_of_solved(alloc, &Err(refusal)),
+    want(arguments, notes);
+    match answer_of_possible(alloc, host, arguments, limit, notes)? {
+        Ok(left) => outcome_of_left(alloc, host, arguments.explains, output, left, notes),
+        Err(refusal) => {
+            show(arguments.explains, notes);
+            outcome_of_refusal(alloc, &refusal)
+        }
     }
 }

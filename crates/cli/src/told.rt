@@ -1,9 +1,9 @@
-// Sentences on a refusal and on an answer that gives none of its own, for a person to read. Their words aren't promised.
+//! Sentences on a refusal and on an answer that gives none of its own, for a person to read. Their words aren't promised.
 ghost use Rattle.std.specs.Prelude.{◌≡◌};
 
 use crate::files::{HostShelf, Paths, Seen, TextAt};
 use crate::host::Host;
-use cli_engine::{Answered, Fault, Input, Refusal, Sentences, Solved, Undecided};
+use cli_engine::{Fault, Input, JudgedPlan, Notes, Refusal, Solved, Undecided};
 use index::IndexFault;
 use inputs::StatusRefusal;
 use rules::{Reason, Verdict};
@@ -16,14 +16,14 @@ use universe_request::RequestFault;
 pub(crate) fn tell_refusal<T, H: Host>(
     alloc: Global,
     answer: &Result<T, Refusal>,
-    shelf: &HostShelf<'_, H>,
-    told: &mut Sentences,
+    shelf: &HostShelf<'_, '_, H>,
+    notes: &mut Notes,
 ) -> Result<(), AllocError> {
     match (answer, &shelf.seen) {
         (Err(refusal), Some(seen)) => {
-            tell_place(alloc, refusal.place, &shelf.paths, seen, told)?;
-            tell_trouble(alloc, refusal, shelf, seen, told)?;
-            tell_fault(alloc, &refusal.fault, &shelf.paths, seen, told)
+            tell_place(alloc, refusal.place, &shelf.paths, seen, notes)?;
+            tell_trouble(alloc, refusal, shelf, seen, notes)?;
+            tell_fault(alloc, &refusal.fault, &shelf.paths, seen, notes)
         }
         _ => Ok(()),
     }
@@ -33,22 +33,22 @@ pub(crate) fn tell_refusal<T, H: Host>(
 fn tell_trouble<H: Host>(
     alloc: Global,
     refusal: &Refusal,
-    shelf: &HostShelf<'_, H>,
+    shelf: &HostShelf<'_, '_, H>,
     seen: &Seen,
-    told: &mut Sentences,
+    notes: &mut Notes,
 ) -> Result<(), AllocError> {
     match (&refusal.fault, path_at(refusal.place, &shelf.paths, seen)) {
-        (Fault::Read, Some(path)) => tell_words(alloc, shelf.host.trouble(path), told),
+        (Fault::Read, Some(path)) => tell_words(alloc, shelf.host.trouble(path), notes),
         _ => Ok(()),
     }
 }
 
 // Tells the words of the system, if there are any.
-fn tell_words(alloc: Global, words: &str, told: &mut Sentences) -> Result<(), AllocError> {
+fn tell_words(alloc: Global, words: &str, notes: &mut Notes) -> Result<(), AllocError> {
     if words.is_empty() {
         return Ok(());
     }
-    told.add(format!(in alloc; "It can't be read: {words}.\n")?.as_bytes())
+    notes.add(format!(in alloc; "It can't be read: {words}.\n")?.as_bytes())
 }
 
 // The path of the text, if it is a file.
@@ -73,53 +73,43 @@ fn tell_place(
     place: Input,
     paths: &Paths<'_>,
     seen: &Seen,
-    told: &mut Sentences,
+    notes: &mut Notes,
 ) -> Result<(), AllocError> {
     match place {
-        Input::Status => tell_file(alloc, "The status file", paths.status, told),
-        Input::Sources => tell_file(alloc, "The sources file", paths.sources, told),
+        Input::Status => tell_file(alloc, "The status file", paths.status, notes),
+        Input::Sources => tell_file(alloc, "The sources file", paths.sources, notes),
         Input::Preferences => tell_file(
             alloc,
             "The preferences file",
             paths.preferences.unwrap_or(""),
-            told,
+            notes,
         ),
-        Input::Request => tell_request(alloc, paths.request, told),
-        Input::Plan => tell_text(alloc, "The plan", paths.judged, told),
-        Input::Refutation => tell_text(alloc, "The refutation", paths.judged, told),
-        Input::Index(number) => tell_index(alloc, number, seen, told),
+        Input::Request => tell_request(alloc, paths.request, notes),
+        Input::Plan => tell_text(alloc, "The plan", paths.judged, notes),
+        Input::Refutation => tell_text(alloc, "The refutation", paths.judged, notes),
+        Input::Index(number) => tell_index(alloc, number, seen, notes),
         Input::Version(_) | Input::Memory => Ok(()),
     }
 }
 
 // Tells the path of a file.
-fn tell_file(
-    alloc: Global,
-    name: &str,
-    path: &str,
-    told: &mut Sentences,
-) -> Result<(), AllocError> {
-    told.add(format!(in alloc; "{name} is {path}.\n")?.as_bytes())
+fn tell_file(alloc: Global, name: &str, path: &str, notes: &mut Notes) -> Result<(), AllocError> {
+    notes.add(format!(in alloc; "{name} is {path}.\n")?.as_bytes())
 }
 
 // Tells the path of a text, which may be that of standard input.
-fn tell_text(
-    alloc: Global,
-    name: &str,
-    path: &str,
-    told: &mut Sentences,
-) -> Result<(), AllocError> {
+fn tell_text(alloc: Global, name: &str, path: &str, notes: &mut Notes) -> Result<(), AllocError> {
     if path == "-" {
-        tell_file(alloc, name, "what standard input gives", told)
+        tell_file(alloc, name, "what standard input gives", notes)
     } else {
-        tell_file(alloc, name, path, told)
+        tell_file(alloc, name, path, notes)
     }
 }
 
-fn tell_request(alloc: Global, place: TextAt<'_>, told: &mut Sentences) -> Result<(), AllocError> {
+fn tell_request(alloc: Global, place: TextAt<'_>, notes: &mut Notes) -> Result<(), AllocError> {
     match place {
-        TextAt::File(path) => tell_text(alloc, "The request", path, told),
-        TextAt::Given(_) => tell_file(alloc, "The request", "what --goal says", told),
+        TextAt::File(path) => tell_text(alloc, "The request", path, notes),
+        TextAt::Given(_) => tell_file(alloc, "The request", "what --goal says", notes),
     }
 }
 
@@ -127,11 +117,11 @@ fn tell_index(
     alloc: Global,
     number: usize,
     seen: &Seen,
-    told: &mut Sentences,
+    notes: &mut Notes,
 ) -> Result<(), AllocError> {
-    told.add(format!(in alloc; "Index {number} is ")?.as_bytes())?;
-    tell_printed(alloc, seen.index.as_slice(), told)?;
-    told.add(b".\n")
+    notes.add(format!(in alloc; "Index {number} is ")?.as_bytes())?;
+    tell_printed(alloc, seen.index.as_slice(), notes)?;
+    notes.add(b".\n")
 }
 
 // Tells what may help.
@@ -140,19 +130,19 @@ fn tell_fault(
     fault: &Fault,
     paths: &Paths<'_>,
     seen: &Seen,
-    told: &mut Sentences,
+    notes: &mut Notes,
 ) -> Result<(), AllocError> {
     match fault {
         Fault::Request(RequestFault::BadRequest(line)) => {
-            tell_line(alloc, *line, text_of(paths, seen), told)?;
-            told.add(GOALS)
+            tell_line(alloc, *line, text_of(paths, seen), notes)?;
+            notes.add(GOALS)
         }
         Fault::UnknownName(line) => {
-            tell_line(alloc, *line, text_of(paths, seen), told)?;
-            told.add(UNKNOWN_NAME)
+            tell_line(alloc, *line, text_of(paths, seen), notes)?;
+            notes.add(UNKNOWN_NAME)
         }
-        Fault::Status(StatusRefusal::ForeignArchitecture(_)) => told.add(ONE_ARCHITECTURE),
-        Fault::Index(IndexFault::Stanza(error)) => tell_compressed(*error, seen, told),
+        Fault::Status(StatusRefusal::ForeignArchitecture(_)) => notes.add(ONE_ARCHITECTURE),
+        Fault::Index(IndexFault::Stanza(error)) => tell_compressed(*error, seen, notes),
         _ => Ok(()),
     }
 }
@@ -181,11 +171,11 @@ fn tell_line(
     alloc: Global,
     number: usize,
     text: &[u8],
-    told: &mut Sentences,
+    notes: &mut Notes,
 ) -> Result<(), AllocError> {
-    told.add(format!(in alloc; "Line {number} is: ")?.as_bytes())?;
-    tell_printed(alloc, line_at(text, number), told)?;
-    told.add(b"\n")
+    notes.add(format!(in alloc; "Line {number} is: ")?.as_bytes())?;
+    tell_printed(alloc, line_at(text, number), notes)?;
+    notes.add(b"\n")
 }
 
 // The line of this number, counted from 1, without its end, or nothing where there are fewer.
@@ -200,12 +190,12 @@ fn line_at(text: &[u8], number: usize) -> &[u8] {
 }
 
 // Tells bytes of a text, with a question mark in the place of each that controls a terminal.
-fn tell_printed(alloc: Global, text: &[u8], told: &mut Sentences) -> Result<(), AllocError> {
+fn tell_printed(alloc: Global, text: &[u8], notes: &mut Notes) -> Result<(), AllocError> {
     let mut printed = text.to_vec(alloc)?;
     for byte in printed.as_mut_slice() {
         *byte = printed_byte(*byte);
     }
-    told.add(printed.as_slice())
+    notes.add(printed.as_slice())
 }
 
 fn printed_byte(byte: u8) -> u8 {
@@ -218,15 +208,11 @@ fn printed_byte(byte: u8) -> u8 {
 
 // Tells that an index is to be given uncompressed, where it's no control text from its first line on and is named as a compressed
 // file.
-fn tell_compressed(
-    error: StanzaError,
-    seen: &Seen,
-    told: &mut Sentences,
-) -> Result<(), AllocError> {
+fn tell_compressed(error: StanzaError, seen: &Seen, notes: &mut Notes) -> Result<(), AllocError> {
     match error {
         StanzaError::BadLine(1) | StanzaError::BadFieldName(1)
             if is_compressed_name(seen.index.as_slice()) => {
-            told.add(b"It looks compressed: give it uncompressed.\n")
+            notes.add(b"It looks compressed: give it uncompressed.\n")
         }
         _ => Ok(()),
     }
@@ -241,21 +227,10 @@ fn is_compressed_name(file: &[u8]) -> bool {
         || file.ends_with(b".bz2")
 }
 
-/// Tells why a request is undecided, where it is and that is asked for. Memory alone can fail.
-pub(crate) fn tell_undecided(
-    answer: &Result<Answered, Refusal>,
-    told: &mut Sentences,
-) -> Result<(), AllocError> {
-    match answer {
-        Ok(found) => tell_unsolved(&found.solved, told),
-        Err(_) => Ok(()),
-    }
-}
-
 /// Tells why this answer is undecided, where it is and that is asked for. Memory alone can fail.
-pub(crate) fn tell_unsolved(solved: &Solved, told: &mut Sentences) -> Result<(), AllocError> {
+pub(crate) fn tell_undecided(solved: &Solved, notes: &mut Notes) -> Result<(), AllocError> {
     match solved {
-        Solved::Undecided(why) => told.add(why_undecided(why)),
+        Solved::Undecided(why) => notes.add(why_undecided(why)),
         Solved::Plan(_) | Solved::Refuted(_) => Ok(()),
     }
 }
@@ -273,12 +248,9 @@ fn why_undecided(why: &Undecided) -> &'static [u8] {
 }
 
 /// Tells what finishes a package that a plan leaves unfinished, where that is asked for. Memory alone can fail.
-pub(crate) fn tell_unfinished(
-    answer: &Result<Verdict, Refusal>,
-    told: &mut Sentences,
-) -> Result<(), AllocError> {
-    match answer {
-        Ok(Verdict::End(Reason::Unfinished(_))) => told.add(UNFINISHED),
+pub(crate) fn tell_unfinished(judged: &JudgedPlan, notes: &mut Notes) -> Result<(), AllocError> {
+    match judged.verdict {
+        Verdict::End(Reason::Unfinished(_)) => notes.add(UNFINISHED),
         _ => Ok(()),
     }
 }

@@ -1,5 +1,5 @@
 -- A plan has one answer; yes keeps its promise, and is said of every good plan.
-use Rattle.std.proofs.Common.{◌≡◌, List, Ok, Err, ap, subst}
+use Rattle.std.proofs.Common.{◌≡◌, List, Ok, Err, ap, refl, subst}
 use Rattle.rules.specs.Database.{Record}
 use Rattle.rules.specs.Universe.{Universe}
 use Rattle.rules.specs.Verdict.{IsVerdict}
@@ -55,7 +55,13 @@ wanting texts plan u start steps refused is (inl first) = meaning_is_not_refused
 wanting texts plan u start steps refused is (inr fails) = absurd (not-both steps refused.fault (plan_of plan) is.read fails.fault)
 
 pub good_plan_is_answered : GoodPlanIsAnswered
-good_plan_is_answered texts plan u start steps (Ok found) is good answer = inl (ap Ok
-    (one_verdict u start steps found verdict.Yes
-    (moved texts plan answer.universe u answer.start start answer.steps steps found (read_by texts plan found answer) is answer.holds) good))
+good_plan_is_answered texts plan u start steps (Ok judged) is good said =
+    let answer = said.answer in
+    inl (
+      judged,
+      refl,
+      one_verdict u start steps judged.verdict verdict.Yes
+          (moved texts plan answer.universe u answer.start start answer.steps steps judged.verdict (read_by texts plan judged.verdict answer) is answer.holds)
+          good,
+    )
 good_plan_is_answered texts plan u start steps (Err refused) is good first = inr (ap Err (wanting texts plan u start steps refused is first))

@@ -1,8 +1,6 @@
 -- The candidates of names, one name at a time.
 use Rattle.std.proofs.Common.{◌++◌, ℕ, List, [], ◌∷◌, Option}
 use Rattle.std.specs.List.{AllZip}
-use Rattle.candidates.specs.Candidates.{IsCandidateOf}
-use Rattle.candidates.specs.Inputs.{inputs_of}
 use Rattle.candidates.specs.Offer.{Offer}
 use Rattle.inputs.specs.Before.{AreRead}
 use Rattle.inputs.specs.Texts.{Texts}

@@ -71,9 +71,12 @@ wanting texts refutation u start lines refused is read (inr fails) =
     absurd (not-both lines refused.fault (refutation_of refutation) read fails.fault)
 
 pub accepted-is-answered : AcceptedRefutationIsAnswered
-accepted-is-answered texts refutation u start lines (Ok found) is read accepted answer = inl (ap Ok
-    (one-answer texts refutation found verdict.Yes answer
-    (record { universe = u; start = start; lines = lines; denoted = is; read = read; holds = accepted })))
+accepted-is-answered texts refutation u start lines (Ok judged) is read accepted said = inl (
+  judged,
+  refl,
+  one-answer texts refutation judged.verdict verdict.Yes said.answer
+      (record { universe = u; start = start; lines = lines; denoted = is; read = read; holds = accepted }),
+)
 accepted-is-answered texts refutation u start lines (Err refused) is read accepted first =
     inr (ap Err (wanting texts refutation u start lines refused is read first))
 

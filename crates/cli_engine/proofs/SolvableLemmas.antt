@@ -1,16 +1,13 @@
--- What texts denote can be solved.
-use Rattle.std.proofs.Common.{◌≡◌, ℕ, ◌+◌, List, [], ◌∷◌, length, Some, Result, Ok, Err, refl, sym, subst, arith}
-use Rattle.std.specs.Prelude.{IsTrue}
+-- What is read can be solved, and so can what texts denote.
+use Rattle.std.proofs.Common.{◌≡◌, ℕ, ◌+◌, List, [], ◌∷◌, length, Result, Ok, Err, refl, sym, subst, arith}
 use Rattle.std.specs.List.{All}
-use Rattle.std.proofs.lemmas.List.Elements.{All-contains, All-nil}
-use Rattle.candidates.specs.Inputs.{inputs_of}
+use Rattle.std.proofs.lemmas.List.Elements.{All-nil}
+use Rattle.candidates.specs.Inputs.{indices_of, inputs_of}
 use Rattle.index.specs.Index.{ReadIndex}
 use Rattle.index.specs.Sources.{SourceText}
-use Rattle.rules.specs.Available.{Index, all_listed, counting_package}
+use Rattle.rules.specs.Available.{Index, Inputs, all_listed}
 use Rattle.rules.specs.Database.{Record}
-use Rattle.rules.specs.ElementLaws.{All-intro}
-use Rattle.rules.specs.Name.{is_name}
-use Rattle.rules.specs.Universe.{Pair}
+use Rattle.rules.specs.Universe.{Universe}
 use Rattle.rules.specs.Verdict.{IsBuiltOn}
 use Rattle.rules.proofs.VerdictLemmas.{universe_is_built}
 use Rattle.universe_parts.specs.Parts.{HaveDistinctNames}
@@ -18,11 +15,16 @@ use Rattle.universe_build.proofs.StartsApart.{starts_apart}
 use Rattle.inputs.specs.Meaning.{asked_of}
 use Rattle.inputs.specs.Before.{HasIndices, HasStart}
 use Rattle.inputs.specs.Indices.{index_in, index_of, index_then, indices_from, read_indices, with_indices}
+use Rattle.inputs.specs.ReadAs.{IsOver, start_of}
 use Rattle.inputs.specs.Texts.{Found, Texts}
+use Rattle.inputs.specs.declared.before.Before.{Before}
 use Rattle.inputs.specs.declared.refusal.Fault.{Fault}
 use Rattle.inputs.specs.declared.refusal.Refusal.{Refusal}
 use Rattle.inputs.proofs.DistinctLemmas.{distinct_start, found-ok, status-read}
 use Rattle.inputs.proofs.NameLemmas.{IsListedNamed, IsNamed, index_named, listed_append, pairs_named, status_named}
+use Rattle.plain.proofs.MemberLemmas.{universe_is_counted}
+use Rattle.refutation.proofs.NeededLemmas.{universe_has_needed_pairs}
+use Rattle.solver.specs.Solvable.{IsSolvable}
 use Rattle.cli_engine.specs.Solution.{MeaningIsSolvable}
 use Rattle.cli_engine.proofs.RefutedLemmas.{counted-by-start, needed-pairs}
 
@@ -89,3 +91,19 @@ meaning_is_solvable texts u start is = record {
     built : IsBuiltOn start u
     built = universe_is_built (inputs_of start is.indices is.prefs (asked_of is.asked)) u
         (distinct_start texts start is.read.listed.started) is.requested.built.universe
+
+-- the universe of a request over what is read can be solved
+pub over_is_solvable : (before : Before) (u : Universe) → IsOver before u → IsSolvable (start_of before) u
+over_is_solvable before u is = record {
+  built = is.built;
+  counted = universe_is_counted inputs u is.start is.universe;
+  few = is.few;
+  distinct = is.distinct;
+  ascending = (universe_has_needed_pairs inputs u is.start is.universe).0;
+  needed = (universe_has_needed_pairs inputs u is.start is.universe).1;
+  start_names = is.start_names;
+  pair_names = is.pair_names;
+}
+  where
+    inputs : Inputs
+    inputs = inputs_of (start_of before) (indices_of before.indices.now) before.prefs.now is.request

@@ -4,7 +4,7 @@ use Rattle.std.specs.List.{AllZip}
 use Rattle.candidates.specs.Candidates.{IsCandidateOf}
 use Rattle.candidates.specs.Inputs.{inputs_of}
 use Rattle.candidates.specs.Offer.{Offer}
-use Rattle.inputs.specs.Before.{AreRead}
+use Rattle.inputs.specs.Before.{AreRead, IsRefusalBefore}
 use Rattle.inputs.specs.Meaning.{Denotes}
 use Rattle.inputs.specs.Reading.{with_fault}
 use Rattle.inputs.specs.Refused.{IsRefusal}
@@ -63,3 +63,8 @@ AreCandidatesOf start indices prefs names found =
 -- they are the candidates of the names, each in the place of its name, by what the texts before the request are read as
 abbrev pub AreCandidateAnswers : Texts → List (List ℕ) → List (Option Offer) → Type 0
 AreCandidateAnswers texts names found = AllZip (IsCandidateAnswer texts) names found
+
+-- what is said of the candidates of names: they, or the first refusal of the texts before the request
+abbrev pub IsSaidOfNames : Texts → List (List ℕ) → Result (List (Option Offer)) Refusal → Type 0
+IsSaidOfNames texts names (Ok candidates) = AreCandidateAnswers texts names candidates
+IsSaidOfNames texts names (Err refused) = IsRefusalBefore texts refused

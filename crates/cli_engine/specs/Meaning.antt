@@ -12,6 +12,7 @@ use Rattle.rules.specs.declared.step.Step.{Step}
 use Rattle.rules.specs.declared.step.Verdict.{Verdict}
 use Rattle.rules.specs.declared.step.Verdict.TheVariants as verdict
 use Rattle.cli_engine.specs.Answer.{IsAnswer, IsFirstRefusal, plan_of}
+use Rattle.cli_engine.specs.declared.check.JudgedPlan.{JudgedPlan}
 
 -- a plan has one answer
 abbrev pub HasOneAnswer : Type 0
@@ -36,13 +37,22 @@ pub record IsPromised (texts : Texts) (plan : Found) : Type 0 where
 abbrev pub YesKeepsPromise : Type 0
 YesKeepsPromise = (texts : Texts) (plan : Found) → IsAnswer texts plan verdict.Yes → IsPromised texts plan
 
+-- the verdict is true of the plan, and the steps are those that it is read as
+pub record IsJudged (texts : Texts) (plan : Found) (judged : JudgedPlan) : Type 0 where
+  pub answer : IsAnswer texts plan judged.verdict
+  pub read : plan_of plan ≡ Ok judged.steps.items
+
 -- what is said of a plan: its answer, or the first refusal
-abbrev pub IsSaid : Texts → Found → Result Verdict Refusal → Type 0
-IsSaid texts plan (Ok found) = IsAnswer texts plan found
+abbrev pub IsSaid : Texts → Found → Result JudgedPlan Refusal → Type 0
+IsSaid texts plan (Ok judged) = IsJudged texts plan judged
 IsSaid texts plan (Err refused) = IsFirstRefusal texts plan refused
+
+-- yes is said of a plan
+abbrev pub IsYes : Result JudgedPlan Refusal → Type 0
+IsYes said = (judged : JudgedPlan) × (said ≡ Ok judged) × (judged.verdict ≡ verdict.Yes)
 
 -- of a plan that is read and good, over what the texts denote, yes is said, or that memory was wanting
 abbrev pub GoodPlanIsAnswered : Type 0
 GoodPlanIsAnswered = (texts : Texts) (plan : Found) (u : Universe) (start : List Record) (steps : List Step)
-    (said : Result Verdict Refusal) → IsReadAs texts plan u start steps → IsGoodPlan u start steps → IsSaid texts plan said
-    → (said ≡ Ok verdict.Yes) ⊎ (said ≡ Err out_of_memory)
+    (said : Result JudgedPlan Refusal) → IsReadAs texts plan u start steps → IsGoodPlan u start steps → IsSaid texts plan said
+    → IsYes said ⊎ (said ≡ Err out_of_memory)

@@ -17,6 +17,7 @@ use Rattle.refutecheck.specs.declared.verdict.Verdict.TheVariants as verdict
 use Rattle.rules.specs.Database.{Record}
 use Rattle.rules.specs.Sound.{IsAcceptable}
 use Rattle.rules.specs.Universe.{Universe}
+use Rattle.cli_engine.specs.declared.check_refutation.JudgedRefutation.{JudgedRefutation}
 
 -- what a refutation is read as
 abbrev pub refutation_of : Found → Result (List Line) Fault
@@ -60,13 +61,22 @@ abbrev pub RefutationHasOneAnswer : Type 0
 RefutationHasOneAnswer = (texts : Texts) (refutation : Found) (first second : Verdict)
     → IsRefutationAnswer texts refutation first → IsRefutationAnswer texts refutation second → first ≡ second
 
+-- the verdict is true of the refutation, and where it is yes no set of admitted pairs is acceptable
+pub record IsJudgedRefutation (texts : Texts) (refutation : Found) (judged : JudgedRefutation) : Type 0 where
+  pub answer : IsRefutationAnswer texts refutation judged.verdict
+  pub refuted : judged.verdict ≡ verdict.Yes → AreRefuted texts
+
 -- what is said of a refutation: its answer, or the first refusal
-abbrev pub IsSaidOf : Texts → Found → Result Verdict Refusal → Type 0
-IsSaidOf texts refutation (Ok found) = IsRefutationAnswer texts refutation found
+abbrev pub IsSaidOf : Texts → Found → Result JudgedRefutation Refusal → Type 0
+IsSaidOf texts refutation (Ok judged) = IsJudgedRefutation texts refutation judged
 IsSaidOf texts refutation (Err refused) = IsFirstRefutationRefusal texts refutation refused
+
+-- yes is said of a refutation
+abbrev pub IsYes : Result JudgedRefutation Refusal → Type 0
+IsYes said = (judged : JudgedRefutation) × (said ≡ Ok judged) × (judged.verdict ≡ verdict.Yes)
 
 -- of a refutation that is read and accepted, over what the texts denote, yes is said, or that memory was wanting
 abbrev pub AcceptedRefutationIsAnswered : Type 0
 AcceptedRefutationIsAnswered = (texts : Texts) (refutation : Found) (u : Universe) (start : List Record) (lines : List Line)
-    (said : Result Verdict Refusal) → Denotes texts u start → refutation_of refutation ≡ Ok lines → IsAccepted u lines
-    → IsSaidOf texts refutation said → (said ≡ Ok verdict.Yes) ⊎ (said ≡ Err out_of_memory)
+    (said : Result JudgedRefutation Refusal) → Denotes texts u start → refutation_of refutation ≡ Ok lines → IsAccepted u lines
+    → IsSaidOf texts refutation said → IsYes said ⊎ (said ≡ Err out_of_memory)

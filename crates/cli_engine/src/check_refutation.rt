@@ -1,34 +1,46 @@
 //! A refutation judged by texts, read in the order status, sources, indices, preferences, request and refutation.
-ghost use Rattle.std.specs.Prelude.{◌≡◌, ◌≢◌, IfErr, IfOk, List, Ok, Some, false, length};
-ghost use Rattle.inputs.specs.Before.{HasIndices, HasStart};
+ghost use Rattle.std.specs.Prelude.{◌≡◌, ◌≢◌, IfErr, IfOk, List, Ok, Some, false, refl};
+ghost use mathlib.Core.Logic.{inl};
 ghost use Rattle.inputs.specs.Counting.{CountsRead};
-ghost use Rattle.inputs.specs.Indices.{released};
-ghost use Rattle.inputs.specs.Inputs.{shelved};
 ghost use Rattle.inputs.specs.Meaning.{Denotes};
 ghost use Rattle.inputs.specs.Reading.{IsFaultOf};
-ghost use Rattle.inputs.specs.Texts.{Shelved, Texts, texts_of};
+ghost use Rattle.inputs.specs.Texts.{Shelved, Texts};
 ghost use Rattle.inputs.specs.declared.refusal.Fault.TheVariants as fault;
-ghost use Rattle.refutecheck.specs.declared.verdict.Verdict.TheVariants as verdict;
 ghost use Rattle.rules.specs.Database.{Record};
 ghost use Rattle.rules.specs.Universe.{Universe as UniverseOf};
-ghost use Rattle.status_text.specs.Slot.{slot_records};
-ghost use Rattle.cli_engine.specs.Refuted.{AreRefuted, IsFirstRefutationRefusal, IsRefutationAnswer, refutation_of};
+ghost use Rattle.cli_engine.specs.Refuted.{IsFirstRefutationRefusal, IsSaidOf, refutation_of};
 
 use crate::laws::yes_refutes;
+use crate::lines::members_of;
+use crate::notes::Notes;
 use crate::refuted::tell_accepted;
 use crate::requested::read_asked;
-use crate::sentences::Sentences;
-use index::KeptIndex;
+use documents::Members;
 use inputs::{
-    Fault, Input, Inputs, MemoryShelf, Part, Refusal, Requested, Settings, Shelf, lend_indices,
-    read_listed, read_part, read_preferences, read_status, read_status_file, refused_at,
+    Before, Fault, Input, Part, Question, Refusal, Requested, Shelf, read_part, refused_at,
 };
 use refutation::Refutation;
 use refutation_text::{RefutationError, read_refutation};
 use refutecheck::{Verdict, check_refutation};
-use rules::Release;
-use status_text::StatusFile;
 use std::alloc::Global;
+
+/// What is answered of a refutation.
+#[derive(Drop)]
+pub struct JudgedRefutation {
+    /// The verdict.
+    pub verdict: Verdict,
+    /// What a document has of the lines of the refutation, where there is to be one.
+    pub members: Option<Members>,
+}
+
+/// Judges the refutation: yes exactly where it is accepted over the universe that the texts denote, and then no set of admitted pairs is
+/// acceptable; else the number of its first bad line; or the first refusal in the order status, sources, indices, preferences, request,
+/// refutation. Judging costs what `refutecheck::check_refutation` says. Sentences on the answer are told, where they are wanted.
+#[derive(Clone, Copy)]
+pub struct CheckRefutation {
+    /// Whether there is to be a document of the answer, which has the lines of the refutation.
+    pub has_document: bool,
+}
 
 // The lines of the refutation with this text.
 fn lines_in(alloc: Global, text: &[u8]) -> Result<Refutation, Fault>
@@ -50,6 +62,7 @@ fn read_lines<S: Shelf>(alloc: Global, shelf: &mut S) -> Result<Refutation, Refu
         → Denotes texts u start → IfErr result (λ refused. IsFirstRefutationRefusal texts at.judged refused) }
     ensures same { S.found shelf.new ≡ S.found shelf.old }
     ensures count { CountsRead result (S.faults shelf.old) (S.faults shelf.new) }
+    ensures held { S.holds shelf.old shelf.new }
 {
     let text = read_part(alloc, shelf, Part::Judged, Input::Refutation)?;
     match lines_in(alloc, text.as_slice()) {
@@ -58,107 +71,43 @@ fn read_lines<S: Shelf>(alloc: Global, shelf: &mut S) -> Result<Refutation, Refu
     }
 }
 
-// Judges the refutation by the indices that were kept, behind this status file.
-fn check_over<'k, 'a: 'k, S: Shelf>(
-    alloc: Global,
-    shelf: &mut S,
-    settings: &Settings<'_>,
-    status_file: &StatusFile<'a>,
-    kept: &'k [KeptIndex],
-    releases: Vec<Release>,
-    told: &mut Sentences,
-) -> Result<Verdict, Refusal>
-    requires { length kept.now ≡ length releases.items }
-    ensures answer { (at : Shelved) → S.found shelf.old ≡ Some at → HasStart (texts_of settings.now at) (slot_records status_file.now.slots)
-        → HasIndices (texts_of settings.now at) (released releases.items kept.now)
-        → IfOk result (λ found. IsRefutationAnswer (texts_of settings.now at) at.judged found) }
-    ensures refused { (at : Shelved) → S.found shelf.old ≡ Some at → HasStart (texts_of settings.now at) (slot_records status_file.now.slots)
-        → HasIndices (texts_of settings.now at) (released releases.items kept.now)
-        → IfErr result (λ refused. IsFirstRefutationRefusal (texts_of settings.now at) at.judged refused) }
-    ensures same { S.found shelf.new ≡ S.found shelf.old }
-    ensures count { CountsRead result (S.faults shelf.old) (S.faults shelf.new) }
-    ensures unasked { told.old.wanted ≡ false → told.new ≡ told.old }
-{
-    let indices = lend_indices(alloc, kept, releases)?;
-    let prefs = read_preferences(alloc, shelf, settings)?;
-    let Requested {
-        universe,
-        asks_all_versions,
-    } = read_asked(
-        alloc,
-        shelf,
-        settings,
-        status_file,
-        indices.as_slice(),
-        &prefs,
-        told,
-    )?;
-    let refutation = read_lines(alloc, shelf)?;
-    let found = check_refutation(alloc, &universe, &refutation)?;
-    tell_accepted(
-        alloc,
-        &universe,
-        indices.as_slice(),
-        &refutation,
-        found,
-        asks_all_versions,
-        told,
-    )?;
-    Ok(found)
-}
+impl Question for CheckRefutation {
+    type Answer = JudgedRefutation;
 
-/// Judges the refutation by the texts of a shelf: yes exactly where it is accepted over the universe that they denote, and
-/// then no set of admitted pairs is acceptable; else the number of its first bad line; or the first refusal in the order
-/// status, sources, indices, preferences, request, refutation, as `check_plan_from` has it. Reading costs what
-/// `check_plan_from` says; judging costs what `refutecheck::check_refutation` says.
-/// Sentences on the answer go to `told`, where they are asked for.
-pub fn check_refutation_from<S: Shelf>(
-    alloc: Global,
-    shelf: &mut S,
-    settings: &Settings<'_>,
-    told: &mut Sentences,
-) -> Result<Verdict, Refusal>
-    // the verdict is true of the refutation that the text is read as
-    ensures answer { (at : Shelved) → S.found shelf.old ≡ Some at
-        → IfOk result (λ found. IsRefutationAnswer (texts_of settings.now at) at.judged found) }
-    // where it is yes, no set of admitted pairs is acceptable
-    ensures refuted { (at : Shelved) → S.found shelf.old ≡ Some at
-        → IfOk result (λ found. found ≡ verdict.Yes → AreRefuted (texts_of settings.now at)) }
-    // and else the refusal is the first in the order of reading
-    ensures refused { (at : Shelved) → S.found shelf.old ≡ Some at
-        → IfErr result (λ refused. IsFirstRefutationRefusal (texts_of settings.now at) at.judged refused) }
-    ensures same { S.found shelf.new ≡ S.found shelf.old }
-    ensures count { CountsRead result (S.faults shelf.old) (S.faults shelf.new) }
-    ensures unasked { told.old.wanted ≡ false → told.new ≡ told.old }
-{
-    yes_refutes();
-    let status = read_status(alloc, shelf, settings)?;
-    let status_file = read_status_file(alloc, &status)?;
-    let (kept, releases) = read_listed(alloc, shelf, settings)?;
-    check_over(
-        alloc,
-        shelf,
-        settings,
-        &status_file,
-        kept.as_slice(),
-        releases,
-        told,
-    )
-}
+    type Beside = Notes;
 
-/// Judges the refutation by the texts in memory, as `check_refutation_from` judges it.
-pub fn check_refutation_bytes(
-    alloc: Global,
-    inputs: &Inputs<'_, '_>,
-    settings: &Settings<'_>,
-    refutation: &[u8],
-) -> Result<Verdict, Refusal>
-    ensures answer { IfOk result (λ found. IsRefutationAnswer (texts_of settings.now (shelved inputs.now (Some refutation.now))) (Some refutation.now) found) }
-    ensures refuted { IfOk result (λ found. found ≡ verdict.Yes → AreRefuted (texts_of settings.now (shelved inputs.now (Some refutation.now)))) }
-    ensures refused { IfErr result (λ refused.
-        IsFirstRefutationRefusal (texts_of settings.now (shelved inputs.now (Some refutation.now))) (Some refutation.now) refused) }
-{
-    let mut shelf = MemoryShelf::new(*inputs, Some(refutation));
-    let mut told = Sentences::new(alloc);
-    check_refutation_from(alloc, &mut shelf, settings, &mut told)
+    ghost says = { λ _ texts judged _ result _. IsSaidOf texts judged result };
+
+    ghost keeps = { λ _ _ old _ new. old.wanted ≡ false → new ≡ old };
+
+    fn answer<S: Shelf>(
+        &self,
+        alloc: Global,
+        shelf: &mut S,
+        before: &Before<'_, '_, '_, '_, '_, '_, '_, '_>,
+        notes: &mut Notes,
+    ) -> Result<JudgedRefutation, Refusal> {
+        yes_refutes();
+        let Requested {
+            universe,
+            asks_all_versions,
+        } = read_asked(alloc, shelf, before, notes)?;
+        let refutation = read_lines(alloc, shelf)?;
+        let verdict = check_refutation(alloc, &universe, &refutation)?;
+        let members = members_of(alloc, &universe, &refutation, self.has_document)?;
+        tell_accepted(
+            alloc,
+            &universe,
+            before.indices,
+            &refutation,
+            verdict,
+            asks_all_versions,
+            notes,
+        )?;
+        Ok(JudgedRefutation { verdict, members })
+    }
+
+    ghost refuses = { λ _ _ _ _ _ is. inl (inl is) };
+
+    ghost stays = { λ _ _ _ _ _. refl };
 }

@@ -1,10 +1,9 @@
-//! What a verdict on a plan is about, told where sentences are asked for.
-ghost use Rattle.std.specs.Prelude.{◌≡◌, IfOk, false};
+//! What a verdict on a plan is about, told where that is wanted.
+ghost use Rattle.std.specs.Prelude.{◌≡◌, false};
 ghost use Rattle.rules.specs.Verdict.{IsBuiltOn, IsVerdict};
 ghost use Rattle.status_text.specs.Slot.{slot_records};
 
-use crate::check::judge;
-use crate::sentences::Sentences;
+use crate::notes::Notes;
 use plan_sentences::verdict_sentences;
 use plancheck_state::{parse_packages, view};
 use rules::{Step, Verdict};
@@ -30,40 +29,23 @@ fn sentences_on<'a>(
     Ok(text)
 }
 
-/// Tells what stands against the plan, if its verdict is a no, and what it changes, if it is yes, where sentences are asked for.
-/// The packages of the status file are parsed once more for it. Memory alone can fail.
+/// Tells what stands against the plan, if its verdict is a no, and what it changes, if it is yes, where that is wanted. The packages of
+/// the status file are parsed once more for it. Memory alone can fail.
 pub(crate) fn tell_judged<'a>(
     alloc: Global,
     status_file: &StatusFile<'a>,
     universe: &Universe<'_, 'a>,
     steps: &[Step],
     verdict: &Verdict,
-    told: &mut Sentences,
+    notes: &mut Notes,
 ) -> Result<(), AllocError>
     requires built { IsBuiltOn (slot_records status_file.now.slots) universe.now }
     requires verdict { IsVerdict universe.now (slot_records status_file.now.slots) steps.now verdict.now }
-    ensures unasked { told.old.wanted ≡ false → told.new ≡ told.old }
+    ensures unasked { notes.old.wanted ≡ false → notes.new ≡ notes.old }
 {
-    if !told.wanted {
+    if !notes.wanted {
         return Ok(());
     }
     let text = sentences_on(alloc, status_file, universe, steps, verdict)?;
-    told.add(text.as_slice())
-}
-
-/// Judges the steps from this status file on, and tells what the verdict is about, where sentences are asked for.
-pub(crate) fn judge_telling<'a>(
-    alloc: Global,
-    status_file: &StatusFile<'a>,
-    universe: &Universe<'_, 'a>,
-    steps: &[Step],
-    told: &mut Sentences,
-) -> Result<Verdict, AllocError>
-    requires { IsBuiltOn (slot_records status_file.now.slots) universe.now }
-    ensures holds { IfOk result (λ verdict. IsVerdict universe.now (slot_records status_file.now.slots) steps.now verdict) }
-    ensures unasked { told.old.wanted ≡ false → told.new ≡ told.old }
-{
-    let verdict = judge(alloc, status_file, universe, steps)?;
-    tell_judged(alloc, status_file, universe, steps, &verdict, told)?;
-    Ok(verdict)
+    notes.add(text.as_slice())
 }

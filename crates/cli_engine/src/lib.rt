@@ -1,7 +1,7 @@
-//! The calls over texts: a plan judged, a refutation judged, a request solved, and the candidates of names found, from the
-//! texts of a shelf to the answer, or to the first refusal in the order of reading. What the texts are read as is `inputs`;
-//! it stands on the judges `plancheck` and `refutecheck`, and for `solve_from` alone on `solver`. The main calls are
-//! `check_plan_from`, `check_refutation_from`, `solve_from` and `candidates_from`.
+//! The questions over texts: a plan that is judged, a refutation that is judged, a request that is solved, and the candidates of names.
+//! What the texts are read as, and how a question is asked of them, is `inputs`; it stands on the judges `plancheck` and
+//! `refutecheck`, and for `Solve` alone on `solver`. The main types are `CheckPlan`, `CheckRefutation`, `Solve` and `Candidates`, which
+//! `inputs::ask` asks of a shelf.
 #![tactic(auto)]
 
 mod candidate;
@@ -10,17 +10,18 @@ mod check_refutation;
 mod comparison;
 mod judged;
 mod laws;
+mod lines;
 mod nameless;
+mod notes;
 mod offered;
 mod plan;
 mod refuted;
 mod requested;
-mod sentences;
 mod solve;
 
-pub use candidate::{candidate_bytes, candidate_from, candidates_from};
-pub use check::{check_plan_bytes, check_plan_from, judge};
-pub use check_refutation::{check_refutation_bytes, check_refutation_from};
+pub use candidate::Candidates;
+pub use check::{CheckPlan, JudgedPlan, judge};
+pub use check_refutation::{CheckRefutation, JudgedRefutation};
 pub use comparison::{Comparison, compare};
 pub use inputs::{Fault, Input, Inputs, Refusal, Settings, Shelf};
 pub use laws::{
@@ -28,12 +29,13 @@ pub use laws::{
     a_plan_has_one_answer, a_refutation_has_one_answer,
     an_accepted_refutation_is_answered_with_yes, yes_keeps_its_promise, yes_refutes,
 };
+pub use lines::answered;
+pub use notes::Notes;
 pub use offered::Candidate;
 pub use plan::read_steps;
 pub use refutecheck::Verdict as RefutationVerdict;
 pub use refuted::tell_solved;
 pub use requested::{tell_idle_inputs, tell_unknown};
 pub use rules::{Reason, Rule, Verdict};
-pub use sentences::Sentences;
-pub use solve::{Answered, solve_bytes, solve_from, solve_over};
+pub use solve::{Answered, Solve, solve_over};
 pub use solver::{Solved, Undecided};

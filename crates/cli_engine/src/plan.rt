@@ -34,6 +34,7 @@ pub fn read_steps<S: Shelf>(alloc: Global, shelf: &mut S) -> Result<Vec<Step>, R
         → Denotes texts u start → IfErr result (λ refused. IsFirstRefusal texts at.judged refused) }
     ensures same { S.found shelf.new ≡ S.found shelf.old }
     ensures count { CountsRead result (S.faults shelf.old) (S.faults shelf.new) }
+    ensures held { S.holds shelf.old shelf.new }
 {
     let text = read_part(alloc, shelf, Part::Judged, Input::Plan)?;
     match steps_in(alloc, text.as_slice()) {

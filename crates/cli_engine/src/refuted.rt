@@ -1,76 +1,45 @@
-//! The reasons of a refutation and the changes of a plan, told where they are asked for.
+//! The reasons of a refutation and the changes of a plan, told where they are wanted.
 ghost use Rattle.std.specs.Prelude.{◌≡◌, ◌^◌, ◌<◌, false, length};
-ghost use Rattle.rules.specs.Verdict.{IsBuiltOn};
-ghost use Rattle.status_text.specs.Slot.{slot_records};
+ghost use Rattle.inputs.specs.ReadAs.{IsOver, start_of};
 ghost use Rattle.universe_parts.specs.Parts.{HaveDistinctNames};
 ghost use Rattle.cli_engine.specs.Good.{IsGoodIfPlan};
 
 use crate::judged::tell_judged;
-use crate::sentences::Sentences;
-use documents::put_lines;
+use crate::notes::Notes;
+use crate::solve::Answered;
 use index::Index;
+use inputs::Before;
 use reasons::{core, sentences};
 use refutation::Refutation;
 use refutecheck::{Premises, Verdict as RefutationVerdict};
 use rules::Verdict;
 use solver::Solved;
-use status_text::StatusFile;
 use std::alloc::{AllocError, Global};
 use universe::Universe;
 
-// Puts the lines of the refutation among the members of a document, where there is to be one. Memory alone can fail.
-fn add_lines(
-    alloc: Global,
-    universe: &Universe<'_, '_>,
-    refutation: &Refutation,
-    told: &mut Sentences,
-) -> Result<(), AllocError> {
-    match &mut told.members {
-        None => Ok(()),
-        Some(members) => put_lines(alloc, members, universe, refutation),
-    }
-}
-
-// Puts the lines of a refutation that isn't accepted among the members of a document, where one is asked for. Memory alone can fail.
-fn tell_lines(
-    alloc: Global,
-    universe: &Universe<'_, '_>,
-    refutation: &Refutation,
-    told: &mut Sentences,
-) -> Result<(), AllocError>
-    ensures unasked { told.old.wanted ≡ false → told.new ≡ told.old }
-{
-    if !told.wanted {
-        return Ok(());
-    }
-    add_lines(alloc, universe, refutation, told)
-}
-
-// Tells a sentence for each premise of a core of the refutation, and its lines, where that is asked for. Memory alone can fail.
+// Tells a sentence for each premise of a core of the refutation, where that is wanted. Memory alone can fail.
 fn tell_refuted(
     alloc: Global,
     universe: &Universe<'_, '_>,
     indices: &[Index<'_>],
     refutation: &Refutation,
     asks_all_versions: bool,
-    told: &mut Sentences,
+    notes: &mut Notes,
 ) -> Result<(), AllocError>
     requires few { length universe.now.pairs < 2 ^ 32 }
     requires distinct { HaveDistinctNames universe.now.starts }
-    ensures unasked { told.old.wanted ≡ false → told.new ≡ told.old }
+    ensures unasked { notes.old.wanted ≡ false → notes.new ≡ notes.old }
 {
-    if !told.wanted {
+    if !notes.wanted {
         return Ok(());
     }
-    add_lines(alloc, universe, refutation, told)?;
     let premises = Premises::new(alloc, universe);
     let shorter = core(&premises, refutation)?;
     let text = sentences(&premises, indices, &shorter, asks_all_versions)?;
-    told.add(text.as_slice())
+    notes.add(text.as_slice())
 }
 
-/// Tells the reasons of a refutation with this verdict, if it is accepted, and its lines, where that is asked for. Memory alone can
-/// fail.
+/// Tells the reasons of a refutation with this verdict, if it is accepted, where that is wanted. Memory alone can fail.
 pub(crate) fn tell_accepted(
     alloc: Global,
     universe: &Universe<'_, '_>,
@@ -78,11 +47,11 @@ pub(crate) fn tell_accepted(
     refutation: &Refutation,
     verdict: RefutationVerdict,
     asks_all_versions: bool,
-    told: &mut Sentences,
+    notes: &mut Notes,
 ) -> Result<(), AllocError>
     requires few { length universe.now.pairs < 2 ^ 32 }
     requires distinct { HaveDistinctNames universe.now.starts }
-    ensures unasked { told.old.wanted ≡ false → told.new ≡ told.old }
+    ensures unasked { notes.old.wanted ≡ false → notes.new ≡ notes.old }
 {
     match verdict {
         RefutationVerdict::Yes => tell_refuted(
@@ -91,47 +60,41 @@ pub(crate) fn tell_accepted(
             indices,
             refutation,
             asks_all_versions,
-            told,
+            notes,
         ),
-        RefutationVerdict::No(_) => tell_lines(alloc, universe, refutation, told),
+        RefutationVerdict::No(_) => Ok(()),
     }
 }
 
-/// Tells the reasons of an answer to a request, if it is a refutation, with its lines, and what it changes, if it is a plan, where that
-/// is asked for. Memory alone can fail.
+/// Tells the reasons of an answer to a request, if it is a refutation, and what it changes, if it is a plan, where that is wanted.
+/// Memory alone can fail.
 pub fn tell_solved<'a>(
     alloc: Global,
-    status_file: &StatusFile<'a>,
+    before: &Before<'_, '_, '_, '_, '_, '_, '_, 'a>,
     universe: &Universe<'_, 'a>,
-    indices: &[Index<'_>],
-    solved: &Solved,
-    asks_all_versions: bool,
-    told: &mut Sentences,
+    answered: &Answered,
+    notes: &mut Notes,
 ) -> Result<(), AllocError>
-    requires few { length universe.now.pairs < 2 ^ 32 }
-    requires distinct { HaveDistinctNames universe.now.starts }
-    requires built { IsBuiltOn (slot_records status_file.now.slots) universe.now }
-    requires good { IsGoodIfPlan universe.now (slot_records status_file.now.slots) solved.now }
-    ensures unasked { told.old.wanted ≡ false → told.new ≡ told.old }
+    requires over { IsOver before.now universe.now }
+    requires good { IsGoodIfPlan universe.now (start_of before.now) answered.now.solved }
+    ensures unasked { notes.old.wanted ≡ false → notes.new ≡ notes.old }
 {
-    match solved {
-        Solved::Refuted(refutation) => {
-            tell_refuted(
-                alloc,
-                universe,
-                indices,
-                refutation,
-                asks_all_versions,
-                told,
-            )
-        }
+    match &answered.solved {
+        Solved::Refuted(refutation) => tell_refuted(
+            alloc,
+            universe,
+            before.indices,
+            refutation,
+            answered.asks_all_versions,
+            notes,
+        ),
         Solved::Plan(steps) => tell_judged(
             alloc,
-            status_file,
+            before.status_file,
             universe,
             steps.as_slice(),
             &Verdict::Yes,
-            told,
+            notes,
         ),
         Solved::Undecided(_) => Ok(()),
     }

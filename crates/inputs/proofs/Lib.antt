@@ -1,6 +1,8 @@
 pub mod DenoteLemmas
 pub mod DistinctLemmas
+mod EachLemmas
 pub mod IndicesLemmas
 pub mod MeaningLemmas
 pub mod NameLemmas
+pub mod ReadAsLemmas
 pub mod UnreadLemmas

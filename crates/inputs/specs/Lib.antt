@@ -1,8 +1,10 @@
 pub mod Before
 pub mod Counting
+pub mod Each
 pub mod Indices
 pub mod Inputs
 pub mod Meaning
+pub mod ReadAs
 pub mod Reading
 pub mod Refused
 pub mod StatusText

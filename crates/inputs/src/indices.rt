@@ -32,6 +32,7 @@ fn read_index<S: Shelf>(
         → IfErr result (λ refused. IsRefusedIndex number (index_of arch.now at.index number before source.now) refused) }
     ensures same { S.found shelf.new ≡ S.found shelf.old }
     ensures count { CountsRead result (S.faults shelf.old) (S.faults shelf.new) }
+    ensures held { S.holds shelf.old shelf.new }
 {
     let mut text = open_index(alloc, shelf, number, source.file())?;
     match KeptIndex::read_from(alloc, &mut text, arch, number, before) {
@@ -61,6 +62,7 @@ fn read_each<S: Shelf>(
     ensures count { IfOk result (λ listed. length listed.0.items ≡ length listed.1.items) }
     ensures same { S.found shelf.new ≡ S.found shelf.old }
     ensures counted { CountsRead result (S.faults shelf.old) (S.faults shelf.new) }
+    ensures held { S.holds shelf.old shelf.new }
 {
     let mut kept = Vec::new(alloc);
     let mut releases = Vec::new(alloc);
@@ -95,6 +97,7 @@ pub fn read_indices<S: Shelf>(
     ensures count { IfOk result (λ listed. length listed.0.items ≡ length listed.1.items) }
     ensures same { S.found shelf.new ≡ S.found shelf.old }
     ensures counted { CountsRead result (S.faults shelf.old) (S.faults shelf.new) }
+    ensures held { S.holds shelf.old shelf.new }
 {
     match read_each(alloc, shelf, settings.arch, sources) {
         Ok(listed) => Ok(listed),
@@ -116,6 +119,7 @@ pub fn read_listed<S: Shelf>(
     ensures count { IfOk result (λ listed. length listed.0.items ≡ length listed.1.items) }
     ensures same { S.found shelf.new ≡ S.found shelf.old }
     ensures counted { CountsRead result (S.faults shelf.old) (S.faults shelf.new) }
+    ensures held { S.holds shelf.old shelf.new }
 {
     let text = match read_sources_text(alloc, shelf) {
         Ok(text) => text,

@@ -121,4 +121,8 @@ impl<'p, 'a> Shelf for MemoryShelf<'p, 'a> {
     fn close(&mut self, text: &'a [u8]) {
         self.failures = self.failures.saturating_add(text.failures());
     }
+
+    ghost holds_still = { λ _. tt };
+
+    ghost holds_on = { λ _ _ _ _ _. tt };
 }

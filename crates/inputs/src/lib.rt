@@ -4,10 +4,13 @@
 //! `specs/Meaning.antt`.
 #![tactic(auto)]
 
+mod before;
+mod each;
 mod indices;
 mod inputs;
 mod laws;
 mod preferences;
+mod question;
 mod refusal;
 mod request;
 mod settings;
@@ -17,12 +20,15 @@ mod status_file;
 mod status_refusal;
 mod texts;
 
+pub use before::Before;
+pub use each::{Each, OverRequest};
 pub use indices::{lend_indices, read_indices, read_listed};
 pub use inputs::{Inputs, MemoryShelf};
 pub use laws::{a_meaning_is_not_refused, texts_have_one_meaning};
 pub use preferences::read_preferences;
+pub use question::{Question, ask, ask_bytes};
 pub use refusal::{Fault, Input, Refusal, refused_at};
-pub use request::{Requested, listed_in, read_requested, read_universe, requested_in};
+pub use request::{Requested, listed_in, read_requested, requested_in};
 pub use settings::Settings;
 pub use shelf::{Part, ReadError, Shelf};
 pub use sources::{read_sources, read_sources_text};

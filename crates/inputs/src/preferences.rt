@@ -68,6 +68,7 @@ pub fn read_preferences<S: Shelf>(
         → IfErr result (λ refused. IsRefusalBefore (texts_of settings.now at) refused) }
     ensures same { S.found shelf.new ≡ S.found shelf.old }
     ensures count { CountsRead result (S.faults shelf.old) (S.faults shelf.new) }
+    ensures held { S.holds shelf.old shelf.new }
 {
     let text = read_preferences_text(alloc, shelf)?;
     match prefs_of(alloc, &text, settings.target) {

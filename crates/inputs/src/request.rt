@@ -1,34 +1,30 @@
 //! The request, and the universe that it is answered from.
-ghost use Rattle.std.specs.Prelude.{◌≡◌, ◌≢◌, ◌<◌, ◌^◌, IfErr, IfOk, IfSome, Ok, Some, length, map};
+ghost use Rattle.std.specs.Prelude.{◌≡◌, ◌≢◌, IfErr, IfOk, IfSome, Ok, Some, map};
 ghost use Rattle.std.specs.Option.{option_copied};
 ghost use Rattle.candidates.specs.Inputs.{indices_of, inputs_of};
-ghost use Rattle.rules.specs.Available.{Request as RequestOf, all_listed};
+ghost use Rattle.rules.specs.Available.{all_listed};
 ghost use Rattle.rules.specs.Database.{HasDistinctNames};
 ghost use Rattle.rules.specs.FileRecord.{records_of};
-ghost use Rattle.rules.specs.Names.{HasListedNames, HasNames, HasPairNames};
-ghost use Rattle.rules.specs.Universe.{IsUniverse};
-ghost use Rattle.rules.specs.Verdict.{IsBuiltOn};
-ghost use Rattle.status_text.specs.Slot.{slot_records};
-ghost use Rattle.universe_parts.specs.Parts.{HaveDistinctNames};
+ghost use Rattle.rules.specs.Names.{HasListedNames};
 ghost use Rattle.universe_build.specs.Error.{IsBuilt, IsUniverseFault};
 ghost use Rattle.universe_build.specs.Listing.{IsListing};
 ghost use Rattle.universe_request.specs.Request as Read;
-ghost use Rattle.inputs.specs.Before.{AreRead};
 ghost use Rattle.inputs.specs.Counting.{CountsRead};
-ghost use Rattle.inputs.specs.Meaning.{Denotes, DenotesAsked, IsBuildFault, IsRequestFault, IsRequested};
+ghost use Rattle.inputs.specs.Meaning.{DenotesAsked, IsBuildFault, IsRequestFault, IsRequested};
+ghost use Rattle.inputs.specs.ReadAs.{AreReadAs, IsListed, IsOver, asking, start_of};
 ghost use Rattle.inputs.specs.Reading.{IsFaultOf, OrMemory, with_fault};
 ghost use Rattle.inputs.specs.Refused.{IsRefusal};
-ghost use Rattle.inputs.specs.Texts.{Shelved, texts_of};
+ghost use Rattle.inputs.specs.Texts.{Shelved, Texts, texts_of};
 ghost use Rattle.inputs.specs.declared.refusal.Fault.TheVariants as fault;
 
+use crate::before::Before;
 use crate::refusal::{Fault, Input, Refusal, refused_at};
-use crate::settings::Settings;
 use crate::shelf::{Part, Shelf};
 use crate::texts::read_part;
 use index::Index;
 use pins::Prefs;
 use rules::universe_is_built;
-use status_text::{StatusFile, StatusRecord};
+use status_text::StatusRecord;
 use std::alloc::{AllocError, Global};
 use universe::Universe;
 use universe_build::{Listing, UniverseError, build};
@@ -155,139 +151,74 @@ fn packages_are_named(indices: &[Index<'_>])
 
 /// What is listed of what is read before a request, for all versions or not: `requested_in` answers many requests by it. Memory alone
 /// can fail. It costs what `Listing::new` does.
-pub fn listed_in<'s, 'p, 'a>(
+pub fn listed_in<'f, 'i, 'a>(
     alloc: Global,
-    status_file: &'s StatusFile<'a>,
-    indices: &'p [Index<'a>],
-    prefs: &Prefs,
+    before: &Before<'_, '_, 'f, '_, '_, '_, 'i, 'a>,
     asks_all_versions: bool,
-) -> Result<Listing<'s, 'p, 'a>, AllocError>
-    ensures { IfOk result (IsListing (slot_records status_file.now.slots) (indices_of indices.now) prefs.now) }
+) -> Result<Listing<'f, 'i, 'a>, AllocError>
+    ensures { IfOk result (IsListed before.now) }
 {
-    let records = status_file.records(alloc)?;
-    Listing::new(alloc, records.as_slice(), indices, prefs, asks_all_versions)
+    let records = before.status_file.records(alloc)?;
+    Listing::new(
+        alloc,
+        records.as_slice(),
+        before.indices,
+        before.prefs,
+        asks_all_versions,
+    )
 }
 
 /// The universe that the request with this text is answered from, over what the texts before it are read as, and whether it asks for
 /// all versions. Linear in the text, and at the cost of `Listing::universe` where there is a listing of what is read before that
 /// covers the request, and else of `universe_build::build`.
-pub fn requested_in<'p, 'a>(
+pub fn requested_in<'i, 'a>(
     alloc: Global,
-    settings: &Settings<'_>,
-    status_file: &StatusFile<'a>,
-    indices: &'p [Index<'a>],
-    prefs: &Prefs,
-    listing: Option<&Listing<'_, 'p, 'a>>,
+    before: &Before<'_, '_, '_, '_, '_, '_, 'i, 'a>,
+    listing: Option<&Listing<'_, 'i, 'a>>,
     text: &[u8],
-) -> Result<Requested<'p, 'a>, Refusal>
-    requires listed { IfSome (option_copied listing)
-        (IsListing (slot_records status_file.now.slots) (indices_of indices.now) prefs.now) }
-    ensures ok { (at : Shelved) → at.request ≡ Some text.now
-        → AreRead (texts_of settings.now at) (slot_records status_file.now.slots) (indices_of indices.now) prefs.now
-        → IfOk result (λ found.
-        DenotesAsked (texts_of settings.now at) found.universe (slot_records status_file.now.slots) found.asks_all_versions) }
-    ensures built { IfOk result (λ found. IsBuiltOn (slot_records status_file.now.slots) found.universe) }
-    ensures universe { IfOk result (λ found. (request : RequestOf)
-        × IsUniverse (inputs_of (slot_records status_file.now.slots) (indices_of indices.now) prefs.now request) found.universe) }
-    ensures start { IfOk result (λ _. HasDistinctNames (slot_records status_file.now.slots)) }
-    ensures start_names { IfOk result (λ _. HasNames (slot_records status_file.now.slots)) }
-    ensures pair_names { IfOk result (λ found. HasPairNames found.universe) }
-    ensures few { IfOk result (λ found. length found.universe.pairs < 2 ^ 32) }
-    ensures distinct { IfOk result (λ found. HaveDistinctNames found.universe.starts) }
-    ensures refused { (at : Shelved) → at.request ≡ Some text.now
-        → AreRead (texts_of settings.now at) (slot_records status_file.now.slots) (indices_of indices.now) prefs.now
-        → IfErr result (λ refused. IsRefusal (texts_of settings.now at) refused) }
+) -> Result<Requested<'i, 'a>, Refusal>
+    requires listed { IfSome (option_copied listing) (IsListed before.now) }
+    ensures asked { (texts : Texts) → AreReadAs texts before.now → IfOk result (λ requested.
+        DenotesAsked (asking text.now texts) requested.universe (start_of before.now) requested.asks_all_versions) }
+    ensures over { IfOk result (λ requested. IsOver before.now requested.universe) }
+    ensures refused { (texts : Texts) → AreReadAs texts before.now
+        → IfErr result (λ refused. IsRefusal (asking text.now texts) refused) }
     ensures known { IfErr result (λ refused. refused.fault ≢ fault.Read) }
 {
     universe_is_built();
-    packages_are_named(indices);
-    let records = status_file.records(alloc)?;
+    packages_are_named(before.indices);
+    let records = before.status_file.records(alloc)?;
     match universe_in(
         alloc,
         records.as_slice(),
-        indices,
-        prefs,
+        before.indices,
+        before.prefs,
         listing,
         text,
-        settings.arch,
+        before.settings.arch,
     ) {
-        Ok(found) => Ok(found),
+        Ok(requested) => Ok(requested),
         Err(fault) => Err(refused_at(Input::Request, fault)),
     }
 }
 
-/// The universe that the request is answered from, over what the texts before it are read as, and whether it asks for all versions.
-pub fn read_requested<'p, 'a, S: Shelf>(
+/// The universe that the request of a shelf is answered from, over what the texts before it are read as, and whether it asks for all
+/// versions. It is read as `requested_in` reads it.
+pub fn read_requested<'i, 'a, S: Shelf>(
     alloc: Global,
     shelf: &mut S,
-    settings: &Settings<'_>,
-    status_file: &StatusFile<'a>,
-    indices: &'p [Index<'a>],
-    prefs: &Prefs,
-) -> Result<Requested<'p, 'a>, Refusal>
-    ensures ok { (at : Shelved) → S.found shelf.old ≡ Some at
-        → AreRead (texts_of settings.now at) (slot_records status_file.now.slots) (indices_of indices.now) prefs.now
-        → IfOk result (λ found.
-        DenotesAsked (texts_of settings.now at) found.universe (slot_records status_file.now.slots) found.asks_all_versions) }
-    ensures built { IfOk result (λ found. IsBuiltOn (slot_records status_file.now.slots) found.universe) }
-    ensures universe { IfOk result (λ found. (request : RequestOf)
-        × IsUniverse (inputs_of (slot_records status_file.now.slots) (indices_of indices.now) prefs.now request) found.universe) }
-    ensures start { IfOk result (λ _. HasDistinctNames (slot_records status_file.now.slots)) }
-    ensures start_names { IfOk result (λ _. HasNames (slot_records status_file.now.slots)) }
-    ensures pair_names { IfOk result (λ found. HasPairNames found.universe) }
-    ensures few { IfOk result (λ found. length found.universe.pairs < 2 ^ 32) }
-    ensures distinct { IfOk result (λ found. HaveDistinctNames found.universe.starts) }
-    ensures refused { (at : Shelved) → S.found shelf.old ≡ Some at
-        → AreRead (texts_of settings.now at) (slot_records status_file.now.slots) (indices_of indices.now) prefs.now
-        → IfErr result (λ refused. IsRefusal (texts_of settings.now at) refused) }
+    before: &Before<'_, '_, '_, '_, '_, '_, 'i, 'a>,
+) -> Result<Requested<'i, 'a>, Refusal>
+    ensures asked { (at : Shelved) → S.found shelf.old ≡ Some at → AreReadAs (texts_of before.now.settings.now at) before.now
+        → IfOk result (λ requested.
+        DenotesAsked (texts_of before.now.settings.now at) requested.universe (start_of before.now) requested.asks_all_versions) }
+    ensures over { IfOk result (λ requested. IsOver before.now requested.universe) }
+    ensures refused { (at : Shelved) → S.found shelf.old ≡ Some at → AreReadAs (texts_of before.now.settings.now at) before.now
+        → IfErr result (λ refused. IsRefusal (texts_of before.now.settings.now at) refused) }
     ensures same { S.found shelf.new ≡ S.found shelf.old }
     ensures count { CountsRead result (S.faults shelf.old) (S.faults shelf.new) }
+    ensures held { S.holds shelf.old shelf.new }
 {
     let text = read_part(alloc, shelf, Part::Request, Input::Request)?;
-    requested_in(
-        alloc,
-        settings,
-        status_file,
-        indices,
-        prefs,
-        None,
-        text.as_slice(),
-    )
-}
-
-/// The universe that the request is answered from, over what the texts before it are read as.
-pub fn read_universe<'p, 'a, S: Shelf>(
-    alloc: Global,
-    shelf: &mut S,
-    settings: &Settings<'_>,
-    status_file: &StatusFile<'a>,
-    indices: &'p [Index<'a>],
-    prefs: &Prefs,
-) -> Result<Universe<'p, 'a>, Refusal>
-    ensures ok { (at : Shelved) → S.found shelf.old ≡ Some at
-        → AreRead (texts_of settings.now at) (slot_records status_file.now.slots) (indices_of indices.now) prefs.now
-        → IfOk result (λ u. Denotes (texts_of settings.now at) u (slot_records status_file.now.slots)) }
-    ensures built { IfOk result (λ u. IsBuiltOn (slot_records status_file.now.slots) u) }
-    ensures universe { IfOk result (λ u. (request : RequestOf)
-        × IsUniverse (inputs_of (slot_records status_file.now.slots) (indices_of indices.now) prefs.now request) u) }
-    ensures start { IfOk result (λ _. HasDistinctNames (slot_records status_file.now.slots)) }
-    ensures start_names { IfOk result (λ _. HasNames (slot_records status_file.now.slots)) }
-    ensures pair_names { IfOk result (λ u. HasPairNames u) }
-    ensures few { IfOk result (λ u. length u.pairs < 2 ^ 32) }
-    ensures distinct { IfOk result (λ u. HaveDistinctNames u.starts) }
-    ensures refused { (at : Shelved) → S.found shelf.old ≡ Some at
-        → AreRead (texts_of settings.now at) (slot_records status_file.now.slots) (indices_of indices.now) prefs.now
-        → IfErr result (λ refused. IsRefusal (texts_of settings.now at) refused) }
-    ensures same { S.found shelf.new ≡ S.found shelf.old }
-    ensures count { CountsRead result (S.faults shelf.old) (S.faults shelf.new) }
-{
-    let Requested { universe, .. } = read_requested(
-        alloc,
-        shelf,
-        settings,
-        status_file,
-        indices,
-        prefs,
-    )?;
-    Ok(universe)
+    requested_in(alloc, before, None, text.as_slice())
 }

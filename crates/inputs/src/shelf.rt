@@ -1,5 +1,5 @@
 //! Where the texts of a request are found: each is read at its turn.
-ghost use Rattle.std.specs.Prelude.{◌≡◌, ◌+◌, ◌-◌, ◌^◌, ℕ, IfErr, IfOk, List, None, Option, Some, min};
+ghost use Rattle.std.specs.Prelude.{◌≡◌, ◌+◌, ◌-◌, ◌^◌, ℕ, IfErr, IfOk, List, None, Option, Some, min, ⊤};
 ghost use Rattle.std.specs.Option.{option_map};
 ghost use Rattle.inputs.specs.Counting.{Counts};
 ghost use Rattle.inputs.specs.Texts.{Shelved, part_of};
@@ -40,6 +40,9 @@ pub trait Shelf {
     // How many texts couldn't be read.
     ghost faults: { Self → ℕ };
 
+    // It holds the very value that it held before, where it holds one that is lent, as a host.
+    ghost holds: { Self → Self → Type 0 } = { λ _ _. ⊤ };
+
     /// How many texts couldn't be read, up to what 64 bits hold.
     fn failures(&self) -> u64
         ensures { result ≡ faults self.now };
@@ -50,7 +53,8 @@ pub trait Shelf {
         ensures missing { (at : Shelved) → found self.old ≡ Some at
             → IfErr result (λ e. e ≡ ReadError.Unreadable → part_of at part ≡ None) }
         ensures same { found self.new ≡ found self.old }
-        ensures count { Counts result (faults self.old) (faults self.new) };
+        ensures count { Counts result (faults self.old) (faults self.new) }
+        ensures held { holds self.old self.new };
 
     /// All bytes of the preferences, or nothing where none are asked for.
     fn read_preferences(&mut self, alloc: Global) -> Result<Option<Vec<u8>>, ReadError>
@@ -59,7 +63,8 @@ pub trait Shelf {
         ensures missing { (at : Shelved) → found self.old ≡ Some at
             → IfErr result (λ e. e ≡ ReadError.Unreadable → at.preferences ≡ Some None) }
         ensures same { found self.new ≡ found self.old }
-        ensures count { Counts result (faults self.old) (faults self.new) };
+        ensures count { Counts result (faults self.old) (faults self.new) }
+        ensures held { holds self.old self.new };
 
     /// Opens the text of the index of this number, counted from 1, whose source names this file.
     fn open(&mut self, alloc: Global, number: usize, file: &[u8]) -> Result<Self::Text, ReadError>
@@ -69,10 +74,17 @@ pub trait Shelf {
             → IfErr result (λ e. e ≡ ReadError.Unreadable → at.index number file.now ≡ None) }
         ensures fresh { IfOk result (λ text. Self.Text.faults text ≡ 0) }
         ensures same { found self.new ≡ found self.old }
-        ensures count { Counts result (faults self.old) (faults self.new) };
+        ensures count { Counts result (faults self.old) (faults self.new) }
+        ensures held { holds self.old self.new };
 
     /// Gives back a text of an index: what couldn't be read of it is counted.
     fn close(&mut self, text: Self::Text)
         ensures same { found self.new ≡ found self.old }
-        ensures count { faults self.new ≡ min (faults self.old + Self.Text.faults text) (2 ^ 64 - 1) };
+        ensures count { faults self.new ≡ min (faults self.old + Self.Text.faults text) (2 ^ 64 - 1) }
+        ensures held { holds self.old self.new };
+
+    // It holds what it held before a call, and what it held before two calls.
+    ghost holds_still: { (shelf : Self) → holds shelf shelf };
+
+    ghost holds_on: { (first then last : Self) → holds first then → holds then last → holds first last };
 }

@@ -1,8 +1,9 @@
 //! The sources, which name the indices.
-ghost use Rattle.std.specs.Prelude.{◌≡◌, ◌≢◌, IfErr, IfOk, Ok, Some};
+ghost use Rattle.std.specs.Prelude.{◌≡◌, ◌≢◌, IfErr, IfOk, Ok, Some, map};
 ghost use Rattle.inputs.specs.Before.{HasStatus, IsRefusalBefore};
 ghost use Rattle.inputs.specs.Counting.{CountsRead};
 ghost use Rattle.inputs.specs.Reading.{IsFaultOf};
+ghost use Rattle.inputs.specs.ReadAs.{files_of};
 ghost use Rattle.inputs.specs.Texts.{Shelved, sources_in, sources_of, texts_of};
 ghost use Rattle.inputs.specs.declared.refusal.Fault.TheVariants as fault;
 ghost use Rattle.inputs.specs.declared.settings.Settings.{Settings as SettingsOf};
@@ -11,7 +12,7 @@ use crate::refusal::{Fault, Input, Refusal, refused_at};
 use crate::shelf::{Part, Shelf};
 use crate::texts::read_part;
 use index::{IndexSource, SourcesError};
-use std::alloc::Global;
+use std::alloc::{AllocError, Global};
 
 // The indices that the sources name.
 fn sources_in_text<'a>(alloc: Global, text: &'a [u8]) -> Result<Vec<IndexSource<'a>>, Fault>
@@ -33,11 +34,26 @@ pub fn read_sources_text<S: Shelf>(alloc: Global, shelf: &mut S) -> Result<Vec<u
         → IfErr result (λ refused. IsRefusalBefore (texts_of settings at) refused) }
     ensures same { S.found shelf.new ≡ S.found shelf.old }
     ensures count { CountsRead result (S.faults shelf.old) (S.faults shelf.new) }
+    ensures held { S.holds shelf.old shelf.new }
 {
     match read_part(alloc, shelf, Part::Sources, Input::Sources) {
         Ok(text) => Ok(text),
         Err(refused) => Err(refused),
     }
+}
+
+/// The files of the indices, in their order. Memory alone can fail.
+pub(crate) fn files_of<'a>(
+    alloc: Global,
+    sources: &[IndexSource<'a>],
+) -> Result<Vec<&'a [u8]>, AllocError>
+    ensures { IfOk result (λ files. map (λ file. file.now) files.items ≡ files_of sources.now) }
+{
+    let mut files = Vec::new(alloc);
+    for source in sources {
+        files.push(source.file())?;
+    }
+    Ok(files)
 }
 
 /// The indices that the text of the sources names, in their order, each with its release keys. Linear in the text.

@@ -56,6 +56,7 @@ pub fn read_status<S: Shelf>(
         → IfErr result (λ refused. IsRefusalBefore (texts_of settings.now at) refused) }
     ensures same { S.found shelf.new ≡ S.found shelf.old }
     ensures count { CountsRead result (S.faults shelf.old) (S.faults shelf.new) }
+    ensures held { S.holds shelf.old shelf.new }
 {
     match read_part(alloc, shelf, Part::Status, Input::Status) {
         Ok(text) => Ok(StatusText {

@@ -35,6 +35,7 @@ pub fn read_part<S: Shelf>(
         → IfErr result (λ refused. IsUnread place (part_of at part) refused) }
     ensures same { S.found shelf.new ≡ S.found shelf.old }
     ensures count { CountsRead result (S.faults shelf.old) (S.faults shelf.new) }
+    ensures held { S.holds shelf.old shelf.new }
 {
     match shelf.read(alloc, part) {
         Ok(text) => Ok(text),
@@ -52,6 +53,7 @@ pub(crate) fn read_preferences_text<S: Shelf>(
     ensures missing { (at : Shelved) → S.found shelf.old ≡ Some at → IfErr result (λ refused. AreUnread at.preferences refused) }
     ensures same { S.found shelf.new ≡ S.found shelf.old }
     ensures count { CountsRead result (S.faults shelf.old) (S.faults shelf.new) }
+    ensures held { S.holds shelf.old shelf.new }
 {
     match shelf.read_preferences(alloc) {
         Ok(text) => Ok(text),
@@ -73,6 +75,7 @@ pub fn open_index<S: Shelf>(
     ensures fresh { IfOk result (λ text. S.Text.faults text ≡ 0) }
     ensures same { S.found shelf.new ≡ S.found shelf.old }
     ensures count { CountsRead result (S.faults shelf.old) (S.faults shelf.new) }
+    ensures held { S.holds shelf.old shelf.new }
 {
     match shelf.open(alloc, number, file) {
         Ok(text) => Ok(text),

@@ -1,7 +1,8 @@
 -- As much of a request as can be: what is left of it where lines are left out, one after the other (this project's own).
-use Rattle.std.specs.Prelude.{◌≡◌, ◌⊎◌, ℕ, ◌<◌, List, [], ◌∷◌, length, Some, ⊤}
+use Rattle.std.specs.Prelude.{◌≡◌, ◌⊎◌, ℕ, ◌<◌, List, [], ◌∷◌, length, Result, Ok, Err, Some, ⊤}
 use Rattle.std.specs.List.{remove}
 use Rattle.inputs.specs.Meaning.{Denotes}
+use Rattle.inputs.specs.ReadAs.{asking}
 use Rattle.inputs.specs.Refused.{IsRefusal}
 use Rattle.inputs.specs.Texts.{Texts}
 use Rattle.inputs.specs.declared.refusal.Refusal.{Refusal}
@@ -12,18 +13,6 @@ use Rattle.wishes.specs.Upgraded.{names_to_upgrade}
 use Rattle.cli_engine.specs.Refuted.{AreRefuted}
 use Rattle.cli_engine.specs.Solution.{IsSolution}
 use Rattle.keep_back.specs.declared.keep_back.KeptBack.{KeptBack}
-
--- the texts with this request in the place of theirs
-abbrev pub asking : List ℕ → Texts → Texts
-asking request texts = record {
-  arch = texts.arch;
-  target = texts.target;
-  status = texts.status;
-  sources = texts.sources;
-  index = texts.index;
-  preferences = texts.preferences;
-  request = Some request;
-}
 
 -- the lines are those of the request of the texts, with `upgrade-all` spelled out by the names of which it asks for another version
 pub record AreLinesOf (texts : Texts) (lines : List (List ℕ)) : Type 0 where
@@ -69,3 +58,9 @@ pub record IsLeftRefusal (texts : Texts) (refused : Refusal) : Type 0 where
 -- it is the first refusal of the texts, or of what is left of their request
 abbrev pub IsKeptRefusal : Texts → Refusal → Type 0
 IsKeptRefusal texts refused = IsRefusal texts refused ⊎ IsLeftRefusal texts refused
+
+-- what is said of as much of a request as can be: the answer to what is left of it, or the first refusal, of the request or of what is
+-- left of it
+abbrev pub IsSaidOfKept : Texts → ℕ → Result KeptBack Refusal → Type 0
+IsSaidOfKept texts limit (Ok kept) = IsKeptBack texts limit kept
+IsSaidOfKept texts limit (Err refused) = IsKeptRefusal texts refused

@@ -1,4 +1,4 @@
-pub mod Before
 pub mod Further
 pub mod KeptBack
 pub mod Reason
+pub mod Round

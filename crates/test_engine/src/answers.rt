@@ -1,11 +1,12 @@
 //! The calls over texts in memory, each once with ample memory. What is wanted is worked by hand from docs/FORMATS.md, Policy
 //! 7.2 and apt_preferences(5).
 use cli_engine::{
-    Candidate, Inputs, RefutationVerdict, Rule, Settings, Shelf, Solved, Verdict, candidate_bytes,
-    check_plan_bytes, check_refutation_bytes, solve_bytes,
+    Answered, Candidate, Candidates, CheckPlan, CheckRefutation, JudgedPlan, JudgedRefutation,
+    Notes, RefutationVerdict, Rule, Solve, Solved, Verdict,
 };
-use inputs::MemoryShelf;
+use inputs::{Each, Fault, Inputs, MemoryShelf, Refusal, Settings, Shelf, ask_bytes};
 use plantext::write_plan;
+use rules::Items;
 use std::alloc::{AllocError, Global};
 
 const SETTINGS: Settings<'static> = Settings {
@@ -45,25 +46,59 @@ fn inputs<'p>(
     }
 }
 
+// What is answered about the plan.
+fn judged(
+    alloc: Global,
+    inputs: &Inputs<'_, 'static>,
+    plan: &'static [u8],
+) -> Result<JudgedPlan, Refusal> {
+    let mut notes = Notes::new(alloc);
+    ask_bytes(
+        alloc,
+        inputs,
+        Some(plan),
+        &SETTINGS,
+        &CheckPlan {},
+        &mut notes,
+    )
+}
+
 #[test]
 fn a_plan_is_judged_by_texts(rt: HostRuntime) {
     let late = b"plan 1\nunpack bar 2.0\nunpack foo 1.0\nconfigure foo\nconfigure bar\n";
     let inputs = inputs(&[INDEX], None);
-    let good = check_plan_bytes(rt.alloc(), &inputs, &SETTINGS, PLAN);
-    assert!(rt; matches!(&good, Ok(Verdict::Yes)));
-    let bad = check_plan_bytes(rt.alloc(), &inputs, &SETTINGS, late);
-    assert!(rt; matches!(&bad, Ok(Verdict::Step(3, Rule::Depends))));
+    let good = judged(rt.alloc(), &inputs, PLAN);
+    assert!(rt; matches!(&good, Ok(judged) if matches!(judged.verdict, Verdict::Yes)));
+    assert!(rt; matches!(&good, Ok(judged) if judged.steps.len() == 4));
+    let bad = judged(rt.alloc(), &inputs, late);
+    assert!(rt;
+        matches!(&bad, Ok(judged) if matches!(judged.verdict, Verdict::Step(3, Rule::Depends)))
+    );
+}
+
+// What is answered about the refutation.
+fn refuted(alloc: Global, inputs: &Inputs<'_, 'static>) -> Result<JudgedRefutation, Refusal> {
+    let mut notes = Notes::new(alloc);
+    let question = CheckRefutation {
+        has_document: false,
+    };
+    ask_bytes(
+        alloc,
+        inputs,
+        Some(REFUTATION),
+        &SETTINGS,
+        &question,
+        &mut notes,
+    )
 }
 
 #[test]
 fn a_refutation_is_judged_by_texts(rt: HostRuntime) {
-    let pinned = inputs(&[INDEX], Some(PREFERENCES));
-    let good = check_refutation_bytes(rt.alloc(), &pinned, &SETTINGS, REFUTATION);
-    assert!(rt; matches!(&good, Ok(RefutationVerdict::Yes)));
-    let unpinned = inputs(&[INDEX], None);
-    let bad = check_refutation_bytes(rt.alloc(), &unpinned, &SETTINGS, REFUTATION);
+    let good = refuted(rt.alloc(), &inputs(&[INDEX], Some(PREFERENCES)));
+    assert!(rt; matches!(&good, Ok(judged) if matches!(judged.verdict, RefutationVerdict::Yes)));
     // (without the preferences pair 2 is bar 2.0, which depends on nothing)
-    assert!(rt; matches!(&bad, Ok(RefutationVerdict::No(2))));
+    let bad = refuted(rt.alloc(), &inputs(&[INDEX], None));
+    assert!(rt; matches!(&bad, Ok(judged) if matches!(judged.verdict, RefutationVerdict::No(2))));
 }
 
 // Whether the answer is a plan with this text.
@@ -74,9 +109,22 @@ fn is_plan(alloc: Global, solved: &Solved, wanted: &[u8]) -> Result<bool, AllocE
     }
 }
 
+const SOLVE: Solve = Solve {
+    limit: 0,
+    has_document: false,
+};
+
 #[test]
 fn a_request_is_solved_by_texts(rt: HostRuntime) -> Result<(), AllocError> {
-    match solve_bytes(rt.alloc(), &inputs(&[INDEX], None), &SETTINGS, 0) {
+    let mut notes = Notes::new(rt.alloc());
+    match ask_bytes(
+        rt.alloc(),
+        &inputs(&[INDEX], None),
+        None,
+        &SETTINGS,
+        &SOLVE,
+        &mut notes,
+    ) {
         Ok(answered) => {
             assert!(rt; is_plan(rt.alloc(), &answered.solved, PLAN)?);
             assert!(rt; !answered.asks_all_versions);
@@ -86,20 +134,80 @@ fn a_request_is_solved_by_texts(rt: HostRuntime) -> Result<(), AllocError> {
     Ok(())
 }
 
-fn is_offer(found: &Candidate, version: &[u8], priority: i32) -> bool {
-    found.version() == version && found.priority() == priority
+// What is answered to each of three requests: the second names a package that there is none of, and the last asks for
+// something else.
+fn three(alloc: Global) -> Result<Items<Result<Answered, Refusal>>, Refusal> {
+    let requests: [&[u8]; 3] = [REQUEST, b"install baz\n", b"remove bar\n"];
+    let question = Each {
+        requests: requests.as_slice(),
+        asks_all_versions: false,
+        question: SOLVE,
+    };
+    let mut notes = Notes::new(alloc);
+    ask_bytes(
+        alloc,
+        &inputs(&[INDEX], None),
+        None,
+        &SETTINGS,
+        &question,
+        &mut notes,
+    )
 }
 
 #[test]
-fn a_candidate_is_found_by_texts(rt: HostRuntime) {
-    let unpinned = inputs(&[INDEX], None);
-    let highest = candidate_bytes(rt.alloc(), &unpinned, &SETTINGS, b"bar");
-    assert!(rt; matches!(&highest, Ok(Some(found)) if is_offer(found, b"2.0", 500)));
-    let pinned = inputs(&[INDEX], Some(PREFERENCES));
-    let preferred = candidate_bytes(rt.alloc(), &pinned, &SETTINGS, b"bar");
-    assert!(rt; matches!(&preferred, Ok(Some(found)) if is_offer(found, b"1.0", 1001)));
-    let absent = candidate_bytes(rt.alloc(), &pinned, &SETTINGS, b"baz");
-    assert!(rt; matches!(&absent, Ok(None)));
+fn each_request_is_answered_over_one_reading(rt: HostRuntime) -> Result<(), AllocError> {
+    let answers = three(rt.alloc());
+    match &answers {
+        Ok(answers) => match answers.as_slice() {
+            [Ok(first), Err(second), Ok(last)] => {
+                assert!(rt; is_plan(rt.alloc(), &first.solved, PLAN)?);
+                assert!(rt; matches!(second.fault, Fault::UnknownName(1)));
+                assert!(rt; is_plan(rt.alloc(), &last.solved, b"plan 1\nremove bar\n")?);
+            }
+            _ => assert!(rt; false),
+        },
+        Err(_) => assert!(rt; false),
+    }
+    Ok(())
+}
+
+fn is_offer(offer: &Candidate, version: &[u8], priority: i32) -> bool {
+    offer.version() == version && offer.priority() == priority
+}
+
+// The candidates of two names.
+fn candidates(
+    alloc: Global,
+    inputs: &Inputs<'_, 'static>,
+) -> Result<Items<Option<Candidate>>, Refusal> {
+    let names = ["bar", "baz"];
+    let question = Candidates {
+        names: names.as_slice(),
+    };
+    let mut notes = Notes::new(alloc);
+    ask_bytes(alloc, inputs, None, &SETTINGS, &question, &mut notes)
+}
+
+// Whether the first name has this candidate, and the other none.
+fn are_offers(
+    answer: &Result<Items<Option<Candidate>>, Refusal>,
+    version: &[u8],
+    priority: i32,
+) -> bool {
+    match answer {
+        Ok(offers) => {
+            matches!(offers.as_slice(), [Some(offer), None] if is_offer(offer, version, priority))
+        }
+        Err(_) => false,
+    }
+}
+
+#[test]
+fn candidates_are_found_by_texts(rt: HostRuntime) {
+    let highest = candidates(rt.alloc(), &inputs(&[INDEX], None));
+    assert!(rt; are_offers(&highest, b"2.0", 500));
+    let preferred = candidates(rt.alloc(), &inputs(&[INDEX], Some(PREFERENCES)));
+    assert!(rt; are_offers(&preferred, b"1.0", 1001));
 }
 
 #[test]

@@ -1,9 +1,9 @@
 //! Plans that are applied by texts in memory. The wanted answers and texts are made by hand after docs/FORMATS.md.
 use crate::watched::Watched;
-use apply_engine::{Applied, ApplyRefusal, apply_from};
-use cli_engine::{Rule, Verdict};
+use apply_engine::{Applied, Apply};
+use cli_engine::{Refusal, Rule, Verdict};
 use disk::{Failing, Fuse, MemoryDisk};
-use inputs::{Inputs, MemoryShelf, Settings, Shelf};
+use inputs::{Inputs, MemoryShelf, Settings, Shelf, ask};
 use std::alloc::{AllocError, Global};
 use std::test::Fail;
 
@@ -16,16 +16,17 @@ const END: &[u8] =
     b"Package: bar\nStatus: install ok installed\nVersion: 1.0\nArchitecture: all\n\nPackage: foo\nStatus: install ok installed\nVersion: 1.0\nArchitecture: all\nDepends: bar\n\n";
 
 // What is printed of the answer, but for a plan that isn't good, and the text of the status file.
-fn shown(
-    alloc: Global,
-    answer: Result<Applied, ApplyRefusal>,
-) -> Result<(String, Vec<u8>), AllocError> {
+fn shown(alloc: Global, answer: Result<Applied, Refusal>) -> Result<(String, Vec<u8>), AllocError> {
     match answer {
         Ok(Applied::Done(done)) => Ok((format!(in alloc; "applied {}", done.steps)?, done.status)),
         Ok(Applied::Judged(Verdict::Step(3, Rule::Depends))) => {
             Ok((format!(in alloc; "no step 3 F4")?, Vec::new(alloc)))
         }
         Ok(Applied::Judged(_)) => Ok((format!(in alloc; "no")?, Vec::new(alloc))),
+        Ok(Applied::Stopped(fault)) => Ok((
+            format!(in alloc; "journal: {fault}")?,
+            Vec::new(alloc),
+        )),
         Err(refused) => Ok((format!(in alloc; "{refused}")?, Vec::new(alloc))),
     }
 }
@@ -40,7 +41,7 @@ fn applied<S: Shelf>(
         arch: b"amd64",
         target: None,
     };
-    let answer = apply_from(alloc, shelf, &settings, disk);
+    let answer = ask(alloc, shelf, &settings, &Apply::new(), disk);
     shown(alloc, answer)
 }
 

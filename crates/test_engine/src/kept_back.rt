@@ -1,8 +1,8 @@
 //! Requests of which as much as can be is answered, with the text of what is left. What is wanted is made by hand after
 //! docs/FORMATS.md; more of them stand in the scenarios.
-use cli_engine::{Solved, Undecided};
-use inputs::{Inputs, Settings};
-use keep_back::{KeptBack, solve_possible_bytes};
+use cli_engine::{Notes, Solved, Undecided};
+use inputs::{Inputs, Settings, ask_bytes};
+use keep_back::{KeepBack, KeptBack};
 use std::alloc::{AllocError, Global};
 use std::test::Fail;
 
@@ -42,7 +42,12 @@ fn shown(
         preferences: None,
         request,
     };
-    match solve_possible_bytes(alloc, &inputs, &settings, 1000) {
+    let question = KeepBack {
+        limit: 1000,
+        has_document: false,
+    };
+    let mut notes = Notes::new(alloc);
+    match ask_bytes(alloc, &inputs, None, &settings, &question, &mut notes) {
         Ok(kept) => text_of(alloc, &kept),
         Err(refused) => format!(in alloc; "{refused}"),
     }

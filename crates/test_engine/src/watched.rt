@@ -77,4 +77,8 @@ impl<'a> Shelf for Watched<'a> {
     }
 
     fn close(&mut self, _text: &'a [u8]) {}
+
+    ghost holds_still = { λ _. tt };
+
+    ghost holds_on = { λ _ _ _ _ _. tt };
 }

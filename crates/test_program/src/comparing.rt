@@ -1,6 +1,6 @@
 //! Two versions compared, by the calls below the command line.
-use cli::{Exit, Outcome, comparison_line, exit_of_comparison, outcome_of_comparison};
 use cli_engine::{Comparison, compare};
+use outcomes::{Exit, Outcome, comparison_line, exit_of_comparison, outcome_of_comparison};
 use std::alloc::{AllocError, Global};
 use std::cmp::Ordering;
 use std::test::Fail;

@@ -5,13 +5,13 @@ ghost use Rattle.inputs.specs.declared.shelf.ReadError.TheVariants as ReadError;
 
 use crate::memory::Memory;
 use crate::scenario::add_plan;
-use cli::{
-    Candidate, Exit, Fault, Host, HostShelf, Input, Outcome, Paths, PutError, ReadError, Refusal,
-    Sentences, Settings, Source, TextAt, candidate_line, check_plan, exit_of_candidates,
-    exit_of_refusal, exit_of_verdict, find_candidates, outcome_of_answer, outcome_of_candidates,
-    verdict_line,
-};
+use cli::{Host, HostShelf, Paths, PutError, ReadError, Settings, Source, TextAt, ask_files};
+use cli_engine::{Candidate, Candidates, CheckPlan, Fault, Input, JudgedPlan, Notes, Refusal};
 use disk::MemoryDisk;
+use outcomes::{
+    Exit, Outcome, candidate_line, exit_of_candidates, exit_of_refusal, exit_of_verdict,
+    outcome_of_candidates, outcome_of_plan, verdict_line,
+};
 use rules::{Items, Verdict};
 use std::alloc::{AllocError, Global};
 use std::test::Fail;
@@ -93,12 +93,15 @@ const PATHS: Paths<'static> = Paths {
     judged: "plan",
 };
 
-fn shelf_of<H: Host>(host: H) -> HostShelf<'static, H> {
-    HostShelf {
+// What is answered about the plan of the files of a host.
+fn judged<H: Host>(alloc: Global, host: &mut H) -> Result<JudgedPlan, Refusal> {
+    let mut shelf = HostShelf {
         host,
         paths: PATHS,
         seen: None,
-    }
+    };
+    let mut notes = Notes::new(alloc);
+    ask_files(alloc, &mut shelf, &SETTINGS, &CheckPlan {}, &mut notes)
 }
 
 // Whether the outcome is this line on standard output, with the status of an answer that is yes.
@@ -111,24 +114,22 @@ fn is_yes(alloc: Global, verdict: &Verdict) -> Result<bool, AllocError> {
     Ok(line.as_slice() == b"yes\n".as_slice() && exit_of_verdict(verdict) == Exit::Success)
 }
 
-fn answers_yes(alloc: Global, answer: &Result<Verdict, Refusal>) -> Result<bool, AllocError> {
+fn answers_yes(alloc: Global, answer: &Result<JudgedPlan, Refusal>) -> Result<bool, AllocError> {
     match answer {
-        Ok(verdict) => is_yes(alloc, verdict),
+        Ok(judged) => is_yes(alloc, &judged.verdict),
         Err(_) => Ok(false),
     }
 }
 
-fn prints_yes(alloc: Global, answer: &Result<Verdict, Refusal>) -> Result<bool, AllocError> {
-    let outcome = outcome_of_answer(alloc, answer)?;
+fn prints_yes(alloc: Global, answer: &Result<JudgedPlan, Refusal>) -> Result<bool, AllocError> {
+    let outcome = outcome_of_plan(alloc, answer)?;
     Ok(is_line(&outcome, b"yes\n"))
 }
 
-fn answer_of_plan(alloc: Global) -> Result<Result<Verdict, Refusal>, Fail> {
+fn answer_of_plan(alloc: Global) -> Result<Result<JudgedPlan, Refusal>, Fail> {
     let mut host = Memory::new(alloc);
     add_plan(alloc, &mut host, "plan 1$")?;
-    let mut shelf = shelf_of(host);
-    let mut told = Sentences::new(alloc);
-    Ok(check_plan(alloc, &mut shelf, &SETTINGS, &mut told))
+    Ok(judged(alloc, &mut host))
 }
 
 #[test]
@@ -192,9 +193,16 @@ fn add_foo(alloc: Global, host: &mut Memory<'_>) -> Result<(), Fail> {
 fn answer_of_foo(alloc: Global) -> Result<Result<Items<Option<Candidate>>, Refusal>, Fail> {
     let mut host = Memory::new(alloc);
     add_foo(alloc, &mut host)?;
-    let mut shelf = shelf_of(host);
-    let mut told = Sentences::new(alloc);
-    Ok(find_candidates(alloc, &mut shelf, &SETTINGS, NAMES.as_slice(), &mut told))
+    let mut shelf = HostShelf {
+        host: &mut host,
+        paths: PATHS,
+        seen: None,
+    };
+    let question = Candidates {
+        names: NAMES.as_slice(),
+    };
+    let mut notes = Notes::new(alloc);
+    Ok(ask_files(alloc, &mut shelf, &SETTINGS, &question, &mut notes))
 }
 
 #[test]
@@ -211,23 +219,21 @@ fn are_sources_unread(refusal: &Refusal) -> bool {
         && exit_of_refusal(refusal) == Exit::Device
 }
 
-fn is_complaint(alloc: Global, answer: &Result<Verdict, Refusal>) -> Result<bool, AllocError> {
-    let outcome = outcome_of_answer(alloc, answer)?;
+fn is_complaint(alloc: Global, answer: &Result<JudgedPlan, Refusal>) -> Result<bool, AllocError> {
+    let outcome = outcome_of_plan(alloc, answer)?;
     Ok(matches!(&outcome, Outcome::Complaint(_, Exit::Device)))
 }
 
 #[test]
 fn a_refusal_is_printed_as_a_complaint(rt: HostRuntime) -> Result<(), Fail> {
-    let host = OneFile {
+    let mut host = OneFile {
         path: b"status",
         text: b"",
         failures: 0,
     };
-    let mut shelf = shelf_of(host);
-    let mut told = Sentences::new(rt.alloc());
-    let answer = check_plan(rt.alloc(), &mut shelf, &SETTINGS, &mut told);
+    let answer = judged(rt.alloc(), &mut host);
     assert!(rt; matches!(&answer, Err(refusal) if are_sources_unread(refusal)));
-    assert!(rt; shelf.host.failures() == 1);
+    assert!(rt; host.failures() == 1);
     assert!(rt; is_complaint(rt.alloc(), &answer)?);
     Ok(())
 }

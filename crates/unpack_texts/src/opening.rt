@@ -32,6 +32,7 @@ pub(crate) fn fetch_from<S: Shelf>(
         IsOpenedFault arch.now number (at.index number file.now) (map (λ entry. entry.now) wanted.now) refused) }
     ensures same { S.found shelf.new ≡ S.found shelf.old }
     ensures count { CountsRead result (S.faults shelf.old) (S.faults shelf.new) }
+    ensures held { S.holds shelf.old shelf.new }
 {
     let mut text = open_index(alloc, shelf, number, file)?;
     match fetch(alloc, &mut text, arch, wanted) {

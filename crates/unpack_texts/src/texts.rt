@@ -47,6 +47,7 @@ fn fetch_group<S: Shelf>(
         IsGroupRefusal arch.now at.index (map (λ file. file.now) files.now) group.now refused) }
     ensures same { S.found shelf.new ≡ S.found shelf.old }
     ensures counted { CountsRead result (S.faults shelf.old) (S.faults shelf.new) }
+    ensures held { S.holds shelf.old shelf.new }
 {
     let Some(file) = file_of(files, number) else {
         return Err(refused_at(Input::Index(number), Fault::Changed));
@@ -75,6 +76,7 @@ fn fetch_all<S: Shelf>(
         IsGroupRefusal arch.now at.index (map (λ file. file.now) files.now) wanted.now refused) }
     ensures same { S.found shelf.new ≡ S.found shelf.old }
     ensures counted { CountsRead result (S.faults shelf.old) (S.faults shelf.new) }
+    ensures held { S.holds shelf.old shelf.new }
 {
     let mut at = 0;
     while at < wanted.len() {
@@ -108,6 +110,7 @@ pub fn fetch_texts<S: Shelf>(
     ensures count { IfOk result (λ texts. length texts.items ≡ length steps.now) }
     ensures same { S.found shelf.new ≡ S.found shelf.old }
     ensures counted { CountsRead result (S.faults shelf.old) (S.faults shelf.new) }
+    ensures held { S.holds shelf.old shelf.new }
 {
     let wanted = by_index(wanted_by(alloc, universe, steps)?)?;
     let mut texts = empty_places(alloc, steps.len())?;

@@ -1,7 +1,7 @@
 use Rattle.std.proofs.Common.{◌∙◌, ◌+◌, ◌++◌, ap, append-nil, codes, drop, drop_of_length-le, sym}
 use Rattle.command_line.proofs.WordLemmas.{left_at}
 use Rattle.command_line.specs.Asked.{texts_by}
-use Rattle.cli.specs.Words.{lines_of}
+use Rattle.cli.specs.Places.{lines_of}
 use Rattle.cli.proofs.LineLemmas.{one_line}
 use Rattle.cli.proofs.arguments.lines.Goals as goal
 

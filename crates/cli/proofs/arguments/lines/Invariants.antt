@@ -1,5 +1,5 @@
 use Rattle.std.proofs.Common.{◌≡◌, ◌++◌, drop}
-use Rattle.cli.specs.Words.{lines_of}
+use Rattle.cli.specs.Places.{lines_of}
 use Rattle.command_line.specs.Asked.{texts_by}
 use Rattle.cli.proofs.arguments.lines.Given as goal
 

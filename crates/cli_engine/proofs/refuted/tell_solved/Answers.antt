@@ -3,11 +3,11 @@ use Rattle.std.proofs.Common.{List, subst, sym}
 use Rattle.rules.specs.Run.{IsGoodPlan}
 use Rattle.rules.specs.declared.step.Step.{Step}
 use Rattle.solver.specs.declared.solved.Solved.{Solved}
-use Rattle.status_text.specs.Slot.{slot_records}
+use Rattle.inputs.specs.ReadAs.{start_of}
 use Rattle.cli_engine.specs.Good.{IsGoodIfPlan}
 use Rattle.cli_engine.proofs.refuted.tell_solved.Goals as goal
 
 pub tell_judged-requires-clause-verdict : goal.tell_judged-requires-clause-verdict
 tell_judged-requires-clause-verdict c =
-    subst (λ (steps : List Step). IsGoodPlan c.args.universe.now (slot_records c.args.status_file.now.slots) steps) (sym c.as_slice.ensures.value)
-    (subst (λ (answer : Solved). IsGoodIfPlan c.args.universe.now (slot_records c.args.status_file.now.slots) answer) c.in-Plan.is c.requires.good)
+    subst (λ (steps : List Step). IsGoodPlan c.args.universe.now (start_of c.args.before.now) steps) (sym c.as_slice.ensures.value)
+    (subst (λ (answer : Solved). IsGoodIfPlan c.args.universe.now (start_of c.args.before.now) answer) c.in-Plan.is c.requires.good)

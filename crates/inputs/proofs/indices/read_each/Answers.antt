@@ -30,6 +30,7 @@ loop-source-preserved g c =
           w.invariant.lengths (search rules) (search rules);
       found = c.in-Ok.ensures.same ∙ w.invariant.found;
       faults = c.in-Ok.ensures.count ∙ w.invariant.faults;
+      held = g.met.S.Shelf.holds_on _ _ _ w.invariant.held c.in-Ok.ensures.held;
       bounded = λ at known. subst (λ (n : ℕ). n ≤ PACKAGES) (sym (exact at known)) (fits at known);
       same = λ at known. w.invariant.same at known
           ∙ goes_on c.args.arch.now at.index (w.number + 1) w.before w.releases.items c.push-in-loop-source.new.self.items w.kept.items

@@ -13,6 +13,7 @@ invariant-loop-source g l = record {
   lengths : length l.kept.items ≡ length l.releases.items;
   found : g.S.Shelf.found l.shelf ≡ g.S.Shelf.found l.fn.shelf;
   faults : g.S.Shelf.faults l.shelf ≡ g.S.Shelf.faults l.fn.shelf;
+  held : g.S.Shelf.holds l.fn.shelf l.shelf;
   bounded : (at : Shelved) → g.S.Shelf.found l.fn.shelf ≡ Some at → l.before ≤ PACKAGES;
   same : (at : Shelved) → g.S.Shelf.found l.fn.shelf ≡ Some at → indices_from l.arch at.index 1 0 l.fn.sources.items
       ≡ with_indices (released l.releases.items l.kept.items)

@@ -8,5 +8,6 @@ use Rattle.inputs.proofs.request.listed_in.Goals as goal
 
 pub returns : goal.returns
 returns c =
-    let same : map (λ r. r.now) c.as_slice.result.now ≡ entries_of c.args.status_file.now.slots = rw c.as_slice.ensures.value c.in_ok-records.ensures.records in
-    subst (λ es. IfOk c.new.result (IsListing (records_of es) (indices_of c.args.indices.now) c.args.prefs.now)) same c.new.ensures.listing
+    let before = c.args.before.now in
+    let same : map (λ r. r.now) c.as_slice.result.now ≡ entries_of before.status_file.now.slots = rw c.as_slice.ensures.value c.in_ok-records.ensures.records in
+    subst (λ es. IfOk c.new.result (IsListing (records_of es) (indices_of before.indices.now) before.prefs.now)) same c.new.ensures.listing

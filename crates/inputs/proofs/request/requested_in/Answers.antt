@@ -1,72 +1,75 @@
 -- The universe of the request is built on the records of the status file, is no larger than is kept, and its facts are about
--- distinct names.
-use Rattle.std.proofs.Common.{◌≡◌, IfSome, Some, map, subst, sym}
+-- distinct names; and what refuses the request is the first refusal of the texts with it.
+use Rattle.std.proofs.Common.{◌≡◌, IfSome, List, Some, arith, ap, map, subst, sym, ℕ}
 use Rattle.std.specs.Option.{option_copied}
 use Rattle.universe_build.specs.Listing.{IsListing}
 use Rattle.rules.specs.FileRecord.{records_of}
 use Rattle.rules.specs.Universe.{IsUniverse}
 use Rattle.candidates.specs.Inputs.{indices_of, inputs_of}
-use Rattle.status_text.specs.Slot.{entries_of, slot_records}
+use Rattle.status_text.specs.Slot.{entries_of}
 use Rattle.universe_parts.specs.Parts.{HaveDistinctNames}
 use Rattle.universe_build.proofs.StartsApart.{starts_apart}
 use Rattle.inputs.specs.Meaning.{IsRequested, asked_of}
-use Rattle.inputs.specs.Texts.{Found}
+use Rattle.inputs.specs.ReadAs.{start_of}
 use Rattle.inputs.proofs.DenoteLemmas.{built_on}
 use Rattle.inputs.proofs.NameLemmas.{pairs_named, status_named}
+use Rattle.inputs.proofs.ReadAsLemmas.{read-asking, request-refused}
 use Rattle.inputs.proofs.request.requested_in.Goals as goal
 
 pub universe_in-requires-clause-listed : goal.universe_in-requires-clause-listed
 universe_in-requires-clause-listed c =
-    let same : map (λ r. r.now) c.as_slice.result.now ≡ entries_of c.args.status_file.now.slots = rw c.as_slice.ensures.value c.in_ok-records.ensures.records in
-    subst (λ es. IfSome (option_copied c.args.listing) (IsListing (records_of es) (indices_of c.args.indices.now) c.args.prefs.now)) (sym same) c.requires.listed
+    let before = c.args.before.now in
+    let same : map (λ r. r.now) c.as_slice.result.now ≡ entries_of before.status_file.now.slots = rw c.as_slice.ensures.value c.in_ok-records.ensures.records in
+    subst (λ es. IfSome (option_copied c.args.listing) (IsListing (records_of es) (indices_of before.indices.now) before.prefs.now)) (sym same) c.requires.listed
 
-pub returns-in-Ok-clause-built : goal.returns-in-Ok-clause-built
-returns-in-Ok-clause-built c =
-    built_on c.universe_is_built.ensures _ _ c.in-Ok.found.universe
-    (map (λ r. r.now) c.as_slice.result.now) (entries_of c.args.status_file.now.slots) (indices_of c.args.indices.now) c.args.prefs.now
-    (rw c.as_slice.ensures.value c.in_ok-records.ensures.records) c.in_ok-records.ensures.distinct (c.in-Ok.ensures.ok.0, c.in-Ok.ensures.ok.1)
-
-pub returns-in-Ok-clause-distinct : goal.returns-in-Ok-clause-distinct
-returns-in-Ok-clause-distinct c =
-    let built = returns-in-Ok-clause-built c in
-    subst HaveDistinctNames (sym built.starts) (starts_apart _ built.distinct)
-
-pub returns-in-Ok-clause-universe : goal.returns-in-Ok-clause-universe
-returns-in-Ok-clause-universe c =
-    let same : map (λ r. r.now) c.as_slice.result.now ≡ entries_of c.args.status_file.now.slots = rw c.as_slice.ensures.value c.in_ok-records.ensures.records in (
-      asked_of c.in-Ok.ensures.ok.0,
-      subst (λ es. IsUniverse (inputs_of (records_of es) (indices_of c.args.indices.now) c.args.prefs.now (asked_of c.in-Ok.ensures.ok.0)) c.in-Ok.found.universe)
-          same c.in-Ok.ensures.ok.1.built.universe,
-    )
-
-pub returns-in-Ok-clause-start_names : goal.returns-in-Ok-clause-start_names
-returns-in-Ok-clause-start_names c =
+pub returns-in-Ok-clause-over : goal.returns-in-Ok-clause-over
+returns-in-Ok-clause-over c =
+    let before = c.args.before.now in
+    let u = c.in-Ok.requested.universe in
+    let same : map (λ r. r.now) c.as_slice.result.now ≡ entries_of before.status_file.now.slots = rw c.as_slice.ensures.value c.in_ok-records.ensures.records in
+    let asked = asked_of c.in-Ok.ensures.ok.0 in
+    let inputs = inputs_of (start_of before) (indices_of before.indices.now) before.prefs.now asked in
+    let made = c.in-Ok.ensures.ok.1.built in
+    let is : IsUniverse inputs u =
+    subst (λ es. IsUniverse (inputs_of (records_of es) (indices_of before.indices.now) before.prefs.now asked) u) same made.universe in
+    let built = built_on c.universe_is_built.ensures _ _ u (map (λ r. r.now) c.as_slice.result.now) (entries_of before.status_file.now.slots)
+    (indices_of before.indices.now) before.prefs.now same c.in_ok-records.ensures.distinct (c.in-Ok.ensures.ok.0, c.in-Ok.ensures.ok.1) in
     let read = c.in_ok-records.ensures.read in
-    status_named c.args.status_file.now.arch read.text c.args.status_file.now.slots read.read
+    let named = status_named before.status_file.now.arch read.text before.status_file.now.slots read.read in
+    record {
+      request = asked;
+      universe = is;
+      built = built;
+      few = (let bounded = made.bounded in omega (arith, bounded));
+      start = c.in_ok-records.ensures.distinct;
+      distinct = subst HaveDistinctNames (sym built.starts) (starts_apart _ built.distinct);
+      start_names = named;
+      pair_names = pairs_named inputs u named c.packages_are_named.ensures is;
+    }
 
-pub returns-in-Ok-clause-pair_names : goal.returns-in-Ok-clause-pair_names
-returns-in-Ok-clause-pair_names c =
-    let made = returns-in-Ok-clause-universe c in
-    let inputs = inputs_of (slot_records c.args.status_file.now.slots) (indices_of c.args.indices.now) c.args.prefs.now made.0 in
-    pairs_named inputs c.in-Ok.found.universe (returns-in-Ok-clause-start_names c) c.packages_are_named.ensures made.1
-
-pub returns-in-Ok-clause-ok : goal.returns-in-Ok-clause-ok
-returns-in-Ok-clause-ok c at there read =
-    let same : map (λ r. r.now) c.as_slice.result.now ≡ entries_of c.args.status_file.now.slots = rw c.as_slice.ensures.value c.in_ok-records.ensures.records in
-    let arch = c.args.settings.now.arch.now in
-    let indices = indices_of c.args.indices.now in
-    let prefs = c.args.prefs.now in
+pub returns-in-Ok-clause-asked : goal.returns-in-Ok-clause-asked
+returns-in-Ok-clause-asked c texts read =
+    let before = c.args.before.now in
+    let same : map (λ r. r.now) c.as_slice.result.now ≡ entries_of before.status_file.now.slots = rw c.as_slice.ensures.value c.in_ok-records.ensures.records in
+    let indices = indices_of before.indices.now in
+    let prefs = before.prefs.now in
+    let text = c.args.text.now in
     let asked = c.in-Ok.ensures.ok.0 in
-    let u = c.in-Ok.found.universe in
-    let requested : IsRequested arch (Some c.args.text.now) (slot_records c.args.status_file.now.slots) indices prefs asked u =
-    subst (λ es. IsRequested arch (Some c.args.text.now) (records_of es) indices prefs asked u) same c.in-Ok.ensures.ok.1 in
+    let u = c.in-Ok.requested.universe in
+    let requested : IsRequested before.settings.now.arch.now (Some text) (start_of before) indices prefs asked u =
+    subst (λ es. IsRequested before.settings.now.arch.now (Some text) (records_of es) indices prefs asked u) same c.in-Ok.ensures.ok.1 in
     record {
       denoted = record {
         indices = indices;
         prefs = prefs;
         asked = asked;
-        read = read;
-        requested = subst (λ (r : Found). IsRequested arch r (slot_records c.args.status_file.now.slots) indices prefs asked u) (sym there) requested;
+        read = read-asking texts text (start_of before) indices prefs read.read;
+        requested = subst (λ (arch : List ℕ). IsRequested arch (Some text) (start_of before) indices prefs asked u) (sym read.arch) requested;
       };
       asks = c.in-Ok.ensures.ok.2;
     }
+
+pub returns-clause-refused : goal.returns-clause-refused
+returns-clause-refused c texts read =
+    let same : map (λ r. r.now) c.as_slice.result.now ≡ entries_of c.args.before.now.status_file.now.slots = rw c.as_slice.ensures.value c.in_ok-records.ensures.records in
+    request-refused texts c.args.before.now c.args.text.now _ c.in-Err.fault _ read (ap records_of same) c.in-Err.ensures.err c.refused_at.ensures

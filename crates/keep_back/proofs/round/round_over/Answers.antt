@@ -1,8 +1,12 @@
--- A plan among the answers is good.
-use Rattle.status_text.specs.Slot.{slot_records}
-use Rattle.cli_engine.proofs.GoodLemmas.{good_if_plan}
+-- Without a reason the answer stays, and with one it is a refutation.
+use Rattle.keep_back.proofs.KeepLemmas.{leaves-out}
 use Rattle.keep_back.proofs.round.round_over.Goals as goal
+use Rattle.std.proofs.Common.{length}
 
-pub tell_last-requires-clause-good : goal.tell_last-requires-clause-good
-tell_last-requires-clause-good c = good_if_plan c.args.universe.now (slot_records c.args.before.now.status_file.now.slots)
-    c.args.limit c.in_ok-solved.solved c.in_ok-solved.ensures
+pub returns-in-None : goal.returns-in-None
+returns-in-None c = c.in_ok-solved.ensures.solved
+
+pub returns : goal.returns
+returns c = λ request asked. leaves-out c.args.before.now c.args.limit (length c.args.wishes.now) request c.in_ok-solved.solved
+    c.in_ok-reason.reason c.in-Some.reason (c.in_ok-solved.ensures.solved request asked) c.in-Some.is
+    c.in_ok-reason.ensures.within c.in_ok-reason.ensures.refuted

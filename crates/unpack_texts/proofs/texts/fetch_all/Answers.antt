@@ -51,4 +51,5 @@ loop-at-preserved g c =
           (subst (λ (l : List WantedStanza). IsFilled B l c.loop-at.texts.items c.fetch_group.new.texts.items) group (done.filled at (c.loop-at.invariant.same ∙ known)))));
       same = done.same ∙ c.loop-at.invariant.same;
       count = done.counted ∙ c.loop-at.invariant.count;
+      held = g.met.S.Shelf.holds_on c.args.shelf.now c.loop-at.shelf c.fetch_group.new.shelf c.loop-at.invariant.held done.held;
     }

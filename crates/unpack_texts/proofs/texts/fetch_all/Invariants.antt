@@ -13,6 +13,7 @@ invariant-loop-at g l = record {
       → IsFilled (Belongs l.arch at.index (map (λ file. file.now) l.files)) (take l.at l.wanted) l.fn.texts.items l.texts.items;
   same : g.S.Shelf.found l.shelf ≡ g.S.Shelf.found l.fn.shelf;
   count : g.S.Shelf.faults l.shelf ≡ g.S.Shelf.faults l.fn.shelf;
+  held : g.S.Shelf.holds l.fn.shelf l.shelf;
 }
 
 abbrev pub decreases-loop-at : goal.decreases-loop-at

@@ -1,0 +1,12 @@
+-- What is printed is what is said of the texts of the files.
+use Rattle.cli.proofs.ResultLemmas.{if_ok}
+use Rattle.cli.proofs.plan.outcome_of_plan_judged.Goals as goal
+use Rattle.cli.specs.Calls.{IsOutcomeOfPlanJudged, texts_at}
+use Rattle.outcomes.specs.Outcome.{IsOutcomeIn}
+
+pub returns : goal.returns
+returns g c at known =
+    let texts = texts_at at c.args.arguments.now in
+    let written = c.args.arguments.now.format in
+    if_ok c.outcome_in.result (IsOutcomeIn written c.in_ok-plain.plain) (IsOutcomeOfPlanJudged texts (at c.args.arguments.now.paths.judged.now) written)
+    (λ found is. (c.ask_files-answer.result, c.in_ok-plain.plain, c.ask_files-answer.ensures.said at known, c.in_ok-plain.ensures, is)) c.outcome_in.ensures

@@ -1,0 +1,61 @@
+//! The candidates of names, found by the files of a host.
+ghost use Rattle.std.specs.Prelude.{◌≡◌, IfOk, Some, map};
+ghost use Rattle.cli.specs.Calls.{IsOutcomeOfNames, texts_at};
+ghost use Rattle.cli.specs.Files.{Files};
+
+use crate::arguments::Arguments;
+use crate::asking::{is_document, seen_if, show, want};
+use crate::files::{HostShelf, ask_files};
+use crate::host::Host;
+use crate::members::members_of_names;
+use crate::told::tell_refusal;
+use cli_engine::{Candidate, Candidates, Notes, Refusal};
+use command_line::Format;
+use documents::Members;
+use outcomes::{Outcome, outcome_in, outcome_of_candidates};
+use rules::Items;
+use std::alloc::{AllocError, Global};
+
+// What a document has of the candidates.
+fn members_of(
+    alloc: Global,
+    format: Format,
+    names: &[&str],
+    answer: &Result<Items<Option<Candidate>>, Refusal>,
+    sentences: &[u8],
+) -> Result<Members, AllocError> {
+    match answer {
+        Ok(candidates) if is_document(format) => {
+            members_of_names(alloc, names, candidates.as_slice(), sentences)
+        }
+        _ => Ok(Members::new(alloc)),
+    }
+}
+
+/// What is printed of the candidates of these names. Memory alone can fail.
+pub(crate) fn outcome_of_names<H: Host>(
+    alloc: Global,
+    host: &mut H,
+    arguments: &Arguments<'_>,
+    names: &[&str],
+    notes: &mut Notes,
+) -> Result<Outcome, AllocError>
+    ensures { (at : Files) → H.files host.old ≡ Some at → IfOk result (λ outcome.
+        IsOutcomeOfNames (texts_at at arguments.now) (map (λ name. name.now) names.now) arguments.now.format outcome) }
+{
+    want(arguments, notes);
+    let Arguments {
+        settings,
+        paths,
+        explains,
+        format,
+    } = *arguments;
+    let seen = seen_if(alloc, explains);
+    let mut shelf = HostShelf { host, paths, seen };
+    let answer = ask_files(alloc, &mut shelf, &settings, &Candidates { names }, notes);
+    tell_refusal(alloc, &answer, &shelf, notes)?;
+    let members = members_of(alloc, format, names, &answer, notes.text.as_slice())?;
+    show(explains, notes);
+    let plain = outcome_of_candidates(alloc, names, &answer)?;
+    outcome_in(alloc, format, plain, members)
+}

@@ -1,0 +1,76 @@
+//! A plan, judged by the files of a host.
+ghost use Rattle.std.specs.Prelude.{◌≡◌, IfOk, Some};
+ghost use Rattle.cli.specs.Calls.{IsOutcomeOfPlanJudged, texts_at};
+ghost use Rattle.cli.specs.Files.{Files};
+
+use crate::arguments::Arguments;
+use crate::asking::{is_document, seen_if, show, want};
+use crate::files::{HostShelf, ask_files};
+use crate::host::Host;
+use crate::members::members_of_plan;
+use crate::told::{tell_refusal, tell_unfinished};
+use cli_engine::{CheckPlan, JudgedPlan, Notes, Refusal, Settings};
+use command_line::Format;
+use documents::Members;
+use outcomes::{Outcome, outcome_in, outcome_of_plan};
+use std::alloc::{AllocError, Global};
+
+// Tells what finishes a package that the plan leaves unfinished, where it does.
+fn tell_judged(answer: &Result<JudgedPlan, Refusal>, notes: &mut Notes) -> Result<(), AllocError> {
+    match answer {
+        Ok(judged) => tell_unfinished(judged, notes),
+        Err(_) => Ok(()),
+    }
+}
+
+// What a document has of the answer.
+fn members_of<H: Host>(
+    alloc: Global,
+    shelf: &mut HostShelf<'_, '_, H>,
+    settings: &Settings<'_>,
+    format: Format,
+    answer: &Result<JudgedPlan, Refusal>,
+    sentences: &[u8],
+) -> Result<Members, AllocError> {
+    match answer {
+        Ok(judged) if is_document(format) => {
+            members_of_plan(alloc, shelf, settings, judged, sentences)
+        }
+        _ => Ok(Members::new(alloc)),
+    }
+}
+
+/// What is printed of the answer to the plan. Memory alone can fail.
+pub(crate) fn outcome_of_plan_judged<H: Host>(
+    alloc: Global,
+    host: &mut H,
+    arguments: &Arguments<'_>,
+    notes: &mut Notes,
+) -> Result<Outcome, AllocError>
+    ensures { (at : Files) → H.files host.old ≡ Some at → IfOk result (λ outcome.
+        IsOutcomeOfPlanJudged (texts_at at arguments.now) (at arguments.now.paths.judged.now) arguments.now.format outcome) }
+{
+    want(arguments, notes);
+    let Arguments {
+        settings,
+        paths,
+        explains,
+        format,
+    } = *arguments;
+    let seen = seen_if(alloc, explains);
+    let mut shelf = HostShelf { host, paths, seen };
+    let answer = ask_files(alloc, &mut shelf, &settings, &CheckPlan {}, notes);
+    tell_refusal(alloc, &answer, &shelf, notes)?;
+    tell_judged(&answer, notes)?;
+    let members = members_of(
+        alloc,
+        &mut shelf,
+        &settings,
+        format,
+        &answer,
+        notes.text.as_slice(),
+    )?;
+    show(explains, notes);
+    let plain = outcome_of_plan(alloc, &answer)?;
+    outcome_in(alloc, format, plain, members)
+}

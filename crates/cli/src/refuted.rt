@@ -1,0 +1,59 @@
+//! A refutation, judged by the files of a host.
+ghost use Rattle.std.specs.Prelude.{◌≡◌, IfOk, Some};
+ghost use Rattle.cli.specs.Calls.{IsOutcomeOfLines, texts_at};
+ghost use Rattle.cli.specs.Files.{Files};
+
+use crate::arguments::Arguments;
+use crate::asking::{is_document, seen_if, show, want};
+use crate::files::{HostShelf, ask_files};
+use crate::host::Host;
+use crate::members::members_of_refutation;
+use crate::told::tell_refusal;
+use cli_engine::{CheckRefutation, JudgedRefutation, Notes, Refusal};
+use command_line::Format;
+use documents::Members;
+use outcomes::{Outcome, outcome_in, outcome_of_refutation};
+use std::alloc::{AllocError, Global};
+
+// What a document has of the answer.
+fn members_of(
+    alloc: Global,
+    format: Format,
+    answer: Result<JudgedRefutation, Refusal>,
+    sentences: &[u8],
+) -> Result<Members, AllocError> {
+    match answer {
+        Ok(judged) if is_document(format) => members_of_refutation(alloc, judged, sentences),
+        _ => Ok(Members::new(alloc)),
+    }
+}
+
+/// What is printed of the answer to the lines of the refutation. Memory alone can fail.
+pub(crate) fn outcome_of_lines<H: Host>(
+    alloc: Global,
+    host: &mut H,
+    arguments: &Arguments<'_>,
+    notes: &mut Notes,
+) -> Result<Outcome, AllocError>
+    ensures { (at : Files) → H.files host.old ≡ Some at → IfOk result (λ outcome.
+        IsOutcomeOfLines (texts_at at arguments.now) (at arguments.now.paths.judged.now) arguments.now.format outcome) }
+{
+    want(arguments, notes);
+    let Arguments {
+        settings,
+        paths,
+        explains,
+        format,
+    } = *arguments;
+    let seen = seen_if(alloc, explains);
+    let mut shelf = HostShelf { host, paths, seen };
+    let question = CheckRefutation {
+        has_document: is_document(format),
+    };
+    let answer = ask_files(alloc, &mut shelf, &settings, &question, notes);
+    tell_refusal(alloc, &answer, &shelf, notes)?;
+    let plain = outcome_of_refutation(alloc, &answer)?;
+    let members = members_of(alloc, format, answer, notes.text.as_slice())?;
+    show(explains, notes);
+    outcome_in(alloc, format, plain, members)
+}

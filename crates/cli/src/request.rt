@@ -1,0 +1,81 @@
+//! A request, solved by the files of a host.
+ghost use Rattle.std.specs.Prelude.{◌≡◌, IfOk, Some};
+ghost use Rattle.cli.specs.Calls.{IsOutcomeOfRequest, texts_at};
+ghost use Rattle.cli.specs.Files.{Files};
+
+use crate::arguments::Arguments;
+use crate::asking::{is_document, seen_if, show, want};
+use crate::files::{HostShelf, ask_files};
+use crate::host::Host;
+use crate::members::members_of_solved;
+use crate::told::{tell_refusal, tell_undecided};
+use cli_engine::{Answered, Notes, Refusal, Settings, Solve};
+use command_line::Format;
+use documents::Members;
+use outcomes::{Outcome, outcome_in, outcome_of_solved};
+use std::alloc::{AllocError, Global};
+
+// Tells why the request is undecided, where it is.
+fn tell_answered(answer: &Result<Answered, Refusal>, notes: &mut Notes) -> Result<(), AllocError> {
+    match answer {
+        Ok(answered) => tell_undecided(&answered.solved, notes),
+        Err(_) => Ok(()),
+    }
+}
+
+// What a document has of the answer.
+fn members_of<H: Host>(
+    alloc: Global,
+    shelf: &mut HostShelf<'_, '_, H>,
+    settings: &Settings<'_>,
+    format: Format,
+    answer: Result<Answered, Refusal>,
+    sentences: &[u8],
+) -> Result<Members, AllocError> {
+    match answer {
+        Ok(answered) if is_document(format) => {
+            members_of_solved(alloc, shelf, settings, answered, sentences)
+        }
+        _ => Ok(Members::new(alloc)),
+    }
+}
+
+/// What is printed of the answer to the request. Memory alone can fail.
+pub(crate) fn outcome_of_request<H: Host>(
+    alloc: Global,
+    host: &mut H,
+    arguments: &Arguments<'_>,
+    limit: u32,
+    notes: &mut Notes,
+) -> Result<Outcome, AllocError>
+    ensures { (at : Files) → H.files host.old ≡ Some at → IfOk result (λ outcome.
+        IsOutcomeOfRequest (texts_at at arguments.now) limit arguments.now.format outcome) }
+{
+    want(arguments, notes);
+    let Arguments {
+        settings,
+        paths,
+        explains,
+        format,
+    } = *arguments;
+    let seen = seen_if(alloc, explains);
+    let mut shelf = HostShelf { host, paths, seen };
+    let question = Solve {
+        limit,
+        has_document: is_document(format),
+    };
+    let answer = ask_files(alloc, &mut shelf, &settings, &question, notes);
+    tell_refusal(alloc, &answer, &shelf, notes)?;
+    tell_answered(&answer, notes)?;
+    let plain = outcome_of_solved(alloc, &answer)?;
+    let members = members_of(
+        alloc,
+        &mut shelf,
+        &settings,
+        format,
+        answer,
+        notes.text.as_slice(),
+    )?;
+    show(explains, notes);
+    outcome_in(alloc, format, plain, members)
+}

@@ -1,0 +1,40 @@
+//! What is told of an answer beside it.
+ghost use Rattle.std.specs.Prelude.{◌≡◌, ◌++◌, OnOk, [], false, if◌then◌else◌};
+
+use std::alloc::{AllocError, Global};
+
+/// What is told of an answer beside it, where that is wanted: sentences for a person to read. It is no part of the answer, and its
+/// words aren't promised.
+#[derive(Drop)]
+pub struct Notes {
+    /// Whether anything is wanted.
+    pub wanted: bool,
+    /// The sentences so far, each a line of its own.
+    pub text: Vec<u8>,
+}
+
+impl Notes {
+    /// No sentences, which aren't wanted.
+    pub fn new(alloc: Global) -> Notes
+        ensures unwanted { result.wanted ≡ false }
+        ensures none { result.text.items ≡ [] }
+    {
+        Notes {
+            wanted: false,
+            text: Vec::new(alloc),
+        }
+    }
+
+    /// One more piece of their text, where they are wanted. Memory alone can fail.
+    pub fn add(&mut self, piece: &[u8]) -> Result<(), AllocError>
+        ensures added { OnOk result (self.new.text.items
+            ≡ (if self.old.wanted then self.old.text.items ++ piece.now else self.old.text.items)) }
+        ensures wanted { self.new.wanted ≡ self.old.wanted }
+        ensures unasked { self.old.wanted ≡ false → self.new.text.items ≡ self.old.text.items }
+    {
+        if self.wanted {
+            self.text.extend_from_slice(piece)?;
+        }
+        Ok(())
+    }
+}

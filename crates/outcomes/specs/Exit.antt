@@ -1,0 +1,97 @@
+-- With which status the program ends: 0 yes, 1 no, 2 undecided, 3 refused, 4 wrong words, 5 device or memory (this project's own).
+use Rattle.std.specs.Prelude.{ℕ, Bool, List, Option, is_some, if◌then◌else◌}
+use Rattle.std.specs.List.{list_all}
+use Rattle.apply.specs.declared.error.BeginError.TheVariants.{NotCreated, NotOpened}
+use Rattle.apply_engine.specs.declared.fault.JournalFault.{JournalFault}
+use Rattle.apply_engine.specs.declared.fault.JournalFault.TheVariants as journal
+use Rattle.outcomes.specs.declared.exit.Exit.{Exit}
+use Rattle.outcomes.specs.declared.exit.Exit.TheVariants as exit
+use Rattle.inputs.specs.declared.refusal.Fault.{Fault}
+use Rattle.inputs.specs.declared.refusal.Fault.TheVariants as fault
+use Rattle.journal.specs.declared.error.CreateError.{CreateError}
+use Rattle.journal.specs.declared.error.CreateError.TheVariants as creating
+use Rattle.journal.specs.declared.error.OpenError.{OpenError}
+use Rattle.journal.specs.declared.error.OpenError.TheVariants as opening
+use Rattle.refutecheck.specs.declared.verdict.Verdict.{Verdict as Refuted}
+use Rattle.refutecheck.specs.declared.verdict.Verdict.TheVariants as refuted
+use Rattle.rules.specs.declared.step.Verdict.{Verdict}
+use Rattle.rules.specs.declared.step.Verdict.TheVariants as verdict
+use Rattle.solver.specs.declared.solved.Solved.{Solved}
+use Rattle.solver.specs.declared.solved.Solved.TheVariants as solved
+
+-- the exit status
+abbrev pub code_of : Exit → ℕ
+code_of exit.Success = 0
+code_of exit.No = 1
+code_of exit.Undecided = 2
+code_of exit.Refused = 3
+code_of exit.Usage = 4
+code_of exit.Device = 5
+
+-- success for yes, and no for each no
+abbrev pub exit_of_verdict : Verdict → Exit
+exit_of_verdict verdict.Yes = exit.Success
+exit_of_verdict verdict.Start = exit.No
+exit_of_verdict (verdict.Step number rule) = exit.No
+exit_of_verdict (verdict.End reason) = exit.No
+
+-- success where a refutation is accepted, and no where it isn't
+abbrev pub exit_of_refutation : Refuted → Exit
+exit_of_refutation refuted.Yes = exit.Success
+exit_of_refutation (refuted.No number) = exit.No
+
+-- success for a plan, and no where a request is refuted
+abbrev pub exit_of_solved : Solved → Exit
+exit_of_solved (solved.Plan steps) = exit.Success
+exit_of_solved (solved.Refuted lines) = exit.No
+exit_of_solved (solved.Undecided why) = exit.Undecided
+
+-- success for a yes, and no for a no
+abbrev pub exit_of_comparison : Bool → Exit
+exit_of_comparison answer = if answer then exit.Success else exit.No
+
+-- success where each name has a candidate, and no where one has none
+abbrev pub exit_of_candidates : {A : Type 0} → List (Option A) → Exit
+exit_of_candidates found = if list_all is_some found then exit.Success else exit.No
+
+-- the device's for want of memory (E1) and a file that can't be read (E5), and refused for every other fault
+abbrev pub exit_of_fault : Fault → Exit
+exit_of_fault fault.OutOfMemory = exit.Device
+exit_of_fault fault.Read = exit.Device
+exit_of_fault (fault.Version kind) = exit.Refused
+exit_of_fault (fault.Status refused) = exit.Refused
+exit_of_fault (fault.Sources refused) = exit.Refused
+exit_of_fault (fault.Index refused) = exit.Refused
+exit_of_fault (fault.Preferences refused) = exit.Refused
+exit_of_fault (fault.Request refused) = exit.Refused
+exit_of_fault (fault.UnknownName line) = exit.Refused
+exit_of_fault (fault.Plan refused) = exit.Refused
+exit_of_fault (fault.Refutation refused) = exit.Refused
+exit_of_fault fault.TooLarge = exit.Refused
+exit_of_fault fault.Changed = exit.Refused
+
+-- so it is of a journal that isn't made: the device's for want of memory (E1) and a call of its file that failed (E20)
+abbrev pub exit_of_create_error : CreateError → Exit
+exit_of_create_error creating.OutOfMemory = exit.Device
+exit_of_create_error creating.TooLarge = exit.Refused
+exit_of_create_error creating.Disk = exit.Device
+exit_of_create_error creating.BadStart = exit.Refused
+
+-- so it is of one that isn't opened
+abbrev pub exit_of_open_error : OpenError → Exit
+exit_of_open_error opening.OutOfMemory = exit.Device
+exit_of_open_error opening.Disk = exit.Device
+exit_of_open_error opening.NotAJournal = exit.Refused
+exit_of_open_error (opening.Damaged offset) = exit.Refused
+exit_of_open_error opening.OtherArchitecture = exit.Refused
+
+-- so it is of one by which a plan isn't carried out
+abbrev pub exit_of_journal_fault : JournalFault → Exit
+exit_of_journal_fault (journal.NotBegun (NotCreated e)) = exit_of_create_error e
+exit_of_journal_fault (journal.NotBegun (NotOpened e)) = exit_of_open_error e
+exit_of_journal_fault journal.OutOfMemory = exit.Device
+exit_of_journal_fault journal.TooLarge = exit.Refused
+exit_of_journal_fault journal.Disk = exit.Device
+exit_of_journal_fault journal.Reopen = exit.Refused
+exit_of_journal_fault (journal.NotApplicable name) = exit.Refused
+exit_of_journal_fault journal.Mismatch = exit.Refused

@@ -1,0 +1,25 @@
+//! What is printed of each answer, and with which status the program ends. It stands on the crates of the answers (`cli_engine`,
+//! `apply_engine`) and on `documents` for answers as JSON. The main type is `Outcome`, the main call `print`; begin with
+//! `specs/Outcome.antt`.
+#![tactic(auto)]
+
+mod answer;
+mod exit;
+mod outcome;
+mod printing;
+
+pub use answer::{
+    applied_line, candidate_line, candidate_lines, comparison_line, refutation_line, solved_text,
+    verdict_line,
+};
+pub use exit::{
+    Exit, exit_of_candidates, exit_of_comparison, exit_of_journal_fault, exit_of_refusal,
+    exit_of_refutation, exit_of_solved, exit_of_verdict,
+};
+pub use outcome::{
+    Outcome, outcome_in, outcome_of_answered, outcome_of_candidates, outcome_of_comparison,
+    outcome_of_plan, outcome_of_refusal, outcome_of_refutation, outcome_of_solved,
+    outcome_of_steps, outcome_of_stopped, outcome_of_unwritten, outcome_of_unwritten_request,
+    outcome_of_usage, outcome_of_verdict,
+};
+pub use printing::{print, refuse_for_memory};
