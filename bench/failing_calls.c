@@ -7,9 +7,11 @@
 //   gone         it and all behind it fail
 //   short        a write writes half of its bytes and says so, which is no failure
 //   interrupted  it is interrupted by a signal, which is no failure
+//   killed       a write has written half of its bytes, and the process is killed
 #define _GNU_SOURCE
 #include <errno.h>
 #include <fcntl.h>
+#include <signal.h>
 #include <stdio.h>
 #include <stdlib.h>
 #include <string.h>
@@ -65,7 +67,8 @@ static long made(const char *name, long number, long a, long b, long c, long d, 
     if (is("interrupted")) return answer(-EINTR);
     if (is("short") && !is_write) return answer(raw(number, a, b, c, d));
     if (is("short")) return answer(raw(number, a, b, c > 1 ? c / 2 : c, d));
-    if (is("half") && is_write) raw(number, a, b, c / 2, d);
+    if ((is("half") || is("killed")) && is_write) raw(number, a, b, c / 2, d);
+    if (is("killed")) kill(getpid(), SIGKILL);
     if (is("all") || (is("half") && !is_write)) raw(number, a, b, c, d);
     return answer(-EIO);
 }

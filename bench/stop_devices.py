@@ -40,8 +40,9 @@ def on_pages(stops, room, which, wanted, what):
     stops.need(fits or ended == wanted, what, "ended with", ended)
     left = (room / which).read_bytes() if which == "output" and (room / which).exists() else None
     stops.need(left in (None, stops.whole), what, "left a part of an output")
+    stops.need(not list(room.glob("*.debplan-*")), what, "left a file beside")
     subprocess.run(["mount", "-o", "remount,size=64m", str(room)], check=True)
-    again = stops.run_to_end(**place)
+    again = stops.run(**place)
     output = room / "output" if which == "output" else stops.output
     stops.need(again == stops.done and output.read_bytes() == stops.whole, what, "and with more room ended with", again)
     return fits
@@ -100,6 +101,34 @@ def by_nobody(which):
     return tried
 
 
+def in_blind_folder(which):
+    """A folder in which files can be made, and that can't be opened to be brought to the disk."""
+    def tried(stops, room, wanted, what):
+        folder = room / "blind"
+        folder.mkdir()
+        folder.chmod(0o333)
+        room.chmod(0o755)
+        stops.world.folder.chmod(0o777)
+        place = {which: folder / which}
+        stops.see_answer(stops.run(**place, user=65534), wanted, what)
+        stops.need(which == "journal" or not list(folder.iterdir()), what, "left a file")
+        folder.chmod(0o777)
+        stops.see_answer(stops.run(**place, user=65534), stops.done, f"{what} and open")
+    return tried
+
+
+def over_another_owner(stops, room, _, what):
+    """An output whose owner, group and permissions are others than a new file's."""
+    path = room / "output"
+    path.write_bytes(b"before")
+    os.chown(path, 1234, 5678)
+    path.chmod(0o640)
+    stops.see_answer(stops.run(output=path), stops.done, what)
+    found = path.stat()
+    stops.need((found.st_uid, found.st_gid, found.st_mode & 0o7777) == (1234, 5678, 0o640), what, "it is of", found)
+    stops.need(path.read_bytes() == stops.whole, what, "it isn't whole")
+
+
 def answer_on_full(stops, room, wanted, what):
     """The line `applied N` can't be written."""
     make_full_device(room / "full")
@@ -121,6 +150,9 @@ DEVICES = [
     ("a link to itself as output", "output", in_place_of("output", make_loop)),
     ("a journal that may not be opened", "journal", by_nobody("journal")),
     ("an output that may not be opened", "output", by_nobody("output")),
+    ("a journal in a folder of mode 0333", "journal", in_blind_folder("journal")),
+    ("an output in a folder of mode 0333", "output", in_blind_folder("output")),
+    ("an output of another owner", "output", over_another_owner),
     ("/dev/null as journal", "journal", in_place_of("journal", make_null_device)),
     ("/dev/full as output", "output", in_place_of("output", make_full_device)),
     ("a pipe as journal", "journal", in_place_of("journal", os.mkfifo)),

@@ -6,24 +6,26 @@ or whole, and a run that isn't stopped then ends with the output that a run with
   kills    a world of a thousand packages, and SIGKILL at a hundred moments by chance; strace sees which steps were acknowledged
   crashes  a small world: of each moment between the calls on the journal what a crash may leave by docs/FORMATS.md, and again of
            the runs that go on from there; each is put in the journal's place
-  calls    the same world, where one call on the journal or the output fails, the first, the second and so on
+  calls    the same world, where one call on the journal or the output fails, or the run is killed in it, the first, the second and so on
   devices  a journal and an output on devices that are full, read-only, missing, or no files
+  edges    two runs at once with one output, one file under two names, what standard output leads to, links, and inputs that can be read
+           only once
 
-  --packages N   of the world; 1000 for `kills`, 12 for `crashes`, 6 for `calls` and 60 for `devices` where it isn't given
+  --packages N   of the world; 1000 for `kills`, 12 for `crashes`, 6 for `calls` and 60 for the others where it isn't given
   --stops N      how often it is stopped, 100 where it isn't given
   --seed N       of what is drawn by chance, 1 where it isn't given
   --room DIR     where the files lie, /var/tmp where it isn't given
 
-`kills` and `crashes` need strace, `calls` a C compiler and a program that is linked dynamically, `devices` has to be run by root.
+`kills`, `crashes` and `edges` need strace, `calls` a C compiler and a program that is linked dynamically, `devices` has to be run by root.
 A row is printed for each kind of stop, and before it what doesn't hold. Exit status: 0, 1 where something doesn't hold, 2 for wrong
 words."""
 
 import argparse
-import collections
 import os
 import pathlib
 import random
 import re
+import signal
 import statistics
 import subprocess
 import sys
@@ -32,18 +34,15 @@ import time
 
 sys.dont_write_bytecode = True
 import stop_devices  # noqa: E402
+import stop_edges  # noqa: E402
 import traces  # noqa: E402
 from made_world import World  # noqa: E402
-from journal_bytes import Refused, journal_of  # noqa: E402
-
-Ended = collections.namedtuple("Ended", "status out err")
-DISK, WRITE = Ended(5, b"", b"debplan: journal: E20 Disk\n"), Ended(5, b"", b"debplan: output: E26 Write\n")
-OLD = b"the output of before\n"
-SECONDS = 600
+from journal_bytes import Refused, is_unmade, journal_of  # noqa: E402
+from stop_ends import DISK, OLD, SECONDS, WRITE, Ended  # noqa: E402
 
 
 def was_never_created(ended):
-    """Whether the journal is refused as one may be that was never acknowledged as created."""
+    """Whether the journal is refused as one may be in whose making the machine stopped."""
     return ended.status == 3 and re.fullmatch(rb"debplan: journal: E(21 NotAJournal|22 Damaged 16|29 OtherArchitecture)\n", ended.err)
 
 
@@ -113,8 +112,14 @@ class Stops:
     def see_answer(self, ended, wanted, what):
         self.need(ended == wanted, what, "ended with", ended)
 
+    def see_no_rest(self, what):
+        """No file is left beside the output."""
+        left = [path.name for path in self.world.folder.glob("output.debplan-*")]
+        self.need(not left, what, "left", *left)
+
     def see_end(self, what, is_created=True):
-        """A run that isn't stopped ends with the whole output."""
+        """A run that isn't stopped ends with the whole output. Only where the machine stopped before the journal was created may that
+        have to be removed."""
         ended = self.run_to_end(is_created)
         self.need(ended == self.done, what, "the next run ends with", ended)
         self.need(self.output.exists() and self.output.read_bytes() == self.whole, what, "and its output isn't whole")
@@ -139,7 +144,7 @@ class Stops:
                 stops += 1
                 stood, created = self.kill(f"stop {stops}:", self.moment(size), stood, created, old)
                 kept.append(stood)
-            self.see_end(f"after stop {stops}:", created)
+            self.see_end(f"after stop {stops}:")
         self.row(f"{stops} stops by SIGKILL", f"{self.world.size} packages, {len(self.payloads)} steps, a run takes {whole:.1f} s",
                  f"steps that stood after a stop: {min(kept)} to {max(kept)}, median {statistics.median(kept):.0f}")
 
@@ -175,8 +180,9 @@ class Stops:
         self.see_output(old, what)
         created = created or now_created
         data = self.journal.read_bytes() if self.journal.exists() else b""
-        if not created and (not data or self.is_refused(data)):
-            return 0, False
+        if is_unmade(data):
+            self.need(not created, what, "a journal was created, and the file is none")
+            return 0, created
         steps = self.steps_in(data, what)
         self.see_steps(steps, stood + gates, what)
         return steps, created
@@ -201,7 +207,7 @@ class Stops:
         for number, left in enumerate(again):
             self.begin(left)
             calls = self.watched()
-            if calls and not self.is_refused(left):
+            if calls and (is_unmade(left) or not self.is_refused(left)):
                 second += len(self.after_crashes(left, calls, f"a run from what crash {number} left,"))
         self.row(f"{len(first)} files that a crash in a run of {count} calls may leave",
                  f"{self.world.size} packages, {len(self.payloads)} steps",
@@ -209,12 +215,13 @@ class Stops:
 
     def after_crashes(self, file, calls, what):
         """Has a run go on from each file that a crash may leave, and answers these files."""
-        stood = len(journal_of(file).payloads) if file else 0
+        created = not is_unmade(file)
+        stood = len(journal_of(file).payloads) if created else 0
         found = {}
         for left, done in traces.crashes(file, calls, self.chance):
             found.setdefault(left, done)
         for left, done in found.items():
-            self.after_crash(left, done, bool(file), stood, f"{what} {len(done)} calls:")
+            self.after_crash(left, done, created, stood, f"{what} {len(done)} calls:")
         return list(found)
 
     def after_crash(self, left, done, created, stood, what):
@@ -235,7 +242,7 @@ class Stops:
         half = traces.put(b"", 0, self.half_of(self.journal.read_bytes()))
         begins = {"no journal": None, "half of the steps": half, "half, and bytes behind": half + b"\1\0\0\0\7rest"}
         shim = self.built()
-        for how in ("nothing", "all", "half", "gone", "short", "interrupted"):
+        for how in ("nothing", "all", "half", "gone", "short", "interrupted", "killed"):
             met = [self.fail_each(shim, how, journal, old, name) for name, journal in begins.items() for old in (None, OLD)]
             world = f"{self.world.size} packages, {len(self.payloads)} steps"
             self.row(f"{sum(met)} failing calls: {how}", world, f"{len(met)} beginnings")
@@ -264,7 +271,7 @@ class Stops:
                 self.need(ended == self.done, what, "no call failed, and it ended with", ended)
                 return number - 1
             self.see_failed(said, how, ended, old, what)
-            self.see_end(what, journal is not None)
+            self.see_end(what)
         return None
 
     def run_failing(self, shim, how, number):
@@ -279,11 +286,16 @@ class Stops:
         """A call that failed is told of, and what wasn't written isn't there."""
         is_journal = said[1] == str(self.journal)
         wanted = DISK if is_journal else WRITE
-        if how in ("short", "interrupted"):
+        if how == "killed":
+            self.need(ended.status == -signal.SIGKILL, what, *said, "ended with", ended)
+            for path in self.world.folder.glob("output.debplan-*"):
+                path.unlink()
+        elif how in ("short", "interrupted"):
             self.need(ended == self.done or how == "interrupted" and ended == wanted, what, *said, "ended with", ended)
         else:
             self.need(ended == wanted, what, *said, "ended with", ended)
         self.see_output(old, f"{what} {' '.join(said)}:")
+        self.see_no_rest(what)
 
     # Devices
 
@@ -296,6 +308,18 @@ class Stops:
                 tried(self, pathlib.Path(room), DISK if wanted == "journal" else WRITE, f"{name}:")
             self.row(name, "told, and the next run ends" if faults == self.faults else "see above", "")
 
+    # Edges
+
+    def edges(self):
+        """Has files meet that are one, runs that are at work at once, and paths that lead elsewhere."""
+        for name, tried in stop_edges.EDGES:
+            faults = self.faults
+            with tempfile.TemporaryDirectory(dir=self.world.folder) as room:
+                self.begin()
+                tried(self, pathlib.Path(room), f"{name}:")
+            self.see_no_rest(f"{name}:")
+            self.row(name, "as it has to be" if faults == self.faults else "see above", "")
+
 
 def main():
     parser = argparse.ArgumentParser(description=__doc__, formatter_class=argparse.RawDescriptionHelpFormatter)
@@ -306,7 +330,7 @@ def main():
     parser.add_argument("--room", default="/var/tmp")
     parser.add_argument("parts", nargs="*", metavar="PART")
     options = parser.parse_intermixed_args()
-    parts = {"kills": 1000, "crashes": 12, "calls": 6, "devices": 60}
+    parts = {"kills": 1000, "crashes": 12, "calls": 6, "devices": 60, "edges": 60}
     if not set(options.parts) <= set(parts):
         parser.error(f"the parts are {', '.join(parts)}")
     faults = 0

@@ -2,11 +2,16 @@
 ("What is assumed of the disk")."""
 
 import collections
+import pathlib
 import re
 import shutil
 import subprocess
 import sys
 import time
+
+sys.dont_write_bytecode = True
+sys.path.insert(0, str(pathlib.Path(__file__).resolve().parent.parent / "tools"))
+from journal_bytes import is_unmade  # noqa: E402
 
 # A write has its bytes, a cut the new length as its place.
 Call = collections.namedtuple("Call", "kind at bytes", defaults=(0, b""))
@@ -76,8 +81,15 @@ def acknowledged(calls):
             created, gates = created + waiting.count("head"), gates + waiting.count("gate")
             waiting = []
         elif call.kind == "write":
-            waiting.append("head" if call.at == 0 else "gate" if call.bytes == b"\1" else "record")
+            waiting.append(kind_of(call))
     return created > 0, gates
+
+
+def kind_of(call):
+    """What a write on a journal writes. The first bytes are written last, and before that others in their place."""
+    if call.at == 0:
+        return "begun" if is_unmade(call.bytes) else "head"
+    return "gate" if call.bytes == b"\1" else "record"
 
 
 # Crashes

@@ -2,8 +2,8 @@
 import re
 
 import mutations
-from journal_bytes import (CLOSED, OPEN, Refused, gates_in, head_of, journal_bytes, journal_of, payloads_of, record_at, stanzas_in,
-                           text_of_status, value_in)
+from journal_bytes import (CLOSED, OPEN, Refused, gates_in, head_of, is_unmade, journal_bytes, journal_of, payloads_of, record_at,
+                           stanzas_in, text_of_status, value_in)
 
 LENGTHS = (0, 1, 16, 255, 65_535, 65_536, *((1 << power) + more for power in (28, 31, 32, 63, 64) for more in (-1, 0, 1)))
 SAID = re.compile(rb"debplan: journal: (E[0-9]+ [A-Za-z]+( [0-9]+)?)\n")
@@ -135,7 +135,7 @@ def records_before(data, gate):
 def refusals_of(data, arch, start, payloads):
     """What may be said of a journal where the plan has this start and these payloads: refusals by their codes, or nothing where
     the plan goes on. `E` alone stands for any refusal."""
-    if not data:
+    if is_unmade(data):
         return []
     try:
         version, named, begun, gate = head_of(data)

@@ -2,6 +2,8 @@
 import collections
 
 FIRST, SECOND = b"DPJRNL01", b"DPJRNL02"
+# How a file begins that is being made a journal.
+UNMADE = b"DPJRNL00"
 CLOSED, OPEN = b"\0", b"\1"
 # A journal's version, the architecture that it names, its start, the payloads behind its open gates, and the offset of the
 # closed gate behind them.
@@ -10,6 +12,11 @@ Journal = collections.namedtuple("Journal", "version arch start payloads gate")
 
 class Refused(Exception):
     """What an opening says of such bytes, as `E21 NotAJournal`."""
+
+
+def is_unmade(data):
+    """Whether no journal was ever made of a file with these bytes: it is empty, or its making was stopped."""
+    return data[:8] == UNMADE[:len(data)]
 
 
 def is_whole(data, end):

@@ -1,2 +1,4 @@
+pub mod FaultLemmas
+pub mod LeftLemmas
 pub mod PlanLemmas
 pub mod ProgressLemmas

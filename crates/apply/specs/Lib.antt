@@ -1,4 +1,6 @@
+pub mod Begun
 pub mod Fault
-pub mod Opening
 pub mod Planned
 pub mod Progress
+pub mod Run
+pub mod RunFault

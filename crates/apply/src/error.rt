@@ -29,10 +29,24 @@ pub enum CatchUpError<'s> {
 /// Why there is no journal for a plan.
 #[derive(Clone, Copy, Debug, PartialEq, Eq, Error)]
 pub enum BeginError {
-    /// The file is empty and wasn't made a journal.
+    /// The file wasn't read.
+    #[error("{0}")]
+    NotRead(OpenError),
+    /// No journal was made of the file before, and none is made of it now.
     #[error("{0}")]
     NotCreated(CreateError),
-    /// The file wasn't opened as a journal.
+}
+
+/// Why a plan wasn't carried out on the file of a journal.
+#[derive(Debug, Drop, Error)]
+pub enum RunError<'s> {
+    /// The file wasn't read or wasn't opened as a journal.
     #[error("{0}")]
     NotOpened(OpenError),
+    /// The journal wasn't brought to the end of the plan. It has so many steps, all of them acknowledged.
+    #[error("{cause}")]
+    NotFinished {
+        taken: usize,
+        cause: CatchUpError<'s>,
+    },
 }

@@ -1,13 +1,17 @@
-//! A plan that is taken by a journal: the journal is compared with the plan, and the steps that are missing are added. It stands
-//! on `journal`, which says what a crash leaves of one step that is added; here the same is said of the whole run. The main call
-//! is `catch_up`; `begin_or_open` has the journal of a file. Begin with `specs/Progress.antt`.
+//! A plan that is taken by a journal: where there is none it is made; it is compared with the plan, and the steps that are missing
+//! are added. It stands on `journal`, which says what a crash leaves of one step that is added; here the same is said of the whole
+//! run. The calls are `begin` and `go_on`, which are over a disk; `catch_up` is over a journal in memory beside it. Begin with
+//! `specs/Run.antt`.
 #![tactic(auto)]
 
+mod beginning;
 mod catching;
 mod comparing;
 mod error;
-mod opening;
+mod finishing;
+mod running;
 
+pub use beginning::begin;
 pub use catching::catch_up;
-pub use error::{BeginError, CatchUpError};
-pub use opening::begin_or_open;
+pub use error::{BeginError, CatchUpError, RunError};
+pub use running::go_on;

@@ -1,2 +1,1 @@
-pub mod CarryLemmas
-pub mod SaidLemmas
+mod ReadyLemmas

@@ -1,5 +1,3 @@
-pub mod Applied
-pub mod Counting
-pub mod Journal
-pub mod Left
+pub mod GoodPlan
 pub mod Planned
+pub mod Prepared

@@ -14,7 +14,7 @@ use Rattle.inputs.specs.ReadAs.{AreNamed}
 use Rattle.inputs.specs.Texts.{Found, Texts, status_file_of}
 use Rattle.inputs.specs.declared.refusal.Refusal.{Refusal}
 use Rattle.unpack_texts.specs.Texts.{AreTexts, IsTextsRefusal}
-use Rattle.cli_engine.specs.Answer.{IsAnswer, IsFirstRefusal}
+use Rattle.cli_engine.specs.Answer.{IsFirstRefusal}
 use Rattle.cli_engine.specs.Meaning.{IsReadAs}
 
 -- the texts denote this universe, the plan is read as these steps, and the verdict is true of them
@@ -37,20 +37,6 @@ pub record IsPlanned (texts : Texts) (plan : Found) (start : List ℕ) (records 
   pub start_is : start ≡ slots_text slots
   pub fetched : AreTexts texts.arch texts.index files universe steps stanzas
   pub records_are : records ≡ planned steps stanzas
-
--- the plan is good by the texts, and this is so of what a journal records of it
-pub record OfGoodPlan (texts : Texts) (plan : Found) (Is : List ℕ → List ℕ → List Recorded → Type 0) : Type 0 where
-  pub answer : IsAnswer texts plan Yes
-  pub start : List ℕ
-  pub records : List Recorded
-  pub planned : IsPlanned texts plan start records
-  pub is : Is texts.arch start records
-
--- this is so of what a journal records of some plan, for this architecture
-pub record OfSomePlan (arch : List ℕ) (Is : List ℕ → List ℕ → List Recorded → Type 0) : Type 0 where
-  pub start : List ℕ
-  pub records : List Recorded
-  pub is : Is arch start records
 
 -- the plan is good, and the text of a stanza that it unpacks is refused so
 pub record IsStanzaRefused (texts : Texts) (plan : Found) (refused : Refusal) : Type 0 where

@@ -1,15 +1,12 @@
-//! A plan carried out by texts: the plan is judged by the texts of a shelf, as `cli_engine` judges it, and where it is good its
-//! steps are taken by a journal on a disk, each unpacking with the text of its stanza. The question is `Apply`; begin with
-//! `specs/Applied.antt`.
+//! A plan made ready by texts to be carried out: it is judged by the texts of a shelf, as `cli_engine` judges it, and where it is good
+//! the texts of the stanzas that it unpacks are fetched. Then a journal takes it on a disk. The question is `Prepare`; a `GoodPlan`
+//! has the calls over a disk, `begin` and `go_on`. Begin with `specs/Prepared.antt`.
 #![tactic(auto)]
 
-mod applied;
-mod carrying;
-mod fault;
+mod good_plan;
 mod judging;
 mod question;
-mod taking;
+mod readying;
 
-pub use applied::{Applied, CarriedOut};
-pub use fault::JournalFault;
-pub use question::Apply;
+pub use good_plan::{CarriedOut, GoodPlan};
+pub use question::{Prepare, Prepared};

@@ -1,4 +1,4 @@
-mod AppliedLemmas
+mod LeftLemmas
 mod CallLemmas
 mod LineLemmas
 mod ResultLemmas

@@ -1,43 +1,110 @@
--- What is said of a plan that is to be carried out, and what is printed and written of that.
-use Rattle.std.specs.Prelude.{◌≡◌, ◌≢◌, ◌⊎◌, List, ℕ, Option, Some, Result, Ok, Err}
-use Rattle.apply_engine.specs.Left.{IsCarriedOut}
-use Rattle.apply_engine.specs.Planned.{IsApplyRefusal, OfGoodPlan}
-use Rattle.apply_engine.specs.declared.applied.Applied.{Applied}
-use Rattle.apply_engine.specs.declared.applied.Applied.TheVariants.{Judged, Done, Stopped}
+-- What is printed and written of a plan that is to be carried out.
+use Rattle.std.specs.Prelude.{◌≡◌, ◌≢◌, ◌⊎◌, ◌∷◌, ◌++◌, [], List, ℕ, IfOk, Option, Some, Result, Ok, Err, ⊤}
+use Rattle.apply.specs.Begun.{IsBeginFault, IsBegunOn}
+use Rattle.apply.specs.Run.{IsRunOn}
+use Rattle.apply_engine.specs.GoodPlan.{IsCarriedOut, ReadyPlan}
+use Rattle.apply_engine.specs.Prepared.{IsSaidOfPrepared}
+use Rattle.apply_engine.specs.declared.good_plan.CarriedOut.{CarriedOut}
+use Rattle.apply_engine.specs.declared.question.Prepared.{Prepared}
+use Rattle.apply_engine.specs.declared.question.Prepared.TheVariants.{Judged, Ready}
 use Rattle.cli.specs.Files.{Files, HasPut}
-use Rattle.cli_engine.specs.Answer.{IsAnswer}
+use Rattle.cli.specs.Kept.{Kept, Put, SameElsewhere, Untouched}
+use Rattle.cli.specs.declared.applied.Stop.{Stop}
+use Rattle.cli.specs.declared.applied.Stop.TheVariants.{NotBegun, Stopped}
+use Rattle.disk.specs.Facts.{DiskFacts}
 use Rattle.inputs.specs.Texts.{Found, Texts}
 use Rattle.inputs.specs.declared.refusal.Refusal.{Refusal}
 use Rattle.outcomes.specs.Answer.{applied_line, verdict_line}
 use Rattle.outcomes.specs.Exit.{exit_of_verdict}
-use Rattle.outcomes.specs.Outcome.{IsOutcomeOfRefusal, IsOutcomeOfStopped, IsUnwritten}
+use Rattle.outcomes.specs.Outcome.{IsOutcomeOfOneFile, IsOutcomeOfRefusal, IsOutcomeOfStopped, IsOutcomeOfUnbegun, IsUnwritten}
 use Rattle.outcomes.specs.declared.exit.Exit.TheVariants as exit
 use Rattle.outcomes.specs.declared.outcome.Outcome.{Outcome}
 use Rattle.outcomes.specs.declared.outcome.Outcome.TheVariants as outcome
-use Rattle.rules.specs.declared.step.Verdict.TheVariants as verdict
 
--- what is said of the plan: its verdict, where that isn't yes; where it is good that its steps were carried out, or that the journal
--- didn't; or the first refusal
-abbrev pub IsSaidOfApplied : Texts → Found → Result Applied Refusal → Type 0
-IsSaidOfApplied texts plan (Ok (Judged found)) = IsAnswer texts plan found × (found ≢ verdict.Yes)
-IsSaidOfApplied texts plan (Ok (Done done)) = OfGoodPlan texts plan (IsCarriedOut done)
-IsSaidOfApplied texts plan (Ok (Stopped fault)) = IsAnswer texts plan verdict.Yes
-IsSaidOfApplied texts plan (Err refused) = IsApplyRefusal texts plan refused
+-- none of these paths is this one
+abbrev pub AreOthers : List ℕ → List (List ℕ) → Type 0
+AreOthers path [] = ⊤
+AreOthers path (other ∷ others) = (path ≢ other) × AreOthers path others
 
--- a plan was carried out, and the number of its steps is printed where the status text stands at the path of the output
-abbrev pub IsOutcomeOfDone : ℕ → List ℕ → List ℕ → Files → Option Files → Outcome → Type 0
-IsOutcomeOfDone steps status output old new found =
-    ((found ≡ outcome.Answer (applied_line steps) exit.Success)
-    × ((after : Files) × (new ≡ Some after) × HasPut output status old after))
-    ⊎ (IsUnwritten found × (new ≡ Some old))
+-- the journal, the output and these files are different ones, but that these may be the same among themselves
+pub record AreApart (journal output : List ℕ) (others : List (List ℕ)) : Type 0 where
+  pub written : journal ≢ output
+  pub journal_not_read : AreOthers journal others
+  pub output_not_read : AreOthers output others
 
--- a plan was carried out, and the number of its steps is printed, or that the output couldn't be written
-abbrev pub IsOutcomeOfSteps : ℕ → Outcome → Type 0
-IsOutcomeOfSteps steps found = (found ≡ outcome.Answer (applied_line steps) exit.Success) ⊎ IsUnwritten found
+-- The run on a journal
+
+-- a good plan was begun on the file of a journal and gone on with: with this answer, or until this stood against it
+abbrev pub IsRunThrough : {J : Type 0} → (J → Type 0) → (J → DiskFacts) → ReadyPlan → J → Result CarriedOut Stop → J → Type 0
+IsRunThrough honest facts plan old (Err (NotBegun e)) new = honest old → IsBeginFault plan.arch plan.start (facts old).seen e
+IsRunThrough {J} honest facts plan old (Err (Stopped e)) new = (begun : J) × (honest old
+    → IsBegunOn plan.arch plan.start (facts old) (facts begun)
+    × IsRunOn {T = CarriedOut} plan.arch plan.start plan.records (facts begun) (Err e) (facts new))
+IsRunThrough {J} honest facts plan old (Ok done) new = IsCarriedOut plan done × ((begun : J) × (honest old
+    → IsBegunOn plan.arch plan.start (facts old) (facts begun)
+    × IsRunOn plan.arch plan.start plan.records (facts begun) (Ok done) (facts new)))
+
+-- the outcome is that of a plan against which this stood
+abbrev pub IsOutcomeOfStop : Stop → Outcome → Type 0
+IsOutcomeOfStop (NotBegun e) found = IsOutcomeOfUnbegun e found
+IsOutcomeOfStop (Stopped e) found = IsOutcomeOfStopped e found
+
+-- What is printed
+
+-- the outcome is that of a plan of so many steps that was carried out: their number where its status text was put, or that it couldn't
+-- be written
+abbrev pub IsOutcomeOfPut : {A E : Type 0} → ℕ → Result A E → Outcome → Type 0
+IsOutcomeOfPut steps (Ok done) found = found ≡ outcome.Answer (applied_line steps) exit.Success
+IsOutcomeOfPut steps (Err e) found = IsUnwritten found
+
+-- the outcome is that of the run: the number of the steps of a plan that was carried out, or that the output couldn't be written; or
+-- what stood against it
+abbrev pub IsOutcomeOfRun : Result CarriedOut Stop → Outcome → Type 0
+IsOutcomeOfRun (Ok done) found = (found ≡ outcome.Answer (applied_line done.steps) exit.Success) ⊎ IsUnwritten found
+IsOutcomeOfRun (Err stop) found = IsOutcomeOfStop stop found
+
+-- the outcome is that of a good plan that is run
+abbrev pub IsOutcomeOfReady : ReadyPlan → Outcome → Type 0
+IsOutcomeOfReady plan found = (run : Result CarriedOut Stop) × IfOk run (IsCarriedOut plan) × IsOutcomeOfRun run found
+
+-- the outcome is that of a good plan: of its run, or of words that name an index as another file too
+abbrev pub IsOutcomeOfGood : ReadyPlan → Outcome → Type 0
+IsOutcomeOfGood plan found = IsOutcomeOfOneFile found ⊎ IsOutcomeOfReady plan found
 
 -- the outcome is that of what is said of the plan
-abbrev pub IsOutcomeOfApplied : Result Applied Refusal → Outcome → Type 0
-IsOutcomeOfApplied (Ok (Judged verdict)) found = found ≡ outcome.Answer (verdict_line verdict) (exit_of_verdict verdict)
-IsOutcomeOfApplied (Ok (Done done)) found = IsOutcomeOfSteps done.steps found
-IsOutcomeOfApplied (Ok (Stopped fault)) found = IsOutcomeOfStopped fault found
-IsOutcomeOfApplied (Err refused) found = IsOutcomeOfRefusal refused found
+abbrev pub IsOutcomeOfPrepared : Result Prepared Refusal → Outcome → Type 0
+IsOutcomeOfPrepared (Ok (Judged verdict)) found = found ≡ outcome.Answer (verdict_line verdict) (exit_of_verdict verdict)
+IsOutcomeOfPrepared (Ok (Ready plan)) found = IsOutcomeOfGood plan found
+IsOutcomeOfPrepared (Err refused) found = IsOutcomeOfRefusal refused found
+
+-- the outcome is that of what is said of the plan by the texts, or of words that name one file in two places
+abbrev pub IsOutcomeOfPlanTaken : Texts → Found → Outcome → Type 0
+IsOutcomeOfPlanTaken texts plan found = IsOutcomeOfOneFile found
+    ⊎ ((said : Result Prepared Refusal) × IsSaidOfPrepared texts plan said × IsOutcomeOfPrepared said found)
+
+-- What is left of the files and the journals
+
+-- behind the run: the number of steps is printed where the status text was put at the output while the journal was held; and else no
+-- text was put
+abbrev pub IsLeftOfRun : Result CarriedOut Stop → List ℕ → List ℕ → Files → List Put → Outcome → Option Files → List Put → Type 0
+IsLeftOfRun (Err stop) journal output at puts found files now = IsOutcomeOfStop stop found × (files ≡ Some at) × (now ≡ puts)
+IsLeftOfRun (Ok done) journal output at puts found files now =
+    ((found ≡ outcome.Answer (applied_line done.steps) exit.Success)
+    × ((after : Files) × (files ≡ Some after) × HasPut output done.status.items at after)
+    × (now ≡ puts ++ record { path = output; text = done.status.items; held = Some journal } ∷ []))
+    ⊎ (IsUnwritten found × (files ≡ Some at) × (now ≡ puts))
+
+-- a good plan is run on the journal at its path, and no other is touched
+pub record IsLeftOfReady {J : Type 0} (honest : J → Type 0) (facts : J → DiskFacts) (plan : ReadyPlan) (journal output : List ℕ)
+    (at : Files) (was : Kept J) (found : Outcome) (files : Option Files) (kept : Option (Kept J)) : Type 0 where
+  pub run : Result CarriedOut Stop
+  pub left : Kept J
+  pub kept_is : kept ≡ Some left
+  pub elsewhere : SameElsewhere journal was left
+  pub through : IsRunThrough honest facts plan (was.journals journal) run (left.journals journal)
+  pub outcome : IsLeftOfRun run journal output at was.puts found files left.puts
+
+-- words that name one file in two places are refused, and nothing is changed; and else this is so
+abbrev pub WhereApart : {J : Type 0} → List ℕ → List ℕ → List (List ℕ) → Files → Kept J → Outcome → Option Files → Option (Kept J) → Type 0 → Type 0
+WhereApart journal output others at was found files kept So =
+    ((¬ AreApart journal output others) × IsOutcomeOfOneFile found × Untouched at was files kept) ⊎ (AreApart journal output others × So)

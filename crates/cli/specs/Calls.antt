@@ -1,8 +1,7 @@
 -- What the program answers to a call over known files.
 use Rattle.std.specs.Prelude.{◌≡◌, ℕ, Bool, List, [], Option, Result, Ok, Err, None, Some}
 use Rattle.candidates.specs.Offer.{Offer}
-use Rattle.apply_engine.specs.declared.applied.Applied.{Applied}
-use Rattle.cli.specs.Applied.{IsOutcomeOfApplied, IsSaidOfApplied}
+use Rattle.cli.specs.Applied.{IsOutcomeOfPlanTaken}
 use Rattle.cli.specs.Files.{Files, shelved_at}
 use Rattle.cli.specs.Places.{comparison_of, texts_for}
 use Rattle.cli.specs.Possible.{IsOutcomeOfPossible}
@@ -63,10 +62,6 @@ IsOutcomeOfLines texts lines = IsPrintedOf {A = JudgedRefutation} (IsSaidOf text
 abbrev pub IsOutcomeOfVersions : Text → Comparison → Text → Outcome → Type 0
 IsOutcomeOfVersions version relation other found =
     (said : Result Bool Refusal) × IsSaidOfVersions version relation other said × IsOutcomeOfComparison said found
-
--- the outcome is that of what is said of the plan that is to be carried out, by the texts
-abbrev pub IsOutcomeOfPlanTaken : Texts → Found → Outcome → Type 0
-IsOutcomeOfPlanTaken texts plan found = (said : Result Applied Refusal) × IsSaidOfApplied texts plan said × IsOutcomeOfApplied said found
 
 -- the outcome is that of what is said of all of the request, or of as much of it as can be
 abbrev pub IsOutcomeOfExtent : Texts → ℕ → Extent → Format → Outcome → Type 0

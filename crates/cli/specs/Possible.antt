@@ -1,6 +1,7 @@
 -- What is printed and written of as much of a request as can be.
 use Rattle.std.specs.Prelude.{◌≡◌, ◌⊎◌, ℕ, List, Option, None, Some, Result, Ok, Err}
 use Rattle.cli.specs.Files.{Files, HasPut}
+use Rattle.cli.specs.Kept.{IsNoted, Kept, Untouched}
 use Rattle.cli.specs.declared.possible.Left.{Left}
 use Rattle.command_line.specs.declared.call.Format.{Format}
 use Rattle.inputs.specs.Texts.{Texts}
@@ -15,11 +16,10 @@ abbrev pub IsPrintedWhere : Option (List ℕ) → Outcome → Outcome → Type 0
 IsPrintedWhere None printed found = found ≡ printed
 IsPrintedWhere (Some path) printed found = (found ≡ printed) ⊎ IsRequestUnwritten found
 
--- this is printed where the request that is left stands at this path, and else the files are as they were
-abbrev pub IsPutWhere : List ℕ → List ℕ → Outcome → Files → Option Files → Outcome → Type 0
-IsPutWhere path request printed old new found =
-    ((found ≡ printed) × ((after : Files) × (new ≡ Some after) × HasPut path request old after))
-    ⊎ (IsRequestUnwritten found × (new ≡ Some old))
+-- this is printed where the request that is left was put, and else that it couldn't be written
+abbrev pub IsPrintedOfPut : {A E : Type 0} → Result A E → Outcome → Outcome → Type 0
+IsPrintedOfPut (Ok done) printed found = found ≡ printed
+IsPrintedOfPut (Err e) printed found = IsRequestUnwritten found
 
 -- it is printed of the answer to what is left, in this format
 abbrev pub IsPrintedOfKept : Format → KeptBack → Outcome → Type 0
@@ -40,3 +40,17 @@ IsOutcomeOfSaid written (Err refusal) output found = IsOutcomeOfRefusal refusal 
 abbrev pub IsOutcomeOfPossible : Texts → ℕ → Option (List ℕ) → Format → Outcome → Type 0
 IsOutcomeOfPossible texts limit output written found =
     (said : Result KeptBack Refusal) × IsSaidOfKept texts limit said × IsOutcomeOfSaid written said output found
+
+-- What is left of the files and the journals
+
+-- the text stands at this path and nothing else is changed: it was put there, and no journal was held for it
+abbrev pub IsPut : {J : Type 0} → List ℕ → List ℕ → Files → Kept J → Option Files → Option (Kept J) → Type 0
+IsPut {J} path text at was files kept = ((after : Files) × (files ≡ Some after) × HasPut path text at after)
+    × ((left : Kept J) × (kept ≡ Some left) × IsNoted path text was left)
+
+-- the answer to what is left is printed where its request stands at the path of the output; where it couldn't be written there, or
+-- where there is no output, nothing is changed
+abbrev pub IsLeftOfKept : {J : Type 0} → Option (List ℕ) → List ℕ → Outcome → Files → Kept J → Outcome → Option Files → Option (Kept J) → Type 0
+IsLeftOfKept None request printed at was found files kept = (found ≡ printed) × Untouched at was files kept
+IsLeftOfKept (Some path) request printed at was found files kept =
+    ((found ≡ printed) × IsPut path request at was files kept) ⊎ (IsRequestUnwritten found × Untouched at was files kept)

@@ -2,12 +2,12 @@
 ghost use Rattle.std.specs.Prelude.{◌≡◌, IfOk, option_map};
 ghost use Rattle.cli.specs.Calls.{texts_at};
 ghost use Rattle.cli.specs.Files.{Files, text_at};
-ghost use Rattle.cli.specs.Places.{comparison_of, file_path, goal_lines, lines_of, request_at, texts_for};
-ghost use Rattle.command_line.specs.Asked.{Request as RequestOf, given_by, request_by, texts_by};
+ghost use Rattle.cli.specs.Places.{comparison_of, file_path, goal_lines, goals_by, lines_of, paths_for, paths_read, place_path, request_at, request_path, texts_for};
+ghost use Rattle.command_line.specs.Asked.{Request as RequestOf, asked_by, given_by, request_by, texts_by};
 
 use crate::files::{Paths, TextAt};
 use cli_engine::Comparison;
-use command_line::{Format, Options, Relation, Request};
+use command_line::{Call, Format, Options, Relation, Request};
 use inputs::Settings;
 use std::alloc::{AllocError, Global};
 
@@ -28,7 +28,8 @@ pub(crate) struct Arguments<'a> {
 /// Where the request is, of which this is the text of its goals.
 pub(crate) fn place_of<'a>(request: &'a Request<'a>, goals: &'a [u8]) -> TextAt<'a>
     requires { goals.now ≡ goal_lines (request_by request.now) }
-    ensures { (at : Files) → text_at at result ≡ request_at at (request_by request.entry.now) }
+    ensures text { (at : Files) → text_at at result ≡ request_at at (request_by request.entry.now) }
+    ensures path { place_path result ≡ request_path (request_by request.entry.now) }
 {
     match request {
         Request::File(path) => TextAt::File(*path),
@@ -36,8 +37,22 @@ pub(crate) fn place_of<'a>(request: &'a Request<'a>, goals: &'a [u8]) -> TextAt<
     }
 }
 
-/// The text of the goals of the request, each a line, which is empty where it is a file. Memory alone can fail.
-pub(crate) fn goals_in(alloc: Global, request: &Request<'_>) -> Result<Vec<u8>, AllocError>
+/// The text of the goals of the call's request, each a line, which is empty where it is a file or where there is none. Memory alone can
+/// fail.
+pub(crate) fn goals_of(alloc: Global, call: &Call<'_>) -> Result<Vec<u8>, AllocError>
+    ensures { IfOk result (λ text. text.items ≡ goals_by (asked_by call.now)) }
+{
+    match call {
+        Call::Compare { .. } | Call::Candidate { .. } => Ok(Vec::new(alloc)),
+        Call::Solve { request, .. }
+        | Call::CheckPlan { request, .. }
+        | Call::CheckRefutation { request, .. }
+        | Call::Apply { request, .. } => goals_in(alloc, request),
+    }
+}
+
+// The text of the goals of the request.
+fn goals_in(alloc: Global, request: &Request<'_>) -> Result<Vec<u8>, AllocError>
     ensures { IfOk result (λ text. text.items ≡ goal_lines (request_by request.now)) }
 {
     match request {
@@ -82,6 +97,8 @@ pub(crate) fn arguments_by<'a>(
 ) -> Arguments<'a>
     ensures texts { (at : Files) (asked : RequestOf) → text_at at request.entry ≡ request_at at asked
         → texts_at at result ≡ texts_for at (given_by options.entry.now) asked }
+    ensures read { (asked : RequestOf) → place_path request.entry ≡ request_path asked
+        → paths_read result.paths ≡ paths_for (given_by options.entry.now) asked judged.entry.now }
     ensures judged { result.paths.judged.now ≡ judged.entry.now }
     ensures format { result.format ≡ format }
 {

@@ -7,7 +7,7 @@ ghost use Rattle.inputs.specs.Counting.{Counts, CountsRead};
 ghost use Rattle.inputs.specs.Texts.{part_of, texts_of};
 ghost use Rattle.inputs.specs.declared.shelf.ReadError.TheVariants as ReadError;
 
-use crate::host::Host;
+use crate::host::{Host, Turn};
 use inputs::{Part, Question, ReadError, Refusal, Settings, Shelf, ask};
 use std::alloc::{AllocError, Global};
 
@@ -105,17 +105,63 @@ fn note_index(alloc: Global, seen: &mut Option<Seen>, file: &[u8]) -> Result<(),
 }
 
 // The text that is there.
-fn read_at<H: Host>(alloc: Global, host: &mut H, place: TextAt<'_>) -> Result<Vec<u8>, ReadError>
+fn read_at<H: Host>(
+    alloc: Global,
+    host: &mut H,
+    place: TextAt<'_>,
+    turn: Turn,
+) -> Result<Vec<u8>, ReadError>
     ensures found { (at : Files) → H.files host.old ≡ Some at → IfOk result (λ text. text_at at place.entry ≡ Some text.items) }
     ensures missing { (at : Files) → H.files host.old ≡ Some at
         → IfErr result (λ e. e ≡ ReadError.Unreadable → text_at at place.entry ≡ None) }
     ensures same { H.files host.new ≡ H.files host.old }
+    ensures keeps { H.kept host.new ≡ H.kept host.old }
     ensures count { Counts result (H.faults host.old) (H.faults host.new) }
 {
     match place {
-        TextAt::File(path) => host.read(alloc, path.as_bytes()),
+        TextAt::File(path) => host.read(alloc, path.as_bytes(), turn),
         TextAt::Given(text) => copied(alloc, text),
     }
+}
+
+/// Which texts that can be read twice were read: the sources, and the indices up to the one of a number.
+#[derive(Clone, Copy)]
+pub struct Openings {
+    sources: bool,
+    index: usize,
+}
+
+impl Openings {
+    /// None.
+    pub fn none() -> Openings {
+        Openings {
+            sources: false,
+            index: 0,
+        }
+    }
+
+    // Whether the text of this part is read for the first time. It is noted.
+    fn of_part(&mut self, part: Part) -> Turn {
+        match part {
+            Part::Sources => {
+                let turn = turn_of(self.sources);
+                self.sources = true;
+                turn
+            }
+            _ => Turn::First,
+        }
+    }
+
+    // Whether the index of this number is opened for the first time. It is noted.
+    fn of_index(&mut self, number: usize) -> Turn {
+        let turn = turn_of(number <= self.index);
+        self.index = self.index.max(number);
+        turn
+    }
+}
+
+fn turn_of(was_read: bool) -> Turn {
+    if was_read { Turn::Again } else { Turn::First }
 }
 
 /// The files of a host at these paths. The index of a source is the file that it names.
@@ -127,6 +173,8 @@ pub struct HostShelf<'h, 'a, H> {
     pub paths: Paths<'a>,
     /// What is remembered of the texts, where sentences are wanted.
     pub seen: Option<Seen>,
+    /// What was read of them.
+    pub openings: Openings,
 }
 
 impl<'h, 'a, H: Host> Shelf for HostShelf<'h, 'a, H> {
@@ -136,14 +184,15 @@ impl<'h, 'a, H: Host> Shelf for HostShelf<'h, 'a, H> {
 
     ghost faults = { λ shelf. H.faults shelf.host.now };
 
-    ghost holds = { λ old new. new.host.ghost_name ≡ old.host.ghost_name };
+    ghost holds = { λ old new. (new.host.ghost_name ≡ old.host.ghost_name) × (H.kept new.host.now ≡ H.kept old.host.now) };
 
     fn failures(&self) -> u64 {
         self.host.failures()
     }
 
     fn read(&mut self, alloc: Global, part: Part) -> Result<Vec<u8>, ReadError> {
-        let text = read_at(alloc, &mut *self.host, self.paths.of(part))?;
+        let turn = self.openings.of_part(part);
+        let text = read_at(alloc, &mut *self.host, self.paths.of(part), turn)?;
         note_text(alloc, &mut self.seen, part, text.as_slice())?;
         Ok(text)
     }
@@ -151,22 +200,26 @@ impl<'h, 'a, H: Host> Shelf for HostShelf<'h, 'a, H> {
     fn read_preferences(&mut self, alloc: Global) -> Result<Option<Vec<u8>>, ReadError> {
         match self.paths.preferences {
             None => Ok(None),
-            Some(path) => Ok(Some(self.host.read(alloc, path.as_bytes())?)),
+            Some(path) => {
+                let text = self.host.read(alloc, path.as_bytes(), Turn::First)?;
+                Ok(Some(text))
+            }
         }
     }
 
-    fn open(&mut self, alloc: Global, _number: usize, file: &[u8]) -> Result<H::Text, ReadError> {
+    fn open(&mut self, alloc: Global, number: usize, file: &[u8]) -> Result<H::Text, ReadError> {
         note_index(alloc, &mut self.seen, file)?;
-        self.host.open(alloc, file)
+        let turn = self.openings.of_index(number);
+        self.host.open(alloc, file, turn)
     }
 
     fn close(&mut self, text: H::Text) {
         self.host.close(text)
     }
 
-    ghost holds_still = { λ _. refl };
+    ghost holds_still = { λ _. (refl, refl) };
 
-    ghost holds_on = { λ _ _ _ first later. later ∙ first };
+    ghost holds_on = { λ _ _ _ first later. (later.0 ∙ first.0, later.1 ∙ first.1) };
 }
 
 /// Asks the question of the files of a host, which are opened in the order status, sources, indices, preferences, and then as the
@@ -184,6 +237,7 @@ pub fn ask_files<H: Host, Q: Question>(
         beside.old result beside.new }
     ensures kept { Q.keeps question.now settings.now beside.old result beside.new }
     ensures same { H.files shelf.new.host.now ≡ H.files shelf.old.host.now }
+    ensures keeps { H.kept shelf.new.host.now ≡ H.kept shelf.old.host.now }
     ensures count { CountsRead result (H.faults shelf.old.host.now) (H.faults shelf.new.host.now) }
     ensures held { shelf.new.host.ghost_name ≡ shelf.old.host.ghost_name }
 {

@@ -10,6 +10,7 @@ mod files;
 mod host;
 mod members;
 mod names;
+mod one_file;
 mod plan;
 mod possible;
 mod program;
@@ -18,8 +19,8 @@ mod request;
 mod told;
 mod versions;
 
-pub use files::{HostShelf, Paths, Seen, TextAt, ask_files};
-pub use host::{Host, PutError};
+pub use files::{HostShelf, Openings, Paths, Seen, TextAt, ask_files};
+pub use host::{Host, PutError, Turn};
 pub use inputs::{ReadError, ReadFailed, Settings, Source};
 pub use outcomes::refuse_for_memory;
 pub use program::run;

@@ -1,7 +1,5 @@
 //! What a document has of an answer beside its text, where one is asked for. Its words aren't promised.
 
-use crate::files::HostShelf;
-use crate::host::Host;
 use cli_engine::{
     Answered, Candidate, JudgedPlan, JudgedRefutation, Refusal, RefutationVerdict, Settings,
     Solved, Undecided,
@@ -10,7 +8,7 @@ use documents::{
     Archives, Members, candidate_value, no_candidate_value, put_bad_line, put_sentences, put_steps,
     put_text, put_undecided, put_verdict, read_archives,
 };
-use inputs::{Fault, open_index, read_sources, read_sources_text};
+use inputs::{Fault, Shelf, open_index, read_sources, read_sources_text};
 use rules::Step;
 use serde_json::{Value, push};
 use stanza::ReadError;
@@ -18,9 +16,9 @@ use std::alloc::{AllocError, Global};
 
 /// The members of the answer about a plan: the verdict, and the steps with the fields of the stanzas that they unpack, which are read
 /// a second time. Memory alone can fail.
-pub(crate) fn members_of_plan<H: Host>(
+pub(crate) fn members_of_plan<S: Shelf>(
     alloc: Global,
-    shelf: &mut HostShelf<'_, '_, H>,
+    shelf: &mut S,
     settings: &Settings<'_>,
     judged: &JudgedPlan,
     sentences: &[u8],
@@ -40,9 +38,9 @@ pub(crate) fn members_of_plan<H: Host>(
 
 /// The members of the answer to a request: of a refutation its lines, and of a plan its steps, as of one that is judged. Memory alone can
 /// fail.
-pub(crate) fn members_of_solved<H: Host>(
+pub(crate) fn members_of_solved<S: Shelf>(
     alloc: Global,
-    shelf: &mut HostShelf<'_, '_, H>,
+    shelf: &mut S,
     settings: &Settings<'_>,
     answered: Answered,
     sentences: &[u8],
@@ -116,9 +114,9 @@ fn bad_line(verdict: &RefutationVerdict) -> Option<usize> {
 }
 
 // Puts what is answered to a request.
-fn put_solved<H: Host>(
+fn put_solved<S: Shelf>(
     alloc: Global,
-    shelf: &mut HostShelf<'_, '_, H>,
+    shelf: &mut S,
     settings: &Settings<'_>,
     solved: &Solved,
     members: &mut Members,
@@ -144,9 +142,9 @@ fn why_undecided(why: &Undecided) -> &'static str {
 }
 
 // Puts the steps of a plan.
-fn put_plan<H: Host>(
+fn put_plan<S: Shelf>(
     alloc: Global,
-    shelf: &mut HostShelf<'_, '_, H>,
+    shelf: &mut S,
     settings: &Settings<'_>,
     steps: &[Step],
     members: &mut Members,
@@ -156,9 +154,9 @@ fn put_plan<H: Host>(
 }
 
 // The archives of what the steps unpack, as far as the indices can be read again. Memory alone can fail.
-fn archives_of<'s, H: Host>(
+fn archives_of<'s, S: Shelf>(
     alloc: Global,
-    shelf: &mut HostShelf<'_, '_, H>,
+    shelf: &mut S,
     settings: &Settings<'_>,
     steps: &'s [Step],
 ) -> Result<Archives<'s>, AllocError> {
@@ -179,9 +177,9 @@ fn is_for_memory(refused: &Refusal) -> bool {
 }
 
 // Finds archives in a second reading of the sources and of the indices that they name, in their order.
-fn find_archives<H: Host>(
+fn find_archives<S: Shelf>(
     alloc: Global,
-    shelf: &mut HostShelf<'_, '_, H>,
+    shelf: &mut S,
     settings: &Settings<'_>,
     archives: &mut Archives<'_>,
 ) -> Result<(), Refusal> {
@@ -198,9 +196,9 @@ fn find_archives<H: Host>(
 }
 
 // Finds archives in a second reading of the index of this number, which is this file.
-fn find_in_index<H: Host>(
+fn find_in_index<S: Shelf>(
     alloc: Global,
-    shelf: &mut HostShelf<'_, '_, H>,
+    shelf: &mut S,
     settings: &Settings<'_>,
     number: usize,
     file: &[u8],
@@ -208,7 +206,7 @@ fn find_in_index<H: Host>(
 ) -> Result<(), Refusal> {
     let mut text = open_index(alloc, shelf, number, file)?;
     let read = read_archives(alloc, &mut text, settings.arch, archives);
-    shelf.host.close(text);
+    shelf.close(text);
     match read {
         Err(ReadError::OutOfMemory) => Err(Refusal::from(AllocError)),
         _ => Ok(()),

@@ -5,7 +5,7 @@ ghost use Rattle.cli.specs.Files.{Files};
 
 use crate::arguments::Arguments;
 use crate::asking::{is_document, seen_if, show, want};
-use crate::files::{HostShelf, ask_files};
+use crate::files::{HostShelf, Openings, ask_files};
 use crate::host::Host;
 use crate::members::members_of_names;
 use crate::told::tell_refusal;
@@ -51,7 +51,12 @@ pub(crate) fn outcome_of_names<H: Host>(
         format,
     } = *arguments;
     let seen = seen_if(alloc, explains);
-    let mut shelf = HostShelf { host, paths, seen };
+    let mut shelf = HostShelf {
+        host,
+        paths,
+        seen,
+        openings: Openings::none(),
+    };
     let answer = ask_files(alloc, &mut shelf, &settings, &Candidates { names }, notes);
     tell_refusal(alloc, &answer, &shelf, notes)?;
     let members = members_of(alloc, format, names, &answer, notes.text.as_slice())?;

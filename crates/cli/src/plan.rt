@@ -5,13 +5,14 @@ ghost use Rattle.cli.specs.Files.{Files};
 
 use crate::arguments::Arguments;
 use crate::asking::{is_document, seen_if, show, want};
-use crate::files::{HostShelf, ask_files};
+use crate::files::{HostShelf, Openings, ask_files};
 use crate::host::Host;
 use crate::members::members_of_plan;
 use crate::told::{tell_refusal, tell_unfinished};
 use cli_engine::{CheckPlan, JudgedPlan, Notes, Refusal, Settings};
 use command_line::Format;
 use documents::Members;
+use inputs::Shelf;
 use outcomes::{Outcome, outcome_in, outcome_of_plan};
 use std::alloc::{AllocError, Global};
 
@@ -24,9 +25,9 @@ fn tell_judged(answer: &Result<JudgedPlan, Refusal>, notes: &mut Notes) -> Resul
 }
 
 // What a document has of the answer.
-fn members_of<H: Host>(
+fn members_of<S: Shelf>(
     alloc: Global,
-    shelf: &mut HostShelf<'_, '_, H>,
+    shelf: &mut S,
     settings: &Settings<'_>,
     format: Format,
     answer: &Result<JudgedPlan, Refusal>,
@@ -58,7 +59,12 @@ pub(crate) fn outcome_of_plan_judged<H: Host>(
         format,
     } = *arguments;
     let seen = seen_if(alloc, explains);
-    let mut shelf = HostShelf { host, paths, seen };
+    let mut shelf = HostShelf {
+        host,
+        paths,
+        seen,
+        openings: Openings::none(),
+    };
     let answer = ask_files(alloc, &mut shelf, &settings, &CheckPlan {}, notes);
     tell_refusal(alloc, &answer, &shelf, notes)?;
     tell_judged(&answer, notes)?;

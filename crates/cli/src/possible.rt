@@ -3,17 +3,19 @@ ghost use Rattle.std.specs.Prelude.{◌≡◌, IfOk, Some};
 ghost use Rattle.std.specs.Option.{option_map};
 ghost use Rattle.cli.specs.Calls.{texts_at};
 ghost use Rattle.cli.specs.Files.{Files};
-ghost use Rattle.cli.specs.Possible.{IsOutcomeOfPossible, IsPrintedOfKept, IsPrintedWhere, IsPutWhere, IsSaidOfLeft};
+ghost use Rattle.cli.specs.Kept.{Kept};
+ghost use Rattle.cli.specs.Possible.{IsLeftOfKept, IsOutcomeOfPossible, IsPrintedOfKept, IsPrintedOfPut, IsPrintedWhere, IsSaidOfLeft};
 
 use crate::arguments::Arguments;
 use crate::asking::{is_document, seen_if, show, want};
-use crate::files::{HostShelf, ask_files};
+use crate::files::{HostShelf, Openings, ask_files};
 use crate::host::{Host, PutError};
 use crate::members::{members_of_solved, put_kept};
 use crate::told::{tell_refusal, tell_undecided};
 use cli_engine::{Answered, Input, Notes, Refusal, Settings};
 use command_line::Format;
 use documents::Members;
+use inputs::Shelf;
 use keep_back::{KeepBack, KeptBack};
 use outcomes::{
     Outcome, outcome_in, outcome_of_answered, outcome_of_refusal, outcome_of_unwritten_request,
@@ -46,9 +48,9 @@ fn tell_left(answer: &Result<KeptBack, Refusal>, notes: &mut Notes) -> Result<()
 }
 
 // What a document has of the answer to what is left, and of what was left out.
-fn members_of<H: Host>(
+fn members_of<S: Shelf>(
     alloc: Global,
-    shelf: &mut HostShelf<'_, '_, H>,
+    shelf: &mut S,
     settings: &Settings<'_>,
     answered: Answered,
     request: &[u8],
@@ -61,9 +63,9 @@ fn members_of<H: Host>(
 }
 
 // What is left, as it is printed in this format and written.
-fn left_of<H: Host>(
+fn left_of<S: Shelf>(
     alloc: Global,
-    shelf: &mut HostShelf<'_, '_, H>,
+    shelf: &mut S,
     settings: &Settings<'_>,
     format: Format,
     kept: KeptBack,
@@ -106,20 +108,17 @@ fn show_left(explains: bool, left_out: &[u8], notes: &mut Notes) -> Result<(), A
     notes.text.extend_from_slice(left_out)
 }
 
-// What is printed of what is left, once its request stands at this path.
-fn outcome_of_put<H: Host>(
+// What is printed of what is left, once its request was put.
+fn outcome_of_request_put(
     alloc: Global,
-    host: &mut H,
     explains: bool,
-    output: &str,
+    put: Result<(), PutError>,
     left: Left,
     notes: &mut Notes,
 ) -> Result<Outcome, AllocError>
-    ensures printed { IfOk result (IsPrintedWhere (Some output.now) left.printed) }
-    ensures put { (at : Files) → H.files host.old ≡ Some at
-        → IfOk result (λ outcome. IsPutWhere output.now left.request left.printed at (H.files host.new) outcome) }
+    ensures { IfOk result (IsPrintedOfPut put left.printed) }
 {
-    match host.put(alloc, output.as_bytes(), left.request.as_slice()) {
+    match put {
         Ok(()) => {
             show_left(explains, left.notes.as_slice(), notes)?;
             Ok(left.printed)
@@ -130,6 +129,23 @@ fn outcome_of_put<H: Host>(
         }
         Err(PutError::OutOfMemory) => Err(AllocError),
     }
+}
+
+// Puts the request that is left at this path. What is printed of it then.
+fn outcome_of_put<H: Host>(
+    alloc: Global,
+    host: &mut H,
+    explains: bool,
+    output: &str,
+    left: Left,
+    notes: &mut Notes,
+) -> Result<Outcome, AllocError>
+    ensures printed { IfOk result (IsPrintedWhere (Some output.now) left.printed) }
+    ensures left { (at : Files) (was : Kept H.Journal) → H.files host.old ≡ Some at → H.kept host.old ≡ Some was → IfOk result (λ outcome.
+        IsLeftOfKept (Some output.now) left.request left.printed at was outcome (H.files host.new) (H.kept host.new)) }
+{
+    let put = host.put(alloc, output.as_bytes(), left.request.as_slice());
+    outcome_of_request_put(alloc, explains, put, left, notes)
 }
 
 // The same, where the path of an output is given.
@@ -170,7 +186,12 @@ fn answer_of_possible<H: Host>(
         format,
     } = *arguments;
     let seen = seen_if(alloc, explains);
-    let mut shelf = HostShelf { host, paths, seen };
+    let mut shelf = HostShelf {
+        host,
+        paths,
+        seen,
+        openings: Openings::none(),
+    };
     let question = KeepBack {
         limit,
         has_document: is_document(format),

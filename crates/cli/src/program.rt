@@ -7,8 +7,8 @@ ghost use Rattle.command_line.specs.Asked.{asked_by, extent_by};
 ghost use Rattle.outcomes.specs.Outcome.{IsOutcomeOfMemory, IsWritten};
 ghost use Rattle.outcomes.specs.declared.outcome.Outcome.{Outcome as Found};
 
-use crate::applied::outcome_of_applied;
-use crate::arguments::{Arguments, arguments_by, goals_in, place_of};
+use crate::applied::{Target, outcome_of_applied};
+use crate::arguments::{Arguments, arguments_by, goals_of, place_of};
 use crate::files::TextAt;
 use crate::host::Host;
 use crate::names::outcome_of_names;
@@ -25,8 +25,9 @@ use std::io::Write;
 
 /// Runs the program on the words of its command line, of which the first is its own name, and gives its exit status.
 /// It opens each file once, at its turn, and none behind a refusal; the sources and the indices of a plan that is written as JSON a
-/// second time, behind the answer. It writes nothing but its answer or one refusal, and where the words ask for them, sentences behind
-/// that on standard error.
+/// second time, behind the answer, and the indices of a plan that is carried out. It writes nothing but its answer or one refusal, and
+/// where the words ask for them, sentences behind that on standard error; of files nothing but what the words name for it: the journal
+/// and the output of a plan that is carried out, and the request that is left of one that is kept back.
 pub fn run<H: Host, W: Write, E: Write>(
     alloc: Global,
     words: &[Vec<u8>],
@@ -72,6 +73,7 @@ fn outcome_of_call<H: Host>(
 ) -> Result<Outcome, AllocError>
     ensures { (at : Files) → H.files host.old ≡ Some at → IfOk result (λ outcome. IsOutcomeOfAsked at (asked_by call.now) outcome) }
 {
+    let goals = goals_of(alloc, call)?;
     match call {
         Call::Compare {
             version,
@@ -95,7 +97,6 @@ fn outcome_of_call<H: Host>(
             explains,
             format,
         } => {
-            let goals = goals_in(alloc, request)?;
             let place = place_of(request, goals.as_slice());
             let arguments = arguments_by(options, place, "", *explains, *format);
             outcome_of_extent(alloc, host, &arguments, *limit, extent, notes)
@@ -107,7 +108,6 @@ fn outcome_of_call<H: Host>(
             explains,
             format,
         } => {
-            let goals = goals_in(alloc, request)?;
             let place = place_of(request, goals.as_slice());
             let arguments = arguments_by(options, place, *plan, *explains, *format);
             outcome_of_plan_judged(alloc, host, &arguments, notes)
@@ -119,7 +119,6 @@ fn outcome_of_call<H: Host>(
             explains,
             format,
         } => {
-            let goals = goals_in(alloc, request)?;
             let place = place_of(request, goals.as_slice());
             let arguments = arguments_by(options, place, *refutation, *explains, *format);
             outcome_of_lines(alloc, host, &arguments, notes)
@@ -131,10 +130,13 @@ fn outcome_of_call<H: Host>(
             journal,
             output,
         } => {
-            let goals = goals_in(alloc, request)?;
             let place = place_of(request, goals.as_slice());
             let arguments = arguments_by(options, place, *plan, false, Format::Text);
-            outcome_of_applied(alloc, host, &arguments, *journal, *output)
+            let target = Target {
+                journal: journal.as_bytes(),
+                output: output.as_bytes(),
+            };
+            outcome_of_applied(alloc, host, &arguments, target)
         }
     }
 }

@@ -5,7 +5,7 @@ ghost use Rattle.cli.specs.Files.{Files};
 
 use crate::arguments::Arguments;
 use crate::asking::{is_document, seen_if, show, want};
-use crate::files::{HostShelf, ask_files};
+use crate::files::{HostShelf, Openings, ask_files};
 use crate::host::Host;
 use crate::members::members_of_refutation;
 use crate::told::tell_refusal;
@@ -46,7 +46,12 @@ pub(crate) fn outcome_of_lines<H: Host>(
         format,
     } = *arguments;
     let seen = seen_if(alloc, explains);
-    let mut shelf = HostShelf { host, paths, seen };
+    let mut shelf = HostShelf {
+        host,
+        paths,
+        seen,
+        openings: Openings::none(),
+    };
     let question = CheckRefutation {
         has_document: is_document(format),
     };

@@ -3,12 +3,13 @@ ghost use Rattle.std.specs.Prelude.{◌≡◌};
 ghost use Rattle.disk.specs.Calls.{Counts};
 ghost use Rattle.disk.specs.Facts.{nothing_known};
 
-use crate::output::{sync_folder, text_of};
+use crate::folder::sync_name;
+use crate::places::text_of;
 use disk::{Disk, Failed, FileDisk};
 use std::alloc::{AllocError, Global};
 use std::fs::{File, OpenOptions, TryLockError};
+use std::io;
 use std::io::ErrorKind;
-use std::{fs, io};
 
 /// The file of a journal, which the first call opens. It doesn't say that it is honest: what a machine's file does in a crash is
 /// outside of what a contract can know.
@@ -48,11 +49,10 @@ impl<'a> JournalFile<'a> {
     }
 }
 
-// Opens a file for reading and writing, which is made where there is none and then stays in its folder. One that is no plain file,
-// or that another run works on, is refused.
+// Opens a file for reading and writing, which is made where there is none. One that is no plain file, or that another run works on, is
+// refused. Where it is empty, so that this run or one that was stopped has made it, that it is in its folder is brought to the disk.
 fn open_journal(rt: &HostRuntime, path: &[u8]) -> io::Result<File> {
     let path = text_of(path)?;
-    let was_there = fs::exists(rt, path)?;
     let file = OpenOptions::new()
         .read(true)
         .write(true)
@@ -64,8 +64,8 @@ fn open_journal(rt: &HostRuntime, path: &[u8]) -> io::Result<File> {
     if let Err(TryLockError::WouldBlock) = file.try_lock() {
         return Err(io::Error::from(ErrorKind::WouldBlock));
     }
-    if !was_there {
-        sync_folder(rt, path)?;
+    if file.metadata()?.len() == 0 {
+        sync_name(rt, path)?;
     }
     Ok(file)
 }

@@ -5,7 +5,8 @@ ghost use Rattle.inputs.specs.declared.shelf.ReadError.TheVariants as ReadError;
 
 use crate::journal_file::JournalFile;
 use crate::output::put_text;
-use cli::{Host, PutError, ReadError, ReadFailed, Source};
+use crate::places::{is_plain, is_same_file};
+use cli::{Host, PutError, ReadError, ReadFailed, Source, Turn};
 use rules::TEXT_BYTES;
 use std::alloc::{AllocError, Global};
 use std::fs::File;
@@ -101,16 +102,19 @@ impl<'a> Host for Machine<'a> {
         self.failures
     }
 
-    fn read(&mut self, alloc: Global, path: &[u8]) -> Result<Vec<u8>, ReadError> {
-        if path == b"-".as_slice() {
-            return self.read_all(alloc, standard_input(self.rt));
+    fn read(&mut self, alloc: Global, path: &[u8], turn: Turn) -> Result<Vec<u8>, ReadError> {
+        match (path, turn) {
+            (b"-", Turn::First) => self.read_all(alloc, standard_input(self.rt)),
+            (b"-", Turn::Again) => Err(self.unreadable()),
+            _ => {
+                let file = self.open(alloc, path, turn)?;
+                self.read_all(alloc, file)
+            }
         }
-        let file = self.open(alloc, path)?;
-        self.read_all(alloc, file)
     }
 
-    fn open(&mut self, _alloc: Global, path: &[u8]) -> Result<Opened<File>, ReadError> {
-        match open_file(self.rt, path) {
+    fn open(&mut self, _alloc: Global, path: &[u8], turn: Turn) -> Result<Opened<File>, ReadError> {
+        match open_at(self.rt, path, turn) {
             Ok(file) => Ok(Opened {
                 reader: file,
                 failures: 0,
@@ -128,8 +132,29 @@ impl<'a> Host for Machine<'a> {
         JournalFile::at(self.rt, alloc, path)
     }
 
-    fn put(&mut self, alloc: Global, path: &[u8], text: &[u8]) -> Result<(), PutError> {
-        put_text(self.rt, alloc, path, text)
+    fn give_back(&mut self, _path: &[u8], journal: JournalFile<'a>) {
+        drop(journal);
+    }
+
+    fn put(&mut self, _alloc: Global, path: &[u8], text: &[u8]) -> Result<(), PutError> {
+        put_text(self.rt, path, text)
+    }
+
+    fn finish(
+        &mut self,
+        _alloc: Global,
+        _at: &[u8],
+        journal: JournalFile<'a>,
+        path: &[u8],
+        text: &[u8],
+    ) -> Result<(), PutError> {
+        let put = put_text(self.rt, path, text);
+        drop(journal);
+        put
+    }
+
+    fn is_same_file(&self, left: &[u8], right: &[u8]) -> bool {
+        is_same_file(self.rt, left, right)
     }
 
     fn trouble(&self, path: &[u8]) -> &'static str {
@@ -144,6 +169,15 @@ fn standard_input(rt: &HostRuntime) -> Opened<Stdin> {
     Opened {
         reader: rt.stdin(),
         failures: 0,
+    }
+}
+
+// Opens the file at the path at this turn. Again only a plain file is read: of another, as a pipe, what was read is gone, and who opens it
+// may wait for ever.
+fn open_at(rt: &HostRuntime, path: &[u8], turn: Turn) -> Result<File, ErrorKind> {
+    match turn {
+        Turn::Again if !is_plain(rt, path) => Err(ErrorKind::NotSeekable),
+        _ => open_file(rt, path),
     }
 }
 

@@ -1,9 +1,11 @@
 //! The program `debplan`: `cli::run` over the machine's own files, with its words and its streams.
 #![tactic(auto)]
 
+mod folder;
 mod journal_file;
 mod machine;
 mod output;
+mod places;
 mod words;
 
 use cli::{refuse_for_memory, run};

@@ -1,112 +1,139 @@
 // A text that is put in the place of a file: written beside it, brought to the disk and renamed, so that under the file's name
 // there is at each moment what there was, or all of the text.
-ghost use Rattle.std.specs.Prelude.{◌≡◌};
-
+use crate::folder::{open_folder, sync_folder};
+use crate::places::{Place, is_same, place_of, text_of};
 use cli::PutError;
-use std::alloc::{AllocError, Global};
-use std::fs::{File, Metadata};
+use std::fs::{File, Metadata, OpenOptions};
 use std::io::{ErrorKind, Write};
-use std::{fs, io};
+use std::os::unix::fs::{MetadataExt, OpenOptionsExt, fchown};
+use std::{fs, io, process};
 
-/// Puts the text in the place of the file at the path, or makes the file. What is no plain file, as a device or a pipe, is written
-/// as it stands; a link stays, and the file that it leads to is replaced.
-pub(crate) fn put_text(
-    rt: &HostRuntime,
-    alloc: Global,
-    path: &[u8],
-    text: &[u8],
-) -> Result<(), PutError> {
-    match put_at(rt, alloc, path, text) {
+/// Puts the text in the place of the file at the path, or makes the file. A link stays, and the file that it leads to is replaced or
+/// made. What is no plain file, as a device or a pipe, is written as it stands, and so is what a process has open.
+pub(crate) fn put_text(rt: &HostRuntime, path: &[u8], text: &[u8]) -> Result<(), PutError> {
+    match put_at(rt, path, text) {
         Ok(()) => Ok(()),
         Err(error) if error.kind() == ErrorKind::OutOfMemory => Err(PutError::OutOfMemory),
         Err(_) => Err(PutError::Unwritten),
     }
 }
 
-fn put_at(rt: &HostRuntime, alloc: Global, path: &[u8], text: &[u8]) -> io::Result<()> {
-    let path = text_of(path)?;
-    match fs::metadata(rt, path) {
-        Ok(found) if found.is_file() => {
-            let place = fs::canonicalize(rt, path)?;
-            put_beside(rt, alloc, place.as_str(), text, Some(found))
-        }
-        Ok(_) => write_through(rt, path, text),
-        Err(error) if error.kind() == ErrorKind::NotFound => {
-            put_beside(rt, alloc, path, text, None)
-        }
+fn put_at(rt: &HostRuntime, path: &[u8], text: &[u8]) -> io::Result<()> {
+    match place_of(rt, text_of(path)?)? {
+        Place::Open(path) => write_on_open(rt, path.as_str(), text),
+        Place::Named(path) => put_named(rt, path.as_str(), text),
+    }
+}
+
+// The standard streams of this process.
+const STANDARD_OUTPUT: &str = "/proc/self/fd/1";
+
+const STANDARD_ERROR: &str = "/proc/self/fd/2";
+
+// Writes the text on an open file: on what is a standard stream of this process by that, and at the end of any other.
+fn write_on_open(rt: &HostRuntime, path: &str, text: &[u8]) -> io::Result<()> {
+    if is_same(rt, path, STANDARD_OUTPUT) {
+        return rt.stdout().write_all(text);
+    }
+    if is_same(rt, path, STANDARD_ERROR) {
+        return rt.stderr().write_all(text);
+    }
+    let mut file = OpenOptions::new().append(true).open(rt, path)?;
+    file.write_all(text)
+}
+
+fn put_named(rt: &HostRuntime, place: &str, text: &[u8]) -> io::Result<()> {
+    match fs::symlink_metadata(rt, place) {
+        Ok(found) if found.is_file() => put_beside(rt, place, text, Some(found)),
+        Ok(_) => write_through(rt, place, text),
+        Err(error) if error.kind() == ErrorKind::NotFound => put_beside(rt, place, text, None),
         Err(error) => Err(error),
     }
 }
 
 // Writes the text on what stands at the path.
 fn write_through(rt: &HostRuntime, path: &str, text: &[u8]) -> io::Result<()> {
-    let mut file = fs::OpenOptions::new().write(true).open(rt, path)?;
-    file.write_all(text)?;
-    file.flush()
+    let mut file = OpenOptions::new().write(true).open(rt, path)?;
+    file.write_all(text)
 }
 
-// Writes the text beside the place, with the permissions of what stands there, and renames it.
+// Writes the text beside the place and renames it. A folder that can't be brought to the disk is found before that.
 fn put_beside(
     rt: &HostRuntime,
-    alloc: Global,
     place: &str,
     text: &[u8],
     found: Option<Metadata>,
 ) -> io::Result<()> {
-    let beside = match format!(in alloc; "{place}.debplan-new") {
-        Ok(beside) => beside,
-        Err(AllocError) => return Err(io::Error::from(ErrorKind::OutOfMemory)),
-    };
-    let written = write_new(rt, beside.as_str(), text, found);
-    let put = match written {
-        Ok(()) => fs::rename(rt, beside.as_str(), place),
+    let folder = open_folder(rt, place)?;
+    let Beside { path, file } = make_beside(rt, place, &options_for(&found))?;
+    let put = match write_file(file, text, found) {
+        Ok(()) => fs::rename(rt, path.as_str(), place),
         Err(error) => Err(error),
     };
     match put {
-        Ok(()) => sync_folder(rt, place),
+        Ok(()) => sync_folder(&folder),
         Err(error) => {
-            let _left = fs::remove_file(rt, beside.as_str());
+            let _left = fs::remove_file(rt, path.as_str());
             Err(error)
         }
     }
 }
 
-// Writes a new file and brings it to the disk. One that an earlier run left there goes.
-fn write_new(rt: &HostRuntime, path: &str, text: &[u8], found: Option<Metadata>) -> io::Result<()> {
-    let _left = fs::remove_file(rt, path);
-    let mut file = File::create_new(rt, path)?;
-    file.write_all(text)?;
+// A new file, and its path.
+#[derive(Drop)]
+struct Beside {
+    path: String,
+    file: File,
+}
+
+// How a new file is made: one that will replace another so that nobody else can read it before it has that one's permissions.
+fn options_for(found: &Option<Metadata>) -> OpenOptions {
+    let mut options = OpenOptions::new();
+    options.write(true).create_new(true);
+    if found.is_some() {
+        options.mode(0o600);
+    }
+    options
+}
+
+// How many names are tried.
+const NAMES: u32 = 100;
+
+// Makes a new file beside the place, whose name has the number of this process, and behind it another one where that is there.
+fn make_beside(rt: &HostRuntime, place: &str, options: &OpenOptions) -> io::Result<Beside> {
+    for number in 0..NAMES {
+        let path = path_beside(rt, place, number)?;
+        match options.open(rt, path.as_str()) {
+            Ok(file) => return Ok(Beside { path, file }),
+            Err(error) if error.kind() == ErrorKind::AlreadyExists => {}
+            Err(error) => return Err(error),
+        }
+    }
+    Err(io::Error::from(ErrorKind::AlreadyExists))
+}
+
+fn path_beside(rt: &HostRuntime, place: &str, number: u32) -> io::Result<String> {
+    let process = process::id(rt.process());
+    match number {
+        0 => Ok(format!(in rt.alloc(); "{place}.debplan-{process}")?),
+        _ => Ok(format!(in rt.alloc(); "{place}.debplan-{process}-{number}")?),
+    }
+}
+
+// Writes a new file and brings it to the disk, with the owner and the permissions of what it will replace.
+fn write_file(file: File, text: &[u8], found: Option<Metadata>) -> io::Result<()> {
+    let mut file = file;
     if let Some(found) = found {
+        keep_owner(&file, &found);
         file.set_permissions(found.permissions())?;
     }
+    file.write_all(text)?;
     file.sync_all()
 }
 
-/// Brings to the disk which files the folder of this path has. A folder that can't be opened, or that its system brings to the disk
-/// by itself, is left alone.
-pub(crate) fn sync_folder(rt: &HostRuntime, path: &str) -> io::Result<()> {
-    let Ok(folder) = File::open(rt, folder_of(path)) else {
-        return Ok(());
-    };
-    match folder.sync_all() {
-        Err(error) if error.kind() != ErrorKind::InvalidInput => Err(error),
-        _ => Ok(()),
-    }
-}
-
-// The folder in which the path names something.
-fn folder_of(path: &str) -> &str {
-    match path.rsplit_once('/') {
-        None => ".",
-        Some(("", _)) => "/",
-        Some((folder, _)) => folder,
-    }
-}
-
-/// The path as text, which it has to be.
-pub(crate) fn text_of(path: &[u8]) -> io::Result<&str> {
-    match str::from_utf8(path) {
-        Ok(path) => Ok(path),
-        Err(_) => Err(io::Error::from(ErrorKind::InvalidInput)),
+// Gives the file this owner and this group, or this group alone, as far as the system lets it.
+fn keep_owner(file: &File, found: &Metadata) {
+    if fchown(file, Some(found.uid()), Some(found.gid())).is_err() {
+        let _refused = fchown(file, None, Some(found.gid()));
     }
 }

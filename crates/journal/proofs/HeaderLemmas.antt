@@ -1,5 +1,7 @@
 -- Files that begin as a journal, and the parts of a header.
-use Rattle.std.proofs.Common.{◌≡◌, ℕ, ◌<◌, ◌≤◌, ◌^◌, Some, None, Option, List, [], ◌∷◌, ◌++◌, length, get_or, refl, sym, ◌∙◌, ap, arith, append_assoc, length-append}
+use Rattle.std.proofs.Common.{◌≡◌, ℕ, ◌<◌, ◌≤◌, ◌^◌, Some, None, Option, List, [], ◌∷◌, ◌++◌, length, get_or, take, refl, sym, ◌∙◌, ap, arith, append_assoc, length-append}
+use Rattle.std.proofs.lemmas.List.{take-append-le, take_all}
+use Rattle.journal.specs.Creating.{IsUnmade, unmade}
 use Rattle.std.specs.Int.{w16, w64, to_be_bytes}
 use Rattle.journal.specs.declared.header.Version.{Version}
 use Rattle.journal.specs.declared.header.Version.TheVariants.{One, Two}
@@ -73,3 +75,29 @@ image_is arch start = ap (λ (l : List ℕ). l ++ 0 ∷ []) (
     append_assoc (magic_of Two ++ to_be_bytes w64 (length start) ++ to_be_bytes w16 (length arch)) arch start
     ∙ append_assoc (magic_of Two ++ to_be_bytes w64 (length start)) (to_be_bytes w16 (length arch)) (arch ++ start)
     ∙ append_assoc (magic_of Two) (to_be_bytes w64 (length start)) (to_be_bytes w16 (length arch) ++ (arch ++ start)))
+
+-- such bytes are no fewer than eight
+pub image_size : (arch start : List ℕ) → 8 ≤ length (header (Some arch) start ++ 0 ∷ [])
+image_size arch start =
+    let rest = to_be_bytes w64 (length start) ++ (to_be_bytes w16 (length arch) ++ (arch ++ (start ++ 0 ∷ []))) in
+    omega (arith, ap length (header_2 arch start (0 ∷ [])), length-append (magic_of Two) rest, magic_size Two)
+
+-- no version begins as a file does that is being made
+not_unmade : (version : Version) → ¬ (magic_of version ≡ unmade)
+unfolding magic_of unmade
+not_unmade One same = let last : 49 ≡ 48 = ap (λ (l : List ℕ). get_or l 7 0) same in omega (arith, last)
+not_unmade Two same = let last : 50 ≡ 48 = ap (λ (l : List ℕ). get_or l 7 0) same in omega (arith, last)
+
+unmade_size : length unmade ≡ 8
+unfolding unmade
+unmade_size = refl
+
+-- a file of which no journal was made doesn't begin as one
+pub unmade_unmarked : (file : List ℕ) → IsUnmade file → ¬ IsMarked file
+unmade_unmarked file is marked =
+    let magic = magic_of marked.version in
+    let size = magic_size marked.version in
+    let front : take 8 file ≡ magic = ap (take 8) marked.is ∙ take-append-le 8 magic marked.rest (omega (arith, size)) ∙ take_all 8 magic (omega (arith, size)) in
+    let all : take (length file) unmade ≡ unmade =
+    take_all (length file) unmade (omega (arith, ap length marked.is, length-append magic marked.rest, size, marked.enough, unmade_size)) in
+    not_unmade marked.version (sym front ∙ is ∙ all)

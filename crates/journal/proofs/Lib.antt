@@ -1,3 +1,4 @@
+mod CallRows
 mod CommitLemmas
 mod CrashLemmas
 mod FaultLemmas
@@ -6,5 +7,7 @@ mod HistoryLemmas
 mod LineLemmas
 mod NumberLemmas
 mod OnceLemmas
+mod OpenedLemmas
 mod PayloadLemmas
 mod RecordLemmas
+mod RunLemmas

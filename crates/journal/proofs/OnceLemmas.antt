@@ -37,7 +37,7 @@ records_once (e ∷ es) (f ∷ fs) (h ∷ hs) (k ∷ ks) x y a b same =
     let one : h ≡ k = says_once f.1 h k (subst (λ (p : List ℕ). Says p h) once.0 a.0.says) b.0.says in
     (λ i. one i ∷ records_once es fs hs ks x y a.1 b.1 once.1 i)
 
-ok_slots : (a b : List FileSlot) (read : Result (List FileSlot) StatusFault) → read ≡ Ok a → read ≡ Ok b → a ≡ b
+pub ok_slots : (a b : List FileSlot) (read : Result (List FileSlot) StatusFault) → read ≡ Ok a → read ≡ Ok b → a ≡ b
 ok_slots a b read ra rb = cc (ra, rb)
 
 pub shows_once : (file : List ℕ) (h k : History) → Shows file h → Shows file k → h.arch ≡ k.arch → h ≡ k

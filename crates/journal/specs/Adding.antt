@@ -8,8 +8,9 @@ use Rattle.rules.specs.declared.step.Step.TheVariants.{Unpack, Deconfigure, Conf
 use Rattle.status.specs.Applicable.{handed_in, refused_name}
 use Rattle.status_text.specs.Slot.{Store, slot_records}
 use Rattle.journal.specs.File.{framed}
-use Rattle.journal.specs.History.{IsApplicable, slots_left}
+use Rattle.journal.specs.History.{IsApplicable}
 use Rattle.journal.specs.Payload.{Recorded, Says}
+use Rattle.journal.specs.Spare.{store_left}
 use Rattle.journal.specs.declared.adding.Prepared.{Prepared}
 use Rattle.journal.specs.declared.error.AppendError.{AppendError}
 use Rattle.journal.specs.declared.error.AppendError.TheVariants as error
@@ -40,7 +41,7 @@ pub record IsPrepared (old : Store) (recorded : Recorded) (prepared : Prepared) 
   pub size : prepared.len ≡ length payload
   pub kept : prepared.recorded ≡ recorded
   pub applicable : IsApplicable old.arch recorded old.slots
-  pub left : prepared.database ≡ record old { slots = slots_left old.arch recorded old.slots }
+  pub left : prepared.database ≡ store_left old recorded
 
 -- why a step isn't taken: it can't be, or memory was refused
 abbrev pub IsLeftFault : Store → Recorded → AppendError → Type 0

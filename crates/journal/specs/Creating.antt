@@ -1,5 +1,5 @@
 -- A journal that is created, and why one isn't.
-use Rattle.std.specs.Prelude.{◌≡◌, ◌⊎◌, ℕ, ◌<◌, ◌^◌, ◌≤◌, List, [], length, Ok, ⊤}
+use Rattle.std.specs.Prelude.{◌≡◌, ◌⊎◌, ℕ, ◌<◌, ◌^◌, ◌≤◌, List, [], codes, length, take, Ok, ⊤}
 use Rattle.rules.specs.declared.limits.TheConstants.{TEXT_BYTES}
 use Rattle.status_text.specs.Slot.{FileSlot}
 use Rattle.status.specs.Stored.{read_stored}
@@ -7,6 +7,14 @@ use Rattle.journal.specs.Ledger.{history_of}
 use Rattle.journal.specs.declared.error.CreateError.{CreateError}
 use Rattle.journal.specs.declared.error.CreateError.TheVariants as error
 use Rattle.journal.specs.declared.ledger.Ledger.{Ledger}
+
+-- how a file begins that is being made a journal
+unfoldable pub unmade : List ℕ
+unmade = codes "DPJRNL00"
+
+-- the file begins so, or is a shorter beginning of that: no journal was ever made of it
+abbrev pub IsUnmade : List ℕ → Type 0
+IsUnmade file = take 8 file ≡ take (length file) unmade
 
 -- it has this start for the architecture, what the start is read as, and no step
 pub record IsCreated (arch start : List ℕ) (ledger : Ledger) : Type 0 where

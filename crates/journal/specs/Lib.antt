@@ -5,5 +5,7 @@ pub mod Fault
 pub mod Commit
 pub mod Ledger
 pub mod Reading
+pub mod Spare
 pub mod Adding
 pub mod Creating
+pub mod Calls

@@ -5,19 +5,20 @@ ghost use Rattle.disk.specs.Facts.{LeavesOnly};
 ghost use Rattle.plantext.specs.Plan.{IsReadAsStep};
 ghost use Rattle.plantext.specs.StepLine.{step_line};
 ghost use Rattle.rules.specs.declared.limits.TheConstants.{TEXT_BYTES};
-ghost use Rattle.journal.specs.Adding.{IsAppendFault, IsLeftFault, IsPrepareFault, IsPrepared, recorded_of, text_for};
+ghost use Rattle.journal.specs.Adding.{IsAppendFault, IsPrepareFault, IsPrepared, recorded_of, text_for};
 ghost use Rattle.journal.specs.File.{framed};
-ghost use Rattle.journal.specs.History.{IsApplicable, IsBeforeOrAfter, followed, slots_left};
+ghost use Rattle.journal.specs.History.{IsApplicable, IsBeforeOrAfter, followed};
 ghost use Rattle.journal.specs.Ledger.{history_of, IsSettled};
 ghost use Rattle.journal.specs.declared.error.AppendError.TheVariants as append_error;
 
 use crate::commit::commit;
 use crate::error::AppendError;
 use crate::ledger::{Ledger, Recorded};
+use crate::spare::WithSpare;
 use disk::Disk;
 use plantext::write_step;
 use rules::{Step, TEXT_BYTES};
-use status::{ApplyError, Database};
+use status::Database;
 use std::alloc::{AllocError, Global};
 
 // Behind a gate at this offset no record is added.
@@ -68,43 +69,26 @@ fn record_of(alloc: Global, payload: &[u8]) -> Result<Vec<u8>, AllocError>
     Ok(made)
 }
 
-// The database that the step leaves.
-fn left_by<'a, 's>(
-    alloc: Global,
-    old: &Database,
-    step: &'s Step,
-    text: Option<&'a [u8]>,
-) -> Result<Database, AppendError<'s>>
-    ensures left { IfOk result (λ new. IsApplicable old.now.arch (record { step = step.now; stanza = option_copied text.entry }) old.now.slots
-        × (new ≡ record old.now { slots = slots_left old.now.arch (record { step = step.now; stanza = option_copied text.entry }) old.now.slots })) }
-    ensures fault { IfErr result (IsLeftFault old.now (record { step = step.now; stanza = option_copied text.entry })) }
-{
-    let mut database = old.try_copy(alloc)?;
-    match database.apply(alloc, step, text) {
-        Ok(()) => Ok(database),
-        Err(ApplyError::NotApplicable(name)) => Err(AppendError::NotApplicable(name)),
-        Err(ApplyError::OutOfMemory) => Err(AppendError::OutOfMemory),
-    }
-}
-
-// All that is to be written and remembered of a step, where it can be taken.
+// All that is to be written and remembered of a step, where it can be taken. The step is taken last, since an error behind
+// it would cost the spare.
 fn prepare<'a, 's>(
     alloc: Global,
-    old: &Database,
+    old: &mut WithSpare,
     step: &'s Step,
     given: Option<&'a [u8]>,
 ) -> Result<Prepared<'a>, AppendError<'s>>
-    ensures prepared { IfOk result (IsPrepared old.now (recorded_of step.now (option_copied given.entry))) }
-    ensures fault { IfErr result (IsPrepareFault old.now (recorded_of step.now (option_copied given.entry))) }
+    ensures unchanged { old.new ≡ old.old }
+    ensures prepared { IfOk result (IsPrepared old.old (recorded_of step.now (option_copied given.entry))) }
+    ensures fault { IfErr result (IsPrepareFault old.old (recorded_of step.now (option_copied given.entry))) }
 {
     let text = text_for(step, given);
     let payload = payload_of(alloc, step, text)?;
     if payload.len() > TEXT_BYTES {
         return Err(AppendError::TooLarge);
     }
-    let database = left_by(alloc, old, step, text)?;
     let bytes = record_of(alloc, &payload)?;
     let recorded = Recorded::new(step.try_copy(alloc)?, text);
+    let database = old.left_by(alloc, step, text)?;
     Ok(Prepared {
         bytes,
         len: payload.len(),
@@ -145,11 +129,14 @@ pub fn append<'a, 's, D: Disk>(
     if ledger.gate >= FILE_BYTES {
         return Err(AppendError::TooLarge);
     }
-    let prepared = prepare(alloc, &ledger.database, step, stanza)?;
+    let prepared = prepare(alloc, &mut ledger.database, step, stanza)?;
     ledger.steps.push(prepared.recorded)?;
     match commit(disk, ledger.gate, &prepared.bytes) {
         Ok(()) => {
-            ledger.database = prepared.database;
+            let text = text_for(step, stanza);
+            ledger
+                .database
+                .exchange(alloc, prepared.database, step, text);
             ledger.gate += 5 + prepared.len;
             Ok(())
         }

@@ -1,10 +1,10 @@
 //! Creating a journal.
-ghost use Rattle.std.specs.Prelude.{◌≡◌, ◌≢◌, ◌↔◌, ◌++◌, ◌∷◌, [], ◌+◌, ◌-◌, ◌<◌, ◌≤◌, ◌^◌, Ok, Some, IfErr, IfOk, IsErrOf, OnOk, length, min};
+ghost use Rattle.std.specs.Prelude.{◌≡◌, ◌≢◌, ◌↔◌, ◌++◌, ◌∷◌, [], ◌+◌, ◌-◌, ◌<◌, ◌≤◌, ◌^◌, Ok, Some, IfErr, IfOk, IsErrOf, IsTrue, OnOk, length, min};
 ghost use Rattle.disk.specs.Calls.{Counts};
 ghost use Rattle.disk.specs.Facts.{Synced};
 ghost use Rattle.rules.specs.declared.limits.TheConstants.{TEXT_BYTES};
 ghost use Rattle.status.specs.Stored.{read_stored};
-ghost use Rattle.journal.specs.Creating.{IsCreateFault, IsCreated, IsUnreadStart};
+ghost use Rattle.journal.specs.Creating.{IsCreateFault, IsCreated, IsUnmade, IsUnreadStart};
 ghost use Rattle.journal.specs.File.{header};
 ghost use Rattle.journal.specs.Ledger.{IsSettled};
 ghost use Rattle.journal.specs.declared.error.CreateError.TheVariants as create_error;
@@ -37,15 +37,36 @@ fn image_of(alloc: Global, start: &[u8], arch: &[u8]) -> Result<Vec<u8>, AllocEr
     Ok(made)
 }
 
-// Makes the file these bytes, all of them on the disk.
+// The first eight bytes of a file that is being made a journal.
+const UNMADE: &[u8; 8] = b"DPJRNL00";
+
+/// Whether no journal was ever made of a file with these bytes: it is empty, or its making was stopped.
+#[tactic(auto, unfolding(crate::specs::Creating::unmade))]
+pub fn is_unmade(file: &[u8]) -> bool
+    ensures { IsTrue result ↔ IsUnmade file.now }
+{
+    if file.len() < 8 {
+        file == &UNMADE[..file.len()]
+    } else {
+        &file[..8] == UNMADE.as_slice()
+    }
+}
+
+// Makes the file these bytes, all of them on the disk. The first eight of them are written last, and till then they are those of a
+// file that is being made.
 fn replace<D: Disk>(disk: &mut D, bytes: &[u8]) -> Result<(), Failed>
+    requires { 8 ≤ length bytes.now }
     ensures honest { D.honest disk.new ↔ D.honest disk.old }
     ensures done { OnOk result (D.honest disk.old → Synced bytes.now (D.facts disk.new)) }
     ensures count { Counts result (D.faults disk.old) (D.faults disk.new) }
 {
     disk.cut(0)?;
-    disk.write_at(0, bytes)?;
     // A crash before this sync may leave any bytes: nothing was acknowledged.
+    disk.write_at(0, UNMADE)?;
+    disk.sync()?;
+    disk.write_at(8, &bytes[8..])?;
+    disk.sync()?;
+    disk.write_at(0, &bytes[..8])?;
     disk.sync()?;
     Ok(())
 }
@@ -64,8 +85,8 @@ fn read_start<'a>(alloc: Global, start: &'a [u8], arch: &'a [u8]) -> Result<Data
 }
 
 /// Makes the file a journal for the architecture, whose start is this text of a status file, and which has no step. It is of
-/// version 2, so it names the architecture. Such a text is what `Database::text` of `status` answers. A crash before `Ok` may
-/// leave a file that isn't opened.
+/// version 2, so it names the architecture. Such a text is what `Database::text` of `status` answers. Where the making is stopped, a
+/// file is left that is unmade, or after a crash of the machine within the first write one that isn't opened.
 pub fn create<'a, D: Disk>(
     alloc: Global,
     disk: &mut D,

@@ -2,6 +2,7 @@
 ghost use Rattle.std.specs.Prelude.{◌≡◌, [], false};
 ghost use Rattle.std.specs.Option.{option_copied};
 
+use crate::spare::WithSpare;
 use rules::Step;
 use status::Database;
 use std::alloc::Global;
@@ -53,7 +54,7 @@ impl<'a> Recorded<'a> {
 pub struct Ledger<'a> {
     pub(crate) start: &'a [u8],
     pub(crate) steps: Vec<Recorded<'a>>,
-    pub(crate) database: Database,
+    pub(crate) database: WithSpare,
     /// The offset of the closed gate.
     pub(crate) gate: usize,
     /// A call of the disk failed: what the file holds isn't known.
@@ -79,7 +80,7 @@ impl<'a> Ledger<'a> {
         Ledger {
             start,
             steps: Vec::new(alloc),
-            database,
+            database: WithSpare::new(database),
             gate,
             broken: false,
         }
@@ -104,6 +105,6 @@ impl<'a> Ledger<'a> {
         ensures arch { result.now.arch ≡ (history_of self.now).arch }
         ensures slots { result.now.slots ≡ (history_of self.now).slots }
     {
-        &self.database
+        self.database.database()
     }
 }

@@ -6,6 +6,7 @@
 
 mod adding;
 mod bytes;
+mod caller;
 mod commit;
 mod creating;
 mod error;
@@ -15,11 +16,15 @@ mod ledger;
 mod opening;
 mod payload;
 mod reading;
+mod spare;
 
 pub use adding::append;
-pub use creating::create;
+pub use creating::{create, is_unmade};
 pub use error::{AppendError, CreateError, OpenError};
-pub use laws::a_file_shows_one_history;
+pub use laws::{
+    a_file_shows_one_history, a_history_is_opened, a_run_of_calls_loses_nothing,
+    no_acknowledged_step_is_lost, what_is_unmade_shows_nothing,
+};
 pub use ledger::{Ledger, Recorded};
 pub use opening::{open, read_all};
 pub use reading::read_journal;

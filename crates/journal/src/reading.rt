@@ -15,6 +15,7 @@ use crate::error::OpenError;
 use crate::header::{read_header, read_magic};
 use crate::ledger::{Ledger, Recorded};
 use crate::payload::read_payload;
+use crate::spare::WithSpare;
 use rules::TEXT_BYTES;
 use status::{ApplyError, Database, StatusError};
 use std::alloc::{AllocError, Global};
@@ -56,7 +57,11 @@ fn split_record(rest: &[u8]) -> Option<(u8, &[u8], &[u8])>
 }
 
 // Takes a recorded step again. Answers whether it can be taken.
-fn redo(alloc: Global, database: &mut Database, recorded: &Recorded<'_>) -> Result<bool, AllocError>
+fn redo(
+    alloc: Global,
+    database: &mut WithSpare,
+    recorded: &Recorded<'_>,
+) -> Result<bool, AllocError>
     ensures taken { IfOk result (λ done. IsTrue done → IsApplicable database.old.arch recorded.now database.old.slots
         × (database.new ≡ record database.old { slots = slots_left database.old.arch recorded.now database.old.slots })) }
     ensures not_taken { IfOk result (λ done. IsFalse done → ¬ IsApplicable database.old.arch recorded.now database.old.slots) }
@@ -71,7 +76,7 @@ fn redo(alloc: Global, database: &mut Database, recorded: &Recorded<'_>) -> Resu
 // Takes the step of the record behind an open gate, if there is such a record.
 fn take_record<'a>(
     alloc: Global,
-    database: &mut Database,
+    database: &mut WithSpare,
     rest: &'a [u8],
 ) -> Result<Option<Taken<'a>>, AllocError>
     requires { (tail : List ℕ) → ¬ (rest.now ≡ 0 ∷ tail) }

@@ -1,9 +1,12 @@
 -- With which status the program ends: 0 yes, 1 no, 2 undecided, 3 refused, 4 wrong words, 5 device or memory (this project's own).
 use Rattle.std.specs.Prelude.{ℕ, Bool, List, Option, is_some, if◌then◌else◌}
 use Rattle.std.specs.List.{list_all}
-use Rattle.apply.specs.declared.error.BeginError.TheVariants.{NotCreated, NotOpened}
-use Rattle.apply_engine.specs.declared.fault.JournalFault.{JournalFault}
-use Rattle.apply_engine.specs.declared.fault.JournalFault.TheVariants as journal
+use Rattle.apply.specs.declared.error.BeginError.{BeginError}
+use Rattle.apply.specs.declared.error.BeginError.TheVariants.{NotCreated, NotRead}
+use Rattle.apply.specs.declared.error.CatchUpError.{CatchUpError}
+use Rattle.apply.specs.declared.error.CatchUpError.TheVariants as catching
+use Rattle.apply.specs.declared.error.RunError.{RunError}
+use Rattle.apply.specs.declared.error.RunError.TheVariants.{NotOpened, NotFinished}
 use Rattle.outcomes.specs.declared.exit.Exit.{Exit}
 use Rattle.outcomes.specs.declared.exit.Exit.TheVariants as exit
 use Rattle.inputs.specs.declared.refusal.Fault.{Fault}
@@ -85,13 +88,21 @@ exit_of_open_error opening.NotAJournal = exit.Refused
 exit_of_open_error (opening.Damaged offset) = exit.Refused
 exit_of_open_error opening.OtherArchitecture = exit.Refused
 
--- so it is of one by which a plan isn't carried out
-abbrev pub exit_of_journal_fault : JournalFault → Exit
-exit_of_journal_fault (journal.NotBegun (NotCreated e)) = exit_of_create_error e
-exit_of_journal_fault (journal.NotBegun (NotOpened e)) = exit_of_open_error e
-exit_of_journal_fault journal.OutOfMemory = exit.Device
-exit_of_journal_fault journal.TooLarge = exit.Refused
-exit_of_journal_fault journal.Disk = exit.Device
-exit_of_journal_fault journal.Reopen = exit.Refused
-exit_of_journal_fault (journal.NotApplicable name) = exit.Refused
-exit_of_journal_fault journal.Mismatch = exit.Refused
+-- so it is where there is no journal for a plan
+abbrev pub exit_of_begin_error : BeginError → Exit
+exit_of_begin_error (NotRead e) = exit_of_open_error e
+exit_of_begin_error (NotCreated e) = exit_of_create_error e
+
+-- so it is of a plan that isn't taken to its end
+abbrev pub exit_of_catch_up_error : CatchUpError → Exit
+exit_of_catch_up_error catching.OutOfMemory = exit.Device
+exit_of_catch_up_error catching.TooLarge = exit.Refused
+exit_of_catch_up_error catching.Disk = exit.Device
+exit_of_catch_up_error catching.Reopen = exit.Refused
+exit_of_catch_up_error (catching.NotApplicable name) = exit.Refused
+exit_of_catch_up_error catching.Mismatch = exit.Refused
+
+-- so it is of a plan that its journal doesn't carry out
+abbrev pub exit_of_run_error : RunError → Exit
+exit_of_run_error (NotOpened e) = exit_of_open_error e
+exit_of_run_error (NotFinished taken cause) = exit_of_catch_up_error cause

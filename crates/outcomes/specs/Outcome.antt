@@ -1,12 +1,13 @@
 -- What the program prints, and how it ends, by its answer.
 use Rattle.std.specs.Prelude.{◌≡◌, ◌≢◌, ◌⊎◌, ℕ, Bool, List, ◌++◌, codes, Option, Result, Ok, Err}
 use Rattle.std.specs.Io.KnownBytes.{Appends}
-use Rattle.apply_engine.specs.declared.fault.JournalFault.{JournalFault}
+use Rattle.apply.specs.declared.error.BeginError.{BeginError}
+use Rattle.apply.specs.declared.error.RunError.{RunError}
 use Rattle.candidates.specs.Offer.{Offer}
 use Rattle.clap.specs.declared.error.kind.ErrorKind.{ErrorKind}
 use Rattle.clap.specs.declared.error.kind.ErrorKind.TheVariants as kind
 use Rattle.outcomes.specs.Answer.{candidate_lines, comparison_line, refutation_line, solved_text, verdict_line}
-use Rattle.outcomes.specs.Exit.{code_of, exit_of_candidates, exit_of_comparison, exit_of_fault, exit_of_journal_fault, exit_of_refutation, exit_of_solved, exit_of_verdict}
+use Rattle.outcomes.specs.Exit.{code_of, exit_of_begin_error, exit_of_candidates, exit_of_comparison, exit_of_fault, exit_of_refutation, exit_of_run_error, exit_of_solved, exit_of_verdict}
 use Rattle.outcomes.specs.declared.exit.Exit.TheVariants as exit
 use Rattle.outcomes.specs.declared.outcome.Outcome.{Outcome}
 use Rattle.outcomes.specs.declared.outcome.Outcome.TheVariants as outcome
@@ -53,10 +54,17 @@ IsOutcomeOfCandidates names (Ok candidates) found =
     found ≡ outcome.Answer (candidate_lines names candidates) (exit_of_candidates candidates)
 IsOutcomeOfCandidates names (Err refusal) found = IsOutcomeOfRefusal refusal found
 
--- the outcome is that of a plan that the journal didn't carry out for this
-abbrev pub IsOutcomeOfStopped : JournalFault → Outcome → Type 0
-IsOutcomeOfStopped fault found =
-    (line : List ℕ) × (found ≡ outcome.Complaint line (exit_of_journal_fault fault)) × IsComplaint line
+-- the outcome is that of a plan for which no journal is made, for this
+abbrev pub IsOutcomeOfUnbegun : BeginError → Outcome → Type 0
+IsOutcomeOfUnbegun e found = (line : List ℕ) × (found ≡ outcome.Complaint line (exit_of_begin_error e)) × IsComplaint line
+
+-- the outcome is that of a plan that its journal didn't carry out for this
+abbrev pub IsOutcomeOfStopped : RunError → Outcome → Type 0
+IsOutcomeOfStopped e found = (line : List ℕ) × (found ≡ outcome.Complaint line (exit_of_run_error e)) × IsComplaint line
+
+-- the outcome is that of words that name one file in two places
+abbrev pub IsOutcomeOfOneFile : Outcome → Type 0
+IsOutcomeOfOneFile found = (line : List ℕ) × (found ≡ outcome.Complaint line exit.Usage) × IsComplaint line
 
 -- the output couldn't be written (E26)
 abbrev pub IsUnwritten : Outcome → Type 0

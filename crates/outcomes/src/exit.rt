@@ -3,8 +3,7 @@ ghost use Rattle.std.specs.Prelude.{◌≡◌, is_some};
 ghost use Rattle.std.specs.List.{list_all};
 ghost use Rattle.outcomes.specs.Exit as Spec;
 
-use apply::BeginError;
-use apply_engine::JournalFault;
+use apply::{BeginError, CatchUpError, RunError};
 use cli_engine::{Candidate, Fault, Refusal, RefutationVerdict, Solved};
 use journal::{CreateError, OpenError};
 use rules::Verdict;
@@ -107,16 +106,26 @@ pub fn exit_of_refusal(refusal: &Refusal) -> Exit
     }
 }
 
-/// How the program ends with this fault of the journal by which a plan is carried out: its device and memory (E1, E20) have a status
-/// of their own.
-pub fn exit_of_journal_fault(fault: &JournalFault) -> Exit
-    ensures { result ≡ Spec.exit_of_journal_fault fault.now }
+/// How the program ends where no journal is made for this: its device and memory (E1, E20) have a status of their own.
+pub fn exit_of_begin_error(e: BeginError) -> Exit
+    ensures { result ≡ Spec.exit_of_begin_error e }
 {
-    match fault {
-        JournalFault::NotBegun(BeginError::NotCreated(e)) => exit_of_create_error(*e),
-        JournalFault::NotBegun(BeginError::NotOpened(e)) => exit_of_open_error(*e),
-        JournalFault::OutOfMemory | JournalFault::Disk => Exit::Device,
-        _ => Exit::Refused,
+    match e {
+        BeginError::NotRead(e) => exit_of_open_error(e),
+        BeginError::NotCreated(e) => exit_of_create_error(e),
+    }
+}
+
+/// How the program ends where a plan isn't carried out by its journal for this, likewise.
+pub fn exit_of_run_error(e: &RunError<'_>) -> Exit
+    ensures { result ≡ Spec.exit_of_run_error e.now }
+{
+    match e {
+        RunError::NotOpened(e) => exit_of_open_error(*e),
+        RunError::NotFinished { cause, .. } => match cause {
+            CatchUpError::OutOfMemory | CatchUpError::Disk => Exit::Device,
+            _ => Exit::Refused,
+        },
     }
 }
 

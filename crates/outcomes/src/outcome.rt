@@ -3,7 +3,7 @@ ghost use Rattle.std.specs.Prelude.{◌≡◌, ◌≢◌, IfOk, map};
 ghost use Rattle.clap.specs.Values.{kind_of};
 ghost use Rattle.outcomes.specs.Answer.{applied_line, solved_text, verdict_line};
 ghost use Rattle.outcomes.specs.Exit.{exit_of_solved, exit_of_verdict};
-ghost use Rattle.outcomes.specs.Outcome.{IsComplaint, IsOutcomeIn, IsOutcomeOfCandidates, IsOutcomeOfComparison, IsOutcomeOfKind, IsOutcomeOfPlan, IsOutcomeOfRefusal, IsOutcomeOfRefutation, IsOutcomeOfSolved, IsOutcomeOfStopped, IsPrintedAs, IsRequestUnwritten, IsUnwritten};
+ghost use Rattle.outcomes.specs.Outcome.{IsComplaint, IsOutcomeIn, IsOutcomeOfCandidates, IsOutcomeOfComparison, IsOutcomeOfKind, IsOutcomeOfOneFile, IsOutcomeOfPlan, IsOutcomeOfRefusal, IsOutcomeOfRefutation, IsOutcomeOfSolved, IsOutcomeOfStopped, IsOutcomeOfUnbegun, IsPrintedAs, IsRequestUnwritten, IsUnwritten};
 ghost use Rattle.outcomes.specs.declared.exit.Exit.TheVariants as exit;
 ghost use Rattle.outcomes.specs.declared.outcome.Outcome.TheVariants as printed;
 
@@ -11,11 +11,10 @@ use crate::answer::{
     applied_line, candidate_lines, comparison_line, refutation_line, solved_text, verdict_line,
 };
 use crate::exit::{
-    Exit, exit_of_candidates, exit_of_comparison, exit_of_journal_fault, exit_of_refusal,
-    exit_of_refutation, exit_of_solved, exit_of_verdict,
+    Exit, exit_of_begin_error, exit_of_candidates, exit_of_comparison, exit_of_refusal,
+    exit_of_refutation, exit_of_run_error, exit_of_solved, exit_of_verdict,
 };
-use apply::BeginError;
-use apply_engine::JournalFault;
+use apply::{BeginError, CatchUpError, RunError};
 use clap::Error;
 use clap::error::ErrorKind;
 use cli_engine::{Answered, Candidate, JudgedPlan, JudgedRefutation, Refusal};
@@ -179,18 +178,49 @@ fn refusal_line(alloc: Global, refusal: &Refusal) -> Result<Vec<u8>, AllocError>
     Ok(format!(in alloc; "debplan: {refusal}\n")?.into_bytes())
 }
 
-/// What is printed of a plan that the journal didn't carry out for this. Where memory was wanting, that fails here. Memory alone can
-/// fail.
-pub fn outcome_of_stopped(alloc: Global, fault: &JournalFault) -> Result<Outcome, AllocError>
-    ensures { IfOk result (λ outcome. IsOutcomeOfStopped fault.now outcome) }
+/// What is printed of a plan for which no journal is made, for this. Where memory was wanting, that fails here. Memory alone can fail.
+pub fn outcome_of_unbegun(alloc: Global, e: BeginError) -> Result<Outcome, AllocError>
+    ensures { IfOk result (IsOutcomeOfUnbegun e) }
 {
-    if is_for_memory(fault) {
+    match e {
+        BeginError::NotRead(OpenError::OutOfMemory)
+        | BeginError::NotCreated(CreateError::OutOfMemory) => Err(AllocError),
+        _ => {
+            let said = e.to_string(alloc)?;
+            let line = complaint_of(alloc, "journal", said.as_str())?;
+            Ok(Outcome::Complaint(line, exit_of_begin_error(e)))
+        }
+    }
+}
+
+/// What is printed of a plan that its journal didn't carry out for this. Where memory was wanting, that fails here. Memory alone can
+/// fail.
+pub fn outcome_of_stopped(alloc: Global, e: &RunError<'_>) -> Result<Outcome, AllocError>
+    ensures { IfOk result (IsOutcomeOfStopped e.now) }
+{
+    if is_for_memory(e) {
         return Err(AllocError);
     }
-    let fault_text = fault.to_string(alloc)?;
-    let said = format!(in alloc; "journal: {fault_text}")?;
+    let said = e.to_string(alloc)?;
+    let line = complaint_of(alloc, "journal", said.as_str())?;
+    Ok(Outcome::Complaint(line, exit_of_run_error(e)))
+}
+
+// The line that this is said of a place.
+fn complaint_of(alloc: Global, place: &str, said: &str) -> Result<Items<u8>, AllocError>
+    ensures { IfOk result (λ line. IsComplaint line) }
+{
+    let said = format!(in alloc; "{place}: {said}")?;
+    Ok(Items::new(format!(in alloc; "debplan: {said}\n")?.into_bytes()))
+}
+
+/// What is printed of words that name one file in these two places. Memory alone can fail.
+pub fn outcome_of_one_file(alloc: Global, first: &str, other: &str) -> Result<Outcome, AllocError>
+    ensures { IfOk result IsOutcomeOfOneFile }
+{
+    let said = format!(in alloc; "{first} and {other} are one file")?;
     let line = Items::new(format!(in alloc; "debplan: {said}\n")?.into_bytes());
-    Ok(Outcome::Complaint(line, exit_of_journal_fault(fault)))
+    Ok(Outcome::Complaint(line, Exit::Usage))
 }
 
 /// What is printed of an output that couldn't be written. Memory alone can fail.
@@ -218,12 +248,10 @@ pub fn outcome_of_steps(alloc: Global, steps: usize) -> Result<Outcome, AllocErr
 }
 
 // Whether memory was wanting for the journal: then it isn't refused.
-fn is_for_memory(fault: &JournalFault) -> bool {
-    match fault {
-        JournalFault::OutOfMemory => true,
-        JournalFault::NotBegun(BeginError::NotCreated(e)) => *e == CreateError::OutOfMemory,
-        JournalFault::NotBegun(BeginError::NotOpened(e)) => *e == OpenError::OutOfMemory,
-        _ => false,
+fn is_for_memory(e: &RunError<'_>) -> bool {
+    match e {
+        RunError::NotOpened(e) => *e == OpenError::OutOfMemory,
+        RunError::NotFinished { cause, .. } => matches!(cause, CatchUpError::OutOfMemory),
     }
 }
 

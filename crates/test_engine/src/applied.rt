@@ -1,6 +1,6 @@
 //! Plans that are applied by texts in memory. The wanted answers and texts are made by hand after docs/FORMATS.md.
 use crate::watched::Watched;
-use apply_engine::{Applied, Apply};
+use apply_engine::{GoodPlan, Prepare, Prepared};
 use cli_engine::{Refusal, Rule, Verdict};
 use disk::{Failing, Fuse, MemoryDisk};
 use inputs::{Inputs, MemoryShelf, Settings, Shelf, ask};
@@ -15,18 +15,34 @@ const PLAN: &[u8] = b"plan 1\nunpack bar 1.0\nunpack foo 1.0\nconfigure bar\ncon
 const END: &[u8] =
     b"Package: bar\nStatus: install ok installed\nVersion: 1.0\nArchitecture: all\n\nPackage: foo\nStatus: install ok installed\nVersion: 1.0\nArchitecture: all\nDepends: bar\n\n";
 
-// What is printed of the answer, but for a plan that isn't good, and the text of the status file.
-fn shown(alloc: Global, answer: Result<Applied, Refusal>) -> Result<(String, Vec<u8>), AllocError> {
+// What is printed of a plan that is carried out on the disk, and the text of the status file.
+fn carried_out(
+    alloc: Global,
+    plan: &GoodPlan,
+    disk: &mut MemoryDisk,
+) -> Result<(String, Vec<u8>), AllocError> {
+    match plan.begin(alloc, disk) {
+        Ok(()) => {}
+        Err(e) => return Ok((format!(in alloc; "journal: {e}")?, Vec::new(alloc))),
+    }
+    match plan.go_on(alloc, disk) {
+        Ok(done) => Ok((format!(in alloc; "applied {}", done.steps)?, done.status)),
+        Err(e) => Ok((format!(in alloc; "journal: {e}")?, Vec::new(alloc))),
+    }
+}
+
+// What is printed of the answer, and of the plan where it is good, and the text of the status file.
+fn shown(
+    alloc: Global,
+    answer: Result<Prepared, Refusal>,
+    disk: &mut MemoryDisk,
+) -> Result<(String, Vec<u8>), AllocError> {
     match answer {
-        Ok(Applied::Done(done)) => Ok((format!(in alloc; "applied {}", done.steps)?, done.status)),
-        Ok(Applied::Judged(Verdict::Step(3, Rule::Depends))) => {
+        Ok(Prepared::Ready(plan)) => carried_out(alloc, &plan, disk),
+        Ok(Prepared::Judged(Verdict::Step(3, Rule::Depends))) => {
             Ok((format!(in alloc; "no step 3 F4")?, Vec::new(alloc)))
         }
-        Ok(Applied::Judged(_)) => Ok((format!(in alloc; "no")?, Vec::new(alloc))),
-        Ok(Applied::Stopped(fault)) => Ok((
-            format!(in alloc; "journal: {fault}")?,
-            Vec::new(alloc),
-        )),
+        Ok(Prepared::Judged(_)) => Ok((format!(in alloc; "no")?, Vec::new(alloc))),
         Err(refused) => Ok((format!(in alloc; "{refused}")?, Vec::new(alloc))),
     }
 }
@@ -41,8 +57,8 @@ fn applied<S: Shelf>(
         arch: b"amd64",
         target: None,
     };
-    let answer = ask(alloc, shelf, &settings, &Apply::new(), disk);
-    shown(alloc, answer)
+    let answer = ask(alloc, shelf, &settings, &Prepare {}, &mut ());
+    shown(alloc, answer, disk)
 }
 
 // The same of a plan of the request to install foo.
@@ -113,8 +129,9 @@ fn a_plan_that_is_not_good_leaves_the_disk_alone(rt: HostRuntime) -> Result<(), 
 #[test]
 fn a_failing_call_is_gone_on_from(rt: HostRuntime) -> Result<(), Fail> {
     let alloc = rt.alloc();
-    // The length and the bytes are read, three calls create the journal, and four add each step.
-    for calls in 2..21usize {
+    // The length and the bytes are read, seven calls create the journal; both are read again, a sync opens it, and four calls add each
+    // step.
+    for calls in 0..28usize {
         let fuse = Fuse {
             calls,
             lasting: true,
@@ -125,10 +142,8 @@ fn a_failing_call_is_gone_on_from(rt: HostRuntime) -> Result<(), Fail> {
         assert_eq!(rt; answer.as_str(), "journal: E20 Disk", "at {calls}");
         let mut next = MemoryDisk::new(alloc, disk.bytes().to_vec(alloc)?);
         let (again, status) = installed(alloc, &mut next, b"", PLAN)?;
-        if calls > 4 {
-            assert_eq!(rt; again.as_str(), "applied 4", "at {calls}");
-            assert!(rt; status.as_slice() == END, "at {calls}");
-        }
+        assert_eq!(rt; again.as_str(), "applied 4", "at {calls}");
+        assert!(rt; status.as_slice() == END, "at {calls}");
     }
     Ok(())
 }

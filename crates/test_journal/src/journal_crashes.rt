@@ -67,17 +67,17 @@ fn are_kept(alloc: Global, disk: &MemoryDisk, count: usize) -> Result<bool, Allo
 #[test]
 fn each_failing_call_leaves_what_was_acknowledged(rt: HostRuntime) -> Result<(), Fail> {
     let alloc = rt.alloc();
-    // Three calls create it, and four add a step.
-    for call in 0..12usize {
+    // Seven calls create it, and four add a step.
+    for call in 0..16usize {
         for fuse in fuses_of(call) {
             let mut disk = MemoryDisk::with_fuse(alloc, Vec::new(alloc), fuse);
             match acknowledged(alloc, &mut disk)? {
                 Some(count) => {
-                    assert!(rt; call >= 3 && are_kept(alloc, &disk, count)?, "at {call}");
+                    assert!(rt; call >= 7 && are_kept(alloc, &disk, count)?, "at {call}");
                     // Behind a failing call of the first step none is added, and a failing call of the second leaves one.
-                    assert_eq!(rt; count, (call - 3) / 4, "at {call}");
+                    assert_eq!(rt; count, (call - 7) / 4, "at {call}");
                 }
-                None => assert!(rt; call < 3, "at {call}"),
+                None => assert!(rt; call < 7, "at {call}"),
             }
         }
     }

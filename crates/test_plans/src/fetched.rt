@@ -2,13 +2,13 @@
 //! what comes of it, and what is there after it: of each pair the bytes of its stanza, or `-`, with `|` behind each, and `whole`
 //! where those of all were fetched. `$` stands for a newline. The rows act on one value, one after the other.
 use crate::devices::{Broken, Few};
-use fetch::{FetchError, FetchedStanzas};
 use index::{Index, KeptIndex};
 use pins::Prefs;
 use rules::{Release, Text};
 use std::alloc::{AllocError, Global};
 use universe::Universe;
 use universe_build::build;
+use unpack_texts::{FetchError, FetchedStanzas};
 
 const ARCH: &[u8] = b"amd64";
 

@@ -4,10 +4,10 @@
 ghost use Rattle.std.specs.List.Sorted.{IsNonDecreasingBy};
 
 use crate::devices::{Broken, Few};
-use fetch::{FetchError, fetch, in_order};
 use index::{Index, IndexEntry, KeptIndex};
 use rules::{Release, Text};
 use std::alloc::{AllocError, Global};
+use unpack_texts::{FetchError, fetch, in_order};
 
 const ARCH: &[u8] = b"amd64";
 

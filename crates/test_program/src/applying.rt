@@ -86,10 +86,10 @@ fn refused_calls(alloc: Global, lasting: bool) -> Result<usize, Fail> {
     Err("no call of the journal is the last".into())
 }
 
-// Two calls read the file, three make it a journal, and four add each of four steps.
+// Two calls read the file and seven make it a journal, two read it again and one opens it, and four add each of four steps.
 #[test]
 fn each_call_of_the_journal_that_fails_is_refused(rt: HostRuntime) -> Result<(), Fail> {
-    assert!(rt; refused_calls(rt.alloc(), false)? == 21);
-    assert!(rt; refused_calls(rt.alloc(), true)? == 21);
+    assert!(rt; refused_calls(rt.alloc(), false)? == 28);
+    assert!(rt; refused_calls(rt.alloc(), true)? == 28);
     Ok(())
 }

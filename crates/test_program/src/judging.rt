@@ -5,7 +5,10 @@ ghost use Rattle.inputs.specs.declared.shelf.ReadError.TheVariants as ReadError;
 
 use crate::memory::Memory;
 use crate::scenario::add_plan;
-use cli::{Host, HostShelf, Paths, PutError, ReadError, Settings, Source, TextAt, ask_files};
+use cli::{
+    Host, HostShelf, Openings, Paths, PutError, ReadError, Settings, Source, TextAt, Turn,
+    ask_files,
+};
 use cli_engine::{Candidate, Candidates, CheckPlan, Fault, Input, JudgedPlan, Notes, Refusal};
 use disk::MemoryDisk;
 use outcomes::{
@@ -50,7 +53,7 @@ impl<'a> Host for OneFile<'a> {
         self.failures
     }
 
-    fn read(&mut self, alloc: Global, path: &[u8]) -> Result<Vec<u8>, ReadError> {
+    fn read(&mut self, alloc: Global, path: &[u8], _turn: Turn) -> Result<Vec<u8>, ReadError> {
         if path != self.path {
             return Err(self.missing());
         }
@@ -60,7 +63,7 @@ impl<'a> Host for OneFile<'a> {
         }
     }
 
-    fn open(&mut self, _alloc: Global, path: &[u8]) -> Result<&'a [u8], ReadError> {
+    fn open(&mut self, _alloc: Global, path: &[u8], _turn: Turn) -> Result<&'a [u8], ReadError> {
         if path != self.path {
             return Err(self.missing());
         }
@@ -73,6 +76,23 @@ impl<'a> Host for OneFile<'a> {
 
     fn journal(&mut self, alloc: Global, _path: &[u8]) -> Result<MemoryDisk, AllocError> {
         Ok(MemoryDisk::new(alloc, Vec::new(alloc)))
+    }
+
+    fn give_back(&mut self, _path: &[u8], _journal: MemoryDisk) {}
+
+    fn finish(
+        &mut self,
+        alloc: Global,
+        _at: &[u8],
+        _journal: MemoryDisk,
+        path: &[u8],
+        text: &[u8],
+    ) -> Result<(), PutError> {
+        self.put(alloc, path, text)
+    }
+
+    fn is_same_file(&self, left: &[u8], right: &[u8]) -> bool {
+        left == right
     }
 
     fn put(&mut self, _alloc: Global, _path: &[u8], _text: &[u8]) -> Result<(), PutError> {
@@ -99,6 +119,7 @@ fn judged<H: Host>(alloc: Global, host: &mut H) -> Result<JudgedPlan, Refusal> {
         host,
         paths: PATHS,
         seen: None,
+        openings: Openings::none(),
     };
     let mut notes = Notes::new(alloc);
     ask_files(alloc, &mut shelf, &SETTINGS, &CheckPlan {}, &mut notes)
@@ -197,6 +218,7 @@ fn answer_of_foo(alloc: Global) -> Result<Result<Items<Option<Candidate>>, Refus
         host: &mut host,
         paths: PATHS,
         seen: None,
+        openings: Openings::none(),
     };
     let question = Candidates {
         names: NAMES.as_slice(),

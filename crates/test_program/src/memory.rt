@@ -3,7 +3,7 @@ ghost use Rattle.std.specs.Prelude.{◌≡◌, IfErr};
 ghost use Rattle.inputs.specs.Counting.{Counts};
 ghost use Rattle.inputs.specs.declared.shelf.ReadError.TheVariants as ReadError;
 
-use cli::{Host, PutError, ReadError, ReadFailed, Source, run};
+use cli::{Host, PutError, ReadError, ReadFailed, Source, Turn, run};
 use disk::{Fuse, MemoryDisk};
 use std::alloc::{AllocError, Global};
 use std::test::Fail;
@@ -145,15 +145,15 @@ impl Host for Memory<'_> {
         self.failures
     }
 
-    fn read(&mut self, alloc: Global, path: &[u8]) -> Result<Vec<u8>, ReadError> {
+    fn read(&mut self, alloc: Global, path: &[u8], _turn: Turn) -> Result<Vec<u8>, ReadError> {
         match self.note(path) {
             Ok(()) => self.copy_at(alloc, path),
             Err(AllocError) => Err(ReadError::OutOfMemory),
         }
     }
 
-    fn open(&mut self, alloc: Global, path: &[u8]) -> Result<Opened, ReadError> {
-        let text = self.read(alloc, path)?;
+    fn open(&mut self, alloc: Global, path: &[u8], turn: Turn) -> Result<Opened, ReadError> {
+        let text = self.read(alloc, path, turn)?;
         Ok(Opened { text, taken: 0 })
     }
 
@@ -166,6 +166,23 @@ impl Host for Memory<'_> {
             Some(fuse) => MemoryDisk::with_fuse(alloc, Vec::new(alloc), fuse),
             None => MemoryDisk::new(alloc, Vec::new(alloc)),
         })
+    }
+
+    fn give_back(&mut self, _path: &[u8], _journal: MemoryDisk) {}
+
+    fn finish(
+        &mut self,
+        alloc: Global,
+        _at: &[u8],
+        _journal: MemoryDisk,
+        path: &[u8],
+        text: &[u8],
+    ) -> Result<(), PutError> {
+        self.put(alloc, path, text)
+    }
+
+    fn is_same_file(&self, left: &[u8], right: &[u8]) -> bool {
+        left == right
     }
 
     fn put(&mut self, alloc: Global, _path: &[u8], text: &[u8]) -> Result<(), PutError> {

@@ -1,7 +1,7 @@
 //! Failures to write, and failures to read, of a file and for want of memory.
 use crate::memory::{Memory, copied, words_in};
 use crate::scenario::{CHECK_PLAN, add_plan};
-use cli::{Host, PutError, ReadError, ReadFailed, Source, refuse_for_memory, run};
+use cli::{Host, PutError, ReadError, ReadFailed, Source, Turn, refuse_for_memory, run};
 use disk::MemoryDisk;
 use std::alloc::{AllocError, Global};
 use std::io;
@@ -142,11 +142,16 @@ impl Host for Exhausted {
         0
     }
 
-    fn read(&mut self, _alloc: Global, _path: &[u8]) -> Result<Vec<u8>, ReadError> {
+    fn read(&mut self, _alloc: Global, _path: &[u8], _turn: Turn) -> Result<Vec<u8>, ReadError> {
         Err(ReadError::OutOfMemory)
     }
 
-    fn open(&mut self, _alloc: Global, _path: &[u8]) -> Result<&'static [u8], ReadError> {
+    fn open(
+        &mut self,
+        _alloc: Global,
+        _path: &[u8],
+        _turn: Turn,
+    ) -> Result<&'static [u8], ReadError> {
         Err(ReadError::OutOfMemory)
     }
 
@@ -154,6 +159,23 @@ impl Host for Exhausted {
 
     fn journal(&mut self, _alloc: Global, _path: &[u8]) -> Result<MemoryDisk, AllocError> {
         Err(AllocError)
+    }
+
+    fn give_back(&mut self, _path: &[u8], _journal: MemoryDisk) {}
+
+    fn finish(
+        &mut self,
+        alloc: Global,
+        _at: &[u8],
+        _journal: MemoryDisk,
+        path: &[u8],
+        text: &[u8],
+    ) -> Result<(), PutError> {
+        self.put(alloc, path, text)
+    }
+
+    fn is_same_file(&self, left: &[u8], right: &[u8]) -> bool {
+        left == right
     }
 
     fn put(&mut self, _alloc: Global, _path: &[u8], _text: &[u8]) -> Result<(), PutError> {
@@ -213,7 +235,7 @@ impl Host for Worn {
         self.failures
     }
 
-    fn read(&mut self, alloc: Global, path: &[u8]) -> Result<Vec<u8>, ReadError> {
+    fn read(&mut self, alloc: Global, path: &[u8], _turn: Turn) -> Result<Vec<u8>, ReadError> {
         if path == b"sources".as_slice() {
             copied(alloc, b"File: index\n")
         } else {
@@ -221,7 +243,7 @@ impl Host for Worn {
         }
     }
 
-    fn open(&mut self, _alloc: Global, _path: &[u8]) -> Result<Broken, ReadError> {
+    fn open(&mut self, _alloc: Global, _path: &[u8], _turn: Turn) -> Result<Broken, ReadError> {
         Ok(Broken { failures: 0 })
     }
 
@@ -231,6 +253,23 @@ impl Host for Worn {
 
     fn journal(&mut self, alloc: Global, _path: &[u8]) -> Result<MemoryDisk, AllocError> {
         Ok(MemoryDisk::new(alloc, Vec::new(alloc)))
+    }
+
+    fn give_back(&mut self, _path: &[u8], _journal: MemoryDisk) {}
+
+    fn finish(
+        &mut self,
+        alloc: Global,
+        _at: &[u8],
+        _journal: MemoryDisk,
+        path: &[u8],
+        text: &[u8],
+    ) -> Result<(), PutError> {
+        self.put(alloc, path, text)
+    }
+
+    fn is_same_file(&self, left: &[u8], right: &[u8]) -> bool {
+        left == right
     }
 
     fn put(&mut self, _alloc: Global, _path: &[u8], _text: &[u8]) -> Result<(), PutError> {

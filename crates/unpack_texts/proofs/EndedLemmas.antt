@@ -1,8 +1,8 @@
 -- Texts that were fetched, each with a newline at its end.
 use Rattle.std.proofs.Common.{ℕ, List, [], ◌∷◌, Vec, Global, map, refl}
 use Rattle.std.specs.List.{AllZip}
-use Rattle.fetch.specs.Fetched.{IsFetched, Items}
 use Rattle.rules.specs.Step.{IndexPackage}
+use Rattle.unpack_texts.specs.Fetched.{IsFetched, Items}
 use Rattle.unpack_texts.specs.Texts.{IsEnded, ended}
 
 -- a text that is fetched for each package is one that ends with a newline, once one is added where it is missing

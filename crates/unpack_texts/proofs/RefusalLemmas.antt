@@ -8,11 +8,11 @@ use Rattle.rules.specs.ElementLaws.{Any-contains, Any-intro, Contains-head, Cont
 use Rattle.rules.specs.Step.{IndexPackage}
 use Rattle.rules.specs.Universe.{Universe}
 use Rattle.rules.specs.declared.step.Step.{Step}
-use Rattle.fetch.specs.Fetched.{IsChanged, IsFetched, IsGone, items_in}
 use Rattle.inputs.specs.Texts.{Found}
 use Rattle.inputs.specs.declared.refusal.Fault.TheVariants as fault
 use Rattle.inputs.specs.declared.refusal.Input.TheVariants as place
 use Rattle.inputs.specs.declared.refusal.Refusal.{Refusal}
+use Rattle.unpack_texts.specs.Fetched.{IsChanged, IsFetched, IsGone, items_in}
 use Rattle.unpack_texts.specs.Opened.{IsGroupRefusal, IsOpenedFault}
 use Rattle.unpack_texts.specs.Texts.{IsGoneFrom, IsStanzaRefusal, IsTextsRefusal, opened}
 use Rattle.unpack_texts.specs.Wanted.{AreOfIndex, AreWanted, IsWanted, WantedStanza}

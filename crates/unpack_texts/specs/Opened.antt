@@ -1,13 +1,13 @@
 -- What is refused of the second opening of an index.
 use Rattle.std.specs.Prelude.{◌≡◌, ◌⊎◌, ℕ, List, Some, None}
 use Rattle.std.specs.List.{Any}
-use Rattle.fetch.specs.Fetched.{IsChanged, items_in}
 use Rattle.inputs.specs.Reading.{out_of_memory}
 use Rattle.inputs.specs.Texts.{Found}
 use Rattle.inputs.specs.declared.refusal.Fault.TheVariants as fault
 use Rattle.inputs.specs.declared.refusal.Input.TheVariants as place
 use Rattle.inputs.specs.declared.refusal.Refusal.{Refusal}
 use Rattle.rules.specs.Step.{IndexPackage}
+use Rattle.unpack_texts.specs.Fetched.{IsChanged, items_in}
 use Rattle.unpack_texts.specs.Texts.{IsStanzaRefusal, IsTextOf}
 use Rattle.unpack_texts.specs.Wanted.{WantedStanza}
 

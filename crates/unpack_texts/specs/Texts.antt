@@ -2,7 +2,6 @@
 use Rattle.std.specs.Prelude.{◌≡◌, ◌⊎◌, ◌==◌, ◌++◌, ◌∷◌, [], ℕ, List, Option, Some, None, MatchOption, if◌then◌else◌}
 use Rattle.std.specs.List.{AllZip, ends_with}
 use Rattle.std.specs.Option.{option_and_then}
-use Rattle.fetch.specs.Fetched.{IsFetched, Items, items_in}
 use Rattle.inputs.specs.Reading.{out_of_memory}
 use Rattle.inputs.specs.Texts.{Found}
 use Rattle.inputs.specs.declared.refusal.Fault.TheVariants as fault
@@ -12,6 +11,7 @@ use Rattle.rules.specs.Step.{IndexPackage}
 use Rattle.rules.specs.Universe.{Universe, listed_for}
 use Rattle.rules.specs.declared.step.Step.{Step}
 use Rattle.universe_parts.specs.Parts.{numbered}
+use Rattle.unpack_texts.specs.Fetched.{IsFetched, Items, items_in}
 use Rattle.unpack_texts.specs.Wanted.{Unpacks}
 use Rattle.unpack_texts.specs.declared.ending.TheConstants.{NEWLINE}
 

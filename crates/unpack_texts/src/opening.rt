@@ -2,14 +2,15 @@
 ghost use Rattle.std.specs.Prelude.{◌≡◌, IfErr, IfOk, List, Some, length, map, ℕ};
 ghost use Rattle.std.specs.List.{AllZip};
 ghost use Rattle.std.specs.List.Sorted.{IsNonDecreasingBy};
-ghost use Rattle.fetch.specs.Fetched.{items_in};
 ghost use Rattle.inputs.specs.Counting.{CountsRead};
 ghost use Rattle.inputs.specs.Texts.{Shelved};
+ghost use Rattle.unpack_texts.specs.Fetched.{items_in};
 ghost use Rattle.unpack_texts.specs.Opened.{IsOpenedFault};
 ghost use Rattle.unpack_texts.specs.Texts.{IsEnded};
 
 use crate::ending::all_ended;
-use fetch::{FetchError, fetch};
+use crate::error::FetchError;
+use crate::fetching::fetch;
 use index::IndexEntry;
 use inputs::{Fault, Input, Refusal, Shelf, open_index, refused_at};
 use std::alloc::{AllocError, Global};

@@ -3,6 +3,7 @@ use Rattle.status_text.specs.Slot.{Store}
 use Rattle.journal.specs.declared.ledger.Ledger.{Ledger}
 use Rattle.journal.specs.Adding.{recorded_of}
 use Rattle.journal.specs.History.{followed}
+use Rattle.journal.specs.Spare.{store_left}
 use Rattle.journal.specs.Payload.{Recorded}
 use Rattle.journal.specs.File.{front}
 use Rattle.journal.specs.Ledger.{history_of}
@@ -30,16 +31,17 @@ returns-in-Ok-clause-settled g c = λ honest settled.
     let new : Ledger = record {
       start = old.start;
       steps = c.push.new.self;
-      database = c.in_ok-prepared.prepared.database;
+      database = c.exchange.new.self;
       gate = old.gate + (5 + c.in_ok-prepared.prepared.len);
       broken = old.broken;
     } in
     let steps : new.steps.items ≡ old.steps.items ++ r ∷ [] = c.in_ok-push.ensures.items ∙ ap (λ (x : Recorded). old.steps.items ++ x ∷ []) p.kept in
+    let left : new.database ≡ store_left old.database r = c.exchange.ensures ∙ p.left in
     let history : history_of new ≡ followed (history_of old) r = λ i. record {
-      arch = ap (λ (db : Store). db.arch) p.left i;
+      arch = ap (λ (db : Store). db.arch) left i;
       start = old.start.now;
       steps = steps i;
-      slots = ap (λ (db : Store). db.slots) p.left i;
+      slots = ap (λ (db : Store). db.slots) left i;
     } in
     added old new r p.payload c.deref.result.now (g.D.Disk.facts c.args.disk.now) (g.D.Disk.facts c.commit.new.disk) settled p.says p.fits p.applicable
     (c.deref.ensures.value ∙ p.bytes) history (ap (λ n. old.gate + (5 + n)) p.size) refl

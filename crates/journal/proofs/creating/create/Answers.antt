@@ -1,7 +1,12 @@
 use Rattle.std.proofs.Common.{◌≡◌, ◌∙◌, ◌∷◌, [], ◌++◌, Some, length, sym, ap, subst, arith, refl, rules}
 use Rattle.disk.specs.Facts.{Synced}
 use Rattle.journal.proofs.CrashLemmas.{created}
+use Rattle.journal.proofs.HeaderLemmas.{image_size}
 use Rattle.journal.proofs.creating.create.Goals as goal
+
+pub replace-requires : goal.replace-requires
+replace-requires g c =
+    omega (arith, ap length c.deref.ensures.value, ap length c.in_ok-image.ensures, image_size c.args.arch.now c.args.start.now)
 
 pub returns-clause-settled : goal.returns-clause-settled
 returns-clause-settled g c = λ honest.

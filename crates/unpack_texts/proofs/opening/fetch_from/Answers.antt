@@ -2,7 +2,7 @@
 use Rattle.std.proofs.Common.{Bor, ℕ, List, map, sym, subst}
 use Rattle.std.specs.List.{AllZip}
 use Rattle.rules.specs.Step.{IndexPackage}
-use Rattle.fetch.specs.Fetched.{items_in}
+use Rattle.unpack_texts.specs.Fetched.{items_in}
 use Rattle.unpack_texts.specs.Texts.{IsEnded}
 use Rattle.unpack_texts.proofs.EndedLemmas.{are_ended}
 use Rattle.unpack_texts.proofs.opening.fetch_from.Goals as goal

@@ -8,9 +8,9 @@ use Rattle.std.proofs.lemmas.List.Elements.{All-head, All-tail}
 use Rattle.std.proofs.lemmas.List.Sorted.{All-permutation, IsPermutation-sym, length_permutation}
 use Rattle.std.proofs.lemmas.Result.{err_from_is_err_and}
 use Rattle.rules.specs.Step.{IndexPackage}
-use Rattle.fetch.specs.Fetched.{items_in}
 use Rattle.inputs.specs.Texts.{Found}
 use Rattle.universe_parts.specs.Parts.{numbered}
+use Rattle.unpack_texts.specs.Fetched.{items_in}
 use Rattle.unpack_texts.specs.Filled.{IsFilled, filled}
 use Rattle.unpack_texts.specs.Opened.{Belongs, IsOpenedFault}
 use Rattle.unpack_texts.specs.Texts.{IsEnded, opened}

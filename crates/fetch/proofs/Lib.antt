@@ -1,3 +1,0 @@
-pub mod ItemLemmas
-pub mod FetchedLemmas
-pub mod StanzaLemmas

@@ -1,7 +1,0 @@
--- The packages so far.
-use Rattle.std.proofs.Common.{◌≡◌, Bor, map, take}
-use Rattle.rules.specs.Step.{IndexPackage}
-use Rattle.fetch.proofs.wanted.entries_of.Given as goal
-
-abbrev pub invariant-loop-one : goal.invariant-loop-one
-invariant-loop-one l = map (λ (entry : Bor IndexPackage). entry.now) l.entries.items ≡ map (λ one. one.listed) (take l.one-index l.wanted)
