@@ -2,7 +2,7 @@
 (Policy 5.1), relations (Policy 7.1) and versions (Policy 5.6.12), and how debplan is asked about a folder of inputs.
 
 A folder of inputs is what tools/collect-inputs writes: the files `status`, `sources`, the indices that it names, perhaps
-`preferences`, and beside them a `request` and a `plan`."""
+`preferences` and `pins-left-out`, and beside them a `request` and a `plan`."""
 import argparse
 import collections
 import functools
@@ -21,6 +21,8 @@ RELATIONS = ("Pre-Depends", "Depends", "Conflicts", "Breaks", "Provides")
 TRIGGERED = ("triggers-awaited", "triggers-pending")
 UNCONFIGURED = ("unpacked", "half-configured", *TRIGGERED)
 PRESENT = ("half-installed", *UNCONFIGURED, "installed")
+# The file that says which pins of the machine aren't in a folder of inputs, and the exit status where that wasn't accepted.
+LEFT_OUT, WITHOUT_PINS = "pins-left-out", 6
 ATOM = re.compile(r"\s*([A-Za-z0-9][A-Za-z0-9+.-]*)(?::([A-Za-z0-9-]+))?\s*(?:\(\s*(<<|<=|=|>=|>>|<|>)\s*([^\s)]+)\s*\))?\s*")
 Atom = collections.namedtuple("Atom", "name qualifier operator version")
 
@@ -344,6 +346,20 @@ class Inputs:
         options += ["--request", request] if request else []
         return subprocess.run([program(), command, *options, *words], cwd=self.folder, stdin=subprocess.DEVNULL,
                               stdout=subprocess.PIPE, stderr=subprocess.PIPE, encoding="utf-8", errors="surrogateescape", check=False)
+
+    def pins_left_out(self):
+        """The pins of the machine that aren't among the preferences of the folder, each with the reason."""
+        path = self.path(LEFT_OUT)
+        return path.read_text(encoding="utf-8", errors="replace").splitlines() if path.is_file() else []
+
+    def lacks_pins(self, is_accepted):
+        """Whether pins of the machine are left out and that isn't accepted. Where some are, that is said in a line."""
+        left_out = self.pins_left_out()
+        if left_out:
+            how = "" if is_accepted else " (--pins-left-out accepts that)"
+            more = f", and {len(left_out) - 1} more, in {self.path(LEFT_OUT)}" if len(left_out) > 1 else ""
+            print(f"{tool_name()}: a pin of the machine is left out{how}: {left_out[0]}{more}", file=sys.stderr)
+        return bool(left_out) and not is_accepted
 
     def steps(self, name="plan"):
         """The steps of a plan of the folder, each as its words."""

@@ -1,7 +1,7 @@
 //! A plan judged over what the texts before the request are read as.
 ghost use Rattle.std.specs.Prelude.{◌≡◌, IfErr, IfOk, Some};
-ghost use Rattle.inputs.specs.Counting.{CountsRead};
 ghost use Rattle.inputs.specs.ReadAs.{AreReadAs};
+ghost use Rattle.inputs.specs.ReadBy.{IsReadBy};
 ghost use Rattle.inputs.specs.Texts.{Shelved, texts_of};
 ghost use Rattle.cli_engine.specs.Answer.{IsFirstRefusal};
 ghost use Rattle.apply_engine.specs.Planned.{IsAnswerOf};
@@ -30,9 +30,7 @@ pub(crate) fn judged<'i, 'a, S: Shelf>(
         → IfOk result (λ judged. IsAnswerOf (texts_of before.now.settings.now at) at.judged judged.universe judged.steps.items judged.verdict) }
     ensures refused { (at : Shelved) → S.found shelf.old ≡ Some at → AreReadAs (texts_of before.now.settings.now at) before.now
         → IfErr result (λ refused. IsFirstRefusal (texts_of before.now.settings.now at) at.judged refused) }
-    ensures same { S.found shelf.new ≡ S.found shelf.old }
-    ensures count { CountsRead result (S.faults shelf.old) (S.faults shelf.new) }
-    ensures held { S.holds shelf.old shelf.new }
+    ensures read { IsReadBy S.Shelf shelf.old result shelf.new }
 {
     let Requested { universe, .. } = read_requested(alloc, shelf, before)?;
     let steps = read_steps(alloc, shelf)?;

@@ -1,7 +1,7 @@
 //! A good plan made ready: the text that its journal begins with, and the texts of the stanzas that it unpacks.
 ghost use Rattle.std.specs.Prelude.{◌≡◌, IfErr, IfOk, Some, map};
-ghost use Rattle.inputs.specs.Counting.{CountsRead};
 ghost use Rattle.inputs.specs.ReadAs.{AreReadAs};
+ghost use Rattle.inputs.specs.ReadBy.{IsReadBy};
 ghost use Rattle.inputs.specs.Texts.{Shelved, texts_of};
 ghost use Rattle.rules.specs.declared.step.Verdict.TheVariants.{Yes};
 ghost use Rattle.status.specs.Text.{slots_text};
@@ -52,9 +52,7 @@ pub(crate) fn made_ready<S: Shelf>(
         → IsAnswerOf (texts_of before.now.settings.now at) at.judged universe.now steps.items Yes
         → IfErr result (IsApplyRefusal (texts_of before.now.settings.now at) at.judged) }
     ensures arch { IfOk result (λ plan. plan.arch ≡ before.now.settings.now.arch.now) }
-    ensures same { S.found shelf.new ≡ S.found shelf.old }
-    ensures count { CountsRead result (S.faults shelf.old) (S.faults shelf.new) }
-    ensures held { S.holds shelf.old shelf.new }
+    ensures read { IsReadBy S.Shelf shelf.old result shelf.new }
 {
     let arch = before.settings.arch;
     let texts = fetch_texts(alloc, shelf, arch, before.files, universe, steps.as_slice())?;

@@ -1,14 +1,20 @@
 -- What a call leaves of the files and the journals of a host.
-use Rattle.std.proofs.Common.{◌≡◌, ◌∷◌, ◌++◌, [], ◌∙◌, inl, inr, ap, append-nil, subst, sym, List, ℕ, Option, Some, Result, Ok, Err}
+use Rattle.std.proofs.Common.{◌≡◌, ◌∷◌, ◌++◌, [], ◌∙◌, inl, inr, ap, append-nil, codes, refl, subst, sym, List, ℕ, Option, Some, Result, Ok, Err}
 use Rattle.apply_engine.specs.GoodPlan.{IsCarriedOut, ReadyPlan}
 use Rattle.apply_engine.specs.declared.good_plan.CarriedOut.{CarriedOut}
-use Rattle.cli.specs.Applied.{IsLeftOfReady, IsOutcomeOfPut, IsOutcomeOfReady, IsOutcomeOfStop, IsRunThrough}
+use Rattle.cli.specs.Applied.{IsOutcomeOfPut, IsOutcomeOfReady, IsOutcomeOfStop, IsRunThrough}
 use Rattle.cli.specs.Files.{Files, Puts}
 use Rattle.cli.specs.Kept.{Finishes, GivesBack, IsBack, IsLent, Kept, NotesPut, Put}
-use Rattle.cli.specs.Possible.{IsLeftOfKept, IsPrintedOfPut, IsPrintedWhere}
+use Rattle.cli.specs.Leaving.{IsLeftOfKept, IsLeftOfReady}
+use Rattle.cli.specs.Possible.{IsPrintedOfPut, IsPrintedWhere}
 use Rattle.cli.specs.declared.applied.Stop.{Stop}
+use Rattle.cli.specs.declared.applied.Stop.TheVariants.{NotBegun, Stopped}
 use Rattle.disk.specs.Facts.{DiskFacts}
+use Rattle.outcomes.specs.Answer.{applied_line}
+use Rattle.outcomes.specs.Exit.{exit_of_begin_error, exit_of_run_error}
+use Rattle.outcomes.specs.declared.exit.Exit.TheVariants as exit
 use Rattle.outcomes.specs.declared.outcome.Outcome.{Outcome}
+use Rattle.outcomes.specs.declared.outcome.Outcome.TheVariants as outcome
 
 module _ {J : Type 0} (journal : List ℕ) (at : Files) (was : Kept J) where
   module _ (honest : J → Type 0) (facts : J → DiskFacts) (plan : ReadyPlan) where
@@ -85,3 +91,24 @@ module _ {J : Type 0} {A E : Type 0} (path text : List ℕ) (at : Files) (was : 
       → (found : Outcome) → IsPrintedOfPut r printed found → IsLeftOfKept (Some path) text printed at was found files kept
   put_left printed (Ok done) files kept put noted found is = inl (is, (put, noted))
   put_left printed (Err e) files kept put noted found is = inr (is, (put, noted))
+
+-- Something is printed of each
+
+-- a line that names the program
+abbrev line : List ℕ
+line = codes "debplan: " ++ ([] ++ codes "\n")
+
+-- of what stood against a plan
+pub some_of_stop : (stop : Stop) → (made : Outcome) × IsOutcomeOfStop stop made
+some_of_stop (NotBegun e) = (outcome.Complaint line (exit_of_begin_error e), (line, refl, ([], refl)))
+some_of_stop (Stopped e) = (outcome.Complaint line (exit_of_run_error e), (line, refl, ([], refl)))
+
+-- of a plan that was carried out
+pub some_of_put : {A E : Type 0} (steps : ℕ) (r : Result A E) → (made : Outcome) × IsOutcomeOfPut steps r made
+some_of_put steps (Ok done) = (outcome.Answer (applied_line steps) exit.Success, refl)
+some_of_put steps (Err e) = (outcome.Complaint (codes "debplan: output: E26 Write\n") exit.Device, refl)
+
+-- of a request that is left
+pub some_of_request_put : {A E : Type 0} (printed : Outcome) (r : Result A E) → (made : Outcome) × IsPrintedOfPut r printed made
+some_of_request_put printed (Ok done) = (printed, refl)
+some_of_request_put printed (Err e) = (outcome.Complaint (codes "debplan: request-out: E26 Write\n") exit.Device, refl)

@@ -1,3 +1,4 @@
+mod LeavingLemmas
 mod LeftLemmas
 mod CallLemmas
 mod LineLemmas

@@ -17,13 +17,3 @@ pub holds_at : (found : Option Files) (paths : Paths) (P : Shelved → Type 0)
 holds_at None paths P holds at is = absurd (let e : None ≡ Some at = is in cc)
 holds_at (Some files) paths P holds at is =
     subst P (let e : Some (shelved_at files paths) ≡ Some at = is in cc) (holds files refl)
-
--- files are the same where what is found at paths of theirs is: an index is the file of any name
-pub files_same : (new old : Option Files) (after before : Paths)
-    → option_map (λ files. shelved_at files after) new ≡ option_map (λ files. shelved_at files before) old → new ≡ old
-files_same None None after before same = refl
-files_same None (Some files) after before same = absurd (let e : None ≡ Some (shelved_at files before) = same in cc)
-files_same (Some files) None after before same = absurd (let e : Some (shelved_at files after) ≡ None = same in cc)
-files_same (Some new) (Some old) after before same =
-    let one : shelved_at new after ≡ shelved_at old before = (let e : Some (shelved_at new after) ≡ Some (shelved_at old before) = same in cc) in
-    ap (λ (found : Shelved). Some (found.index 0)) one

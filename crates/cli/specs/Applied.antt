@@ -1,5 +1,5 @@
--- What is printed and written of a plan that is to be carried out.
-use Rattle.std.specs.Prelude.{◌≡◌, ◌≢◌, ◌⊎◌, ◌∷◌, ◌++◌, [], List, ℕ, IfOk, Option, Some, Result, Ok, Err, ⊤}
+-- What is printed of a plan that is to be carried out, and what is made of the file of its journal.
+use Rattle.std.specs.Prelude.{◌≡◌, ◌≢◌, ◌⊎◌, ◌∷◌, [], List, ℕ, IfOk, Result, Ok, Err, ⊤}
 use Rattle.apply.specs.Begun.{IsBeginFault, IsBegunOn}
 use Rattle.apply.specs.Run.{IsRunOn}
 use Rattle.apply_engine.specs.GoodPlan.{IsCarriedOut, ReadyPlan}
@@ -7,8 +7,6 @@ use Rattle.apply_engine.specs.Prepared.{IsSaidOfPrepared}
 use Rattle.apply_engine.specs.declared.good_plan.CarriedOut.{CarriedOut}
 use Rattle.apply_engine.specs.declared.question.Prepared.{Prepared}
 use Rattle.apply_engine.specs.declared.question.Prepared.TheVariants.{Judged, Ready}
-use Rattle.cli.specs.Files.{Files, HasPut}
-use Rattle.cli.specs.Kept.{Kept, Put, SameElsewhere, Untouched}
 use Rattle.cli.specs.declared.applied.Stop.{Stop}
 use Rattle.cli.specs.declared.applied.Stop.TheVariants.{NotBegun, Stopped}
 use Rattle.disk.specs.Facts.{DiskFacts}
@@ -81,30 +79,3 @@ IsOutcomeOfPrepared (Err refused) found = IsOutcomeOfRefusal refused found
 abbrev pub IsOutcomeOfPlanTaken : Texts → Found → Outcome → Type 0
 IsOutcomeOfPlanTaken texts plan found = IsOutcomeOfOneFile found
     ⊎ ((said : Result Prepared Refusal) × IsSaidOfPrepared texts plan said × IsOutcomeOfPrepared said found)
-
--- What is left of the files and the journals
-
--- behind the run: the number of steps is printed where the status text was put at the output while the journal was held; and else no
--- text was put
-abbrev pub IsLeftOfRun : Result CarriedOut Stop → List ℕ → List ℕ → Files → List Put → Outcome → Option Files → List Put → Type 0
-IsLeftOfRun (Err stop) journal output at puts found files now = IsOutcomeOfStop stop found × (files ≡ Some at) × (now ≡ puts)
-IsLeftOfRun (Ok done) journal output at puts found files now =
-    ((found ≡ outcome.Answer (applied_line done.steps) exit.Success)
-    × ((after : Files) × (files ≡ Some after) × HasPut output done.status.items at after)
-    × (now ≡ puts ++ record { path = output; text = done.status.items; held = Some journal } ∷ []))
-    ⊎ (IsUnwritten found × (files ≡ Some at) × (now ≡ puts))
-
--- a good plan is run on the journal at its path, and no other is touched
-pub record IsLeftOfReady {J : Type 0} (honest : J → Type 0) (facts : J → DiskFacts) (plan : ReadyPlan) (journal output : List ℕ)
-    (at : Files) (was : Kept J) (found : Outcome) (files : Option Files) (kept : Option (Kept J)) : Type 0 where
-  pub run : Result CarriedOut Stop
-  pub left : Kept J
-  pub kept_is : kept ≡ Some left
-  pub elsewhere : SameElsewhere journal was left
-  pub through : IsRunThrough honest facts plan (was.journals journal) run (left.journals journal)
-  pub outcome : IsLeftOfRun run journal output at was.puts found files left.puts
-
--- words that name one file in two places are refused, and nothing is changed; and else this is so
-abbrev pub WhereApart : {J : Type 0} → List ℕ → List ℕ → List (List ℕ) → Files → Kept J → Outcome → Option Files → Option (Kept J) → Type 0 → Type 0
-WhereApart journal output others at was found files kept So =
-    ((¬ AreApart journal output others) × IsOutcomeOfOneFile found × Untouched at was files kept) ⊎ (AreApart journal output others × So)

@@ -1,7 +1,5 @@
--- What is printed and written of as much of a request as can be.
+-- What is printed of as much of a request as can be.
 use Rattle.std.specs.Prelude.{◌≡◌, ◌⊎◌, ℕ, List, Option, None, Some, Result, Ok, Err}
-use Rattle.cli.specs.Files.{Files, HasPut}
-use Rattle.cli.specs.Kept.{IsNoted, Kept, Untouched}
 use Rattle.cli.specs.declared.possible.Left.{Left}
 use Rattle.command_line.specs.declared.call.Format.{Format}
 use Rattle.inputs.specs.Texts.{Texts}
@@ -40,17 +38,3 @@ IsOutcomeOfSaid written (Err refusal) output found = IsOutcomeOfRefusal refusal 
 abbrev pub IsOutcomeOfPossible : Texts → ℕ → Option (List ℕ) → Format → Outcome → Type 0
 IsOutcomeOfPossible texts limit output written found =
     (said : Result KeptBack Refusal) × IsSaidOfKept texts limit said × IsOutcomeOfSaid written said output found
-
--- What is left of the files and the journals
-
--- the text stands at this path and nothing else is changed: it was put there, and no journal was held for it
-abbrev pub IsPut : {J : Type 0} → List ℕ → List ℕ → Files → Kept J → Option Files → Option (Kept J) → Type 0
-IsPut {J} path text at was files kept = ((after : Files) × (files ≡ Some after) × HasPut path text at after)
-    × ((left : Kept J) × (kept ≡ Some left) × IsNoted path text was left)
-
--- the answer to what is left is printed where its request stands at the path of the output; where it couldn't be written there, or
--- where there is no output, nothing is changed
-abbrev pub IsLeftOfKept : {J : Type 0} → Option (List ℕ) → List ℕ → Outcome → Files → Kept J → Outcome → Option Files → Option (Kept J) → Type 0
-IsLeftOfKept None request printed at was found files kept = (found ≡ printed) × Untouched at was files kept
-IsLeftOfKept (Some path) request printed at was found files kept =
-    ((found ≡ printed) × IsPut path request at was files kept) ⊎ (IsRequestUnwritten found × Untouched at was files kept)

@@ -1,9 +1,11 @@
 //! A plan, carried out by the files of a host and a journal.
 ghost use Rattle.std.specs.Prelude.{◌≡◌, IfOk, Some};
-ghost use Rattle.cli.specs.Applied.{IsLeftOfReady, IsOutcomeOfGood, IsOutcomeOfPlanTaken, IsOutcomeOfPrepared, IsOutcomeOfPut, IsOutcomeOfReady, IsOutcomeOfStop, IsRunThrough, WhereApart};
+ghost use Rattle.cli.specs.Applied.{IsOutcomeOfGood, IsOutcomeOfPlanTaken, IsOutcomeOfPrepared, IsOutcomeOfPut, IsOutcomeOfReady, IsOutcomeOfStop, IsRunThrough};
 ghost use Rattle.cli.specs.Calls.{texts_at};
 ghost use Rattle.cli.specs.Files.{Files};
 ghost use Rattle.cli.specs.Kept.{Kept};
+ghost use Rattle.cli.specs.Leaving.{IsLeftOfGood, IsLeftOfPlanTaken, IsLeftOfPrepared, IsLeftOfReady, IsLeftWith};
+ghost use Rattle.cli.specs.Places.{paths_read};
 ghost use Rattle.apply_engine.specs.GoodPlan.{IsCarriedOut};
 ghost use Rattle.apply_engine.specs.Prepared.{IsSaidOfPrepared};
 
@@ -43,18 +45,17 @@ fn said_of_plan<H: Host>(
     host: &mut H,
     arguments: &Arguments<'_>,
 ) -> Result<Prepared, Refusal>
-    ensures { (at : Files) → H.files host.old ≡ Some at
+    ensures said { (at : Files) → H.files host.old ≡ Some at
         → IsSaidOfPrepared (texts_at at arguments.now) (at arguments.now.paths.judged.now) result }
+    ensures same { H.files host.new ≡ H.files host.old }
+    ensures keeps { H.kept host.new ≡ H.kept host.old }
 {
-    let Arguments {
-        settings,
-        paths,
-        ..
-    } = *arguments;
+    let Arguments { settings, .. } = *arguments;
+    let mut seen = None;
     let mut shelf = HostShelf {
         host,
-        paths,
-        seen: None,
+        paths: &arguments.paths,
+        seen: &mut seen,
         openings: Openings::none(),
     };
     ask_files(alloc, &mut shelf, &settings, &Prepare {}, &mut ())
@@ -112,8 +113,9 @@ fn outcome_of_ready<H: Host>(
     plan: &GoodPlan,
 ) -> Result<Outcome, AllocError>
     ensures printed { IfOk result (IsOutcomeOfReady plan.now) }
-    ensures left { (at : Files) (was : Kept H.Journal) → H.files host.old ≡ Some at → H.kept host.old ≡ Some was → IfOk result (λ outcome.
-        IsLeftOfReady H.Journal.honest H.Journal.facts plan.now target.entry.journal.now target.entry.output.now at was outcome (H.files host.new) (H.kept host.new)) }
+    ensures left { (at : Files) (was : Kept H.Journal) → H.files host.old ≡ Some at → H.kept host.old ≡ Some was → IsLeftWith
+        (IsLeftOfReady H.Journal.honest H.Journal.facts plan.now target.entry.journal.now target.entry.output.now at was)
+        at was result (H.files host.new) (H.kept host.new) }
 {
     let Target {
         journal: at,
@@ -140,9 +142,9 @@ fn outcome_of_good<H: Host>(
     plan: &GoodPlan,
 ) -> Result<Outcome, AllocError>
     ensures printed { IfOk result (IsOutcomeOfGood plan.now) }
-    ensures left { (at : Files) (was : Kept H.Journal) → H.files host.old ≡ Some at → H.kept host.old ≡ Some was → IfOk result (λ outcome.
-        WhereApart target.entry.journal.now target.entry.output.now plan.now.indices at was outcome (H.files host.new) (H.kept host.new)
-        (IsLeftOfReady H.Journal.honest H.Journal.facts plan.now target.entry.journal.now target.entry.output.now at was outcome (H.files host.new) (H.kept host.new))) }
+    ensures left { (at : Files) (was : Kept H.Journal) → H.files host.old ≡ Some at → H.kept host.old ≡ Some was → IsLeftWith
+        (IsLeftOfGood H.Journal.honest H.Journal.facts plan.now target.entry.journal.now target.entry.output.now at was)
+        at was result (H.files host.new) (H.kept host.new) }
 {
     match one_file_of_indices(alloc, host, target, plan)? {
         Some(outcome) => Ok(outcome),
@@ -157,7 +159,10 @@ fn outcome_of_said<H: Host>(
     target: Target<'_>,
     said: &Result<Prepared, Refusal>,
 ) -> Result<Outcome, AllocError>
-    ensures { IfOk result (IsOutcomeOfPrepared said.now) }
+    ensures printed { IfOk result (IsOutcomeOfPrepared said.now) }
+    ensures left { (at : Files) (was : Kept H.Journal) → H.files host.old ≡ Some at → H.kept host.old ≡ Some was → IsLeftWith
+        (IsLeftOfPrepared H.Journal.honest H.Journal.facts said.now target.entry.journal.now target.entry.output.now at was)
+        at was result (H.files host.new) (H.kept host.new) }
 {
     match said {
         Ok(Prepared::Judged(verdict)) => outcome_of_verdict(alloc, verdict),
@@ -174,8 +179,12 @@ pub(crate) fn outcome_of_applied<H: Host>(
     arguments: &Arguments<'_>,
     target: Target<'_>,
 ) -> Result<Outcome, AllocError>
-    ensures { (at : Files) → H.files host.old ≡ Some at → IfOk result (λ outcome.
+    ensures printed { (at : Files) → H.files host.old ≡ Some at → IfOk result (λ outcome.
         IsOutcomeOfPlanTaken (texts_at at arguments.now) (at arguments.now.paths.judged.now) outcome) }
+    ensures left { (at : Files) (was : Kept H.Journal) → H.files host.old ≡ Some at → H.kept host.old ≡ Some was → IsLeftWith
+        (IsLeftOfPlanTaken H.Journal.honest H.Journal.facts (texts_at at arguments.now) (at arguments.now.paths.judged.now)
+        (paths_read arguments.now.paths) target.entry.journal.now target.entry.output.now at was)
+        at was result (H.files host.new) (H.kept host.new) }
 {
     match one_file_of_paths(alloc, host, target, &arguments.paths)? {
         Some(outcome) => Ok(outcome),

@@ -165,26 +165,28 @@ fn turn_of(was_read: bool) -> Turn {
 }
 
 /// The files of a host at these paths. The index of a source is the file that it names.
+/// It owns nothing, so that its caller knows what becomes of the host that it lends.
 #[derive(Drop)]
-pub struct HostShelf<'h, 'a, H> {
+pub struct HostShelf<'h, 's, 'a, H> {
     /// The host.
     pub host: &'h mut H,
     /// The paths.
-    pub paths: Paths<'a>,
+    pub paths: &'a Paths<'a>,
     /// What is remembered of the texts, where sentences are wanted.
-    pub seen: Option<Seen>,
+    pub seen: &'s mut Option<Seen>,
     /// What was read of them.
     pub openings: Openings,
 }
 
-impl<'h, 'a, H: Host> Shelf for HostShelf<'h, 'a, H> {
+impl<'h, 's, 'a, H: Host> Shelf for HostShelf<'h, 's, 'a, H> {
     type Text = H::Text;
 
-    ghost found = { λ shelf. option_map (λ files. shelved_at files shelf.paths) (H.files shelf.host.now) };
+    ghost found = { λ shelf. option_map (λ files. shelved_at files shelf.paths.now) (H.files shelf.host.now) };
 
     ghost faults = { λ shelf. H.faults shelf.host.now };
 
-    ghost holds = { λ old new. (new.host.ghost_name ≡ old.host.ghost_name) × (H.kept new.host.now ≡ H.kept old.host.now) };
+    ghost holds = { λ old new. (new.host.ghost_name ≡ old.host.ghost_name)
+        × (H.files new.host.now ≡ H.files old.host.now) × (H.kept new.host.now ≡ H.kept old.host.now) };
 
     fn failures(&self) -> u64 {
         self.host.failures()
@@ -193,7 +195,7 @@ impl<'h, 'a, H: Host> Shelf for HostShelf<'h, 'a, H> {
     fn read(&mut self, alloc: Global, part: Part) -> Result<Vec<u8>, ReadError> {
         let turn = self.openings.of_part(part);
         let text = read_at(alloc, &mut *self.host, self.paths.of(part), turn)?;
-        note_text(alloc, &mut self.seen, part, text.as_slice())?;
+        note_text(alloc, &mut *self.seen, part, text.as_slice())?;
         Ok(text)
     }
 
@@ -208,7 +210,7 @@ impl<'h, 'a, H: Host> Shelf for HostShelf<'h, 'a, H> {
     }
 
     fn open(&mut self, alloc: Global, number: usize, file: &[u8]) -> Result<H::Text, ReadError> {
-        note_index(alloc, &mut self.seen, file)?;
+        note_index(alloc, &mut *self.seen, file)?;
         let turn = self.openings.of_index(number);
         self.host.open(alloc, file, turn)
     }
@@ -217,9 +219,9 @@ impl<'h, 'a, H: Host> Shelf for HostShelf<'h, 'a, H> {
         self.host.close(text)
     }
 
-    ghost holds_still = { λ _. (refl, refl) };
+    ghost holds_still = { λ _. (refl, refl, refl) };
 
-    ghost holds_on = { λ _ _ _ first later. (later.0 ∙ first.0, later.1 ∙ first.1) };
+    ghost holds_on = { λ _ _ _ first later. (later.0 ∙ first.0, later.1 ∙ first.1, later.2 ∙ first.2) };
 }
 
 /// Asks the question of the files of a host, which are opened in the order status, sources, indices, preferences, and then as the
@@ -227,13 +229,13 @@ impl<'h, 'a, H: Host> Shelf for HostShelf<'h, 'a, H> {
 /// refused (E5) at its place. Costs what `inputs::ask` costs.
 pub fn ask_files<H: Host, Q: Question>(
     alloc: Global,
-    shelf: &mut HostShelf<'_, '_, H>,
+    shelf: &mut HostShelf<'_, '_, '_, H>,
     settings: &Settings<'_>,
     question: &Q,
     beside: &mut Q::Beside,
 ) -> Result<Q::Answer, Refusal>
     ensures said { (at : Files) → H.files shelf.old.host.now ≡ Some at
-        → Q.says question.now (texts_of settings.now (shelved_at at shelf.old.paths)) (at shelf.old.paths.judged.now)
+        → Q.says question.now (texts_of settings.now (shelved_at at shelf.old.paths.now)) (at shelf.old.paths.now.judged.now)
         beside.old result beside.new }
     ensures kept { Q.keeps question.now settings.now beside.old result beside.new }
     ensures same { H.files shelf.new.host.now ≡ H.files shelf.old.host.now }

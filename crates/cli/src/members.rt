@@ -22,7 +22,9 @@ pub(crate) fn members_of_plan<S: Shelf>(
     settings: &Settings<'_>,
     judged: &JudgedPlan,
     sentences: &[u8],
-) -> Result<Members, AllocError> {
+) -> Result<Members, AllocError>
+    ensures { S.holds shelf.old shelf.new }
+{
     let mut members = Members::new(alloc);
     put_verdict(alloc, &mut members, &judged.verdict)?;
     put_plan(
@@ -44,7 +46,9 @@ pub(crate) fn members_of_solved<S: Shelf>(
     settings: &Settings<'_>,
     answered: Answered,
     sentences: &[u8],
-) -> Result<Members, AllocError> {
+) -> Result<Members, AllocError>
+    ensures { S.holds shelf.old shelf.new }
+{
     let Answered {
         solved,
         members,
@@ -120,7 +124,9 @@ fn put_solved<S: Shelf>(
     settings: &Settings<'_>,
     solved: &Solved,
     members: &mut Members,
-) -> Result<(), AllocError> {
+) -> Result<(), AllocError>
+    ensures { S.holds shelf.old shelf.new }
+{
     match solved {
         Solved::Plan(steps) => {
             put_text(alloc, members, "answer", "plan")?;
@@ -148,7 +154,9 @@ fn put_plan<S: Shelf>(
     settings: &Settings<'_>,
     steps: &[Step],
     members: &mut Members,
-) -> Result<(), AllocError> {
+) -> Result<(), AllocError>
+    ensures { S.holds shelf.old shelf.new }
+{
     let archives = archives_of(alloc, shelf, settings, steps)?;
     put_steps(alloc, members, steps, &archives)
 }
@@ -159,7 +167,9 @@ fn archives_of<'s, S: Shelf>(
     shelf: &mut S,
     settings: &Settings<'_>,
     steps: &'s [Step],
-) -> Result<Archives<'s>, AllocError> {
+) -> Result<Archives<'s>, AllocError>
+    ensures { S.holds shelf.old shelf.new }
+{
     let mut archives = Archives::of_steps(alloc, steps)?;
     if archives.is_complete() {
         return Ok(archives);
@@ -182,7 +192,9 @@ fn find_archives<S: Shelf>(
     shelf: &mut S,
     settings: &Settings<'_>,
     archives: &mut Archives<'_>,
-) -> Result<(), Refusal> {
+) -> Result<(), Refusal>
+    ensures { S.holds shelf.old shelf.new }
+{
     let text = read_sources_text(alloc, shelf)?;
     let sources = read_sources(alloc, text.as_slice())?;
     let mut number = 0usize;
@@ -203,7 +215,9 @@ fn find_in_index<S: Shelf>(
     number: usize,
     file: &[u8],
     archives: &mut Archives<'_>,
-) -> Result<(), Refusal> {
+) -> Result<(), Refusal>
+    ensures { S.holds shelf.old shelf.new }
+{
     let mut text = open_index(alloc, shelf, number, file)?;
     let read = read_archives(alloc, &mut text, settings.arch, archives);
     shelf.close(text);

@@ -40,21 +40,23 @@ pub(crate) fn outcome_of_names<H: Host>(
     names: &[&str],
     notes: &mut Notes,
 ) -> Result<Outcome, AllocError>
-    ensures { (at : Files) → H.files host.old ≡ Some at → IfOk result (λ outcome.
+    ensures printed { (at : Files) → H.files host.old ≡ Some at → IfOk result (λ outcome.
         IsOutcomeOfNames (texts_at at arguments.now) (map (λ name. name.now) names.now) arguments.now.format outcome) }
+    ensures same { H.files host.new ≡ H.files host.old }
+    ensures keeps { H.kept host.new ≡ H.kept host.old }
 {
     want(arguments, notes);
     let Arguments {
         settings,
-        paths,
         explains,
         format,
+        ..
     } = *arguments;
-    let seen = seen_if(alloc, explains);
+    let mut seen = seen_if(alloc, explains);
     let mut shelf = HostShelf {
         host,
-        paths,
-        seen,
+        paths: &arguments.paths,
+        seen: &mut seen,
         openings: Openings::none(),
     };
     let answer = ask_files(alloc, &mut shelf, &settings, &Candidates { names }, notes);

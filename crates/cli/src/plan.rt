@@ -32,7 +32,9 @@ fn members_of<S: Shelf>(
     format: Format,
     answer: &Result<JudgedPlan, Refusal>,
     sentences: &[u8],
-) -> Result<Members, AllocError> {
+) -> Result<Members, AllocError>
+    ensures { S.holds shelf.old shelf.new }
+{
     match answer {
         Ok(judged) if is_document(format) => {
             members_of_plan(alloc, shelf, settings, judged, sentences)
@@ -48,21 +50,23 @@ pub(crate) fn outcome_of_plan_judged<H: Host>(
     arguments: &Arguments<'_>,
     notes: &mut Notes,
 ) -> Result<Outcome, AllocError>
-    ensures { (at : Files) → H.files host.old ≡ Some at → IfOk result (λ outcome.
+    ensures printed { (at : Files) → H.files host.old ≡ Some at → IfOk result (λ outcome.
         IsOutcomeOfPlanJudged (texts_at at arguments.now) (at arguments.now.paths.judged.now) arguments.now.format outcome) }
+    ensures same { H.files host.new ≡ H.files host.old }
+    ensures keeps { H.kept host.new ≡ H.kept host.old }
 {
     want(arguments, notes);
     let Arguments {
         settings,
-        paths,
         explains,
         format,
+        ..
     } = *arguments;
-    let seen = seen_if(alloc, explains);
+    let mut seen = seen_if(alloc, explains);
     let mut shelf = HostShelf {
         host,
-        paths,
-        seen,
+        paths: &arguments.paths,
+        seen: &mut seen,
         openings: Openings::none(),
     };
     let answer = ask_files(alloc, &mut shelf, &settings, &CheckPlan {}, notes);

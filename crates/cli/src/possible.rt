@@ -4,7 +4,8 @@ ghost use Rattle.std.specs.Option.{option_map};
 ghost use Rattle.cli.specs.Calls.{texts_at};
 ghost use Rattle.cli.specs.Files.{Files};
 ghost use Rattle.cli.specs.Kept.{Kept};
-ghost use Rattle.cli.specs.Possible.{IsLeftOfKept, IsOutcomeOfPossible, IsPrintedOfKept, IsPrintedOfPut, IsPrintedWhere, IsSaidOfLeft};
+ghost use Rattle.cli.specs.Leaving.{IsLeftOfKept, IsLeftOfPossible, IsLeftWith};
+ghost use Rattle.cli.specs.Possible.{IsOutcomeOfPossible, IsPrintedOfKept, IsPrintedOfPut, IsPrintedWhere, IsSaidOfLeft};
 
 use crate::arguments::Arguments;
 use crate::asking::{is_document, seen_if, show, want};
@@ -56,7 +57,9 @@ fn members_of<S: Shelf>(
     request: &[u8],
     left_out: &[u8],
     sentences: &[u8],
-) -> Result<Members, AllocError> {
+) -> Result<Members, AllocError>
+    ensures { S.holds shelf.old shelf.new }
+{
     let mut members = members_of_solved(alloc, shelf, settings, answered, sentences)?;
     put_kept(alloc, request, left_out, &mut members)?;
     Ok(members)
@@ -73,6 +76,7 @@ fn left_of<S: Shelf>(
 ) -> Result<Left, AllocError>
     ensures printed { IfOk result (λ left. IsPrintedOfKept format kept left.printed) }
     ensures request { IfOk result (λ left. left.request ≡ kept.request) }
+    ensures held { S.holds shelf.old shelf.new }
 {
     let plain = outcome_of_answered(alloc, &kept.answered)?;
     let KeptBack {
@@ -141,8 +145,8 @@ fn outcome_of_put<H: Host>(
     notes: &mut Notes,
 ) -> Result<Outcome, AllocError>
     ensures printed { IfOk result (IsPrintedWhere (Some output.now) left.printed) }
-    ensures left { (at : Files) (was : Kept H.Journal) → H.files host.old ≡ Some at → H.kept host.old ≡ Some was → IfOk result (λ outcome.
-        IsLeftOfKept (Some output.now) left.request left.printed at was outcome (H.files host.new) (H.kept host.new)) }
+    ensures left { (at : Files) (was : Kept H.Journal) → H.files host.old ≡ Some at → H.kept host.old ≡ Some was → IsLeftWith
+        (IsLeftOfKept (Some output.now) left.request left.printed at was) at was result (H.files host.new) (H.kept host.new) }
 {
     let put = host.put(alloc, output.as_bytes(), left.request.as_slice());
     outcome_of_request_put(alloc, explains, put, left, notes)
@@ -157,7 +161,10 @@ fn outcome_of_left<H: Host>(
     left: Left,
     notes: &mut Notes,
 ) -> Result<Outcome, AllocError>
-    ensures { IfOk result (IsPrintedWhere (option_map (λ path. path.now) output.entry) left.printed) }
+    ensures printed { IfOk result (IsPrintedWhere (option_map (λ path. path.now) output.entry) left.printed) }
+    ensures left { (at : Files) (was : Kept H.Journal) → H.files host.old ≡ Some at → H.kept host.old ≡ Some was → IsLeftWith
+        (IsLeftOfKept (option_map (λ path. path.now) output.entry) left.request left.printed at was)
+        at was result (H.files host.new) (H.kept host.new) }
 {
     match output {
         None => {
@@ -176,20 +183,22 @@ fn answer_of_possible<H: Host>(
     limit: u32,
     notes: &mut Notes,
 ) -> Result<Result<Left, Refusal>, AllocError>
-    ensures { (at : Files) → H.files host.old ≡ Some at
+    ensures said { (at : Files) → H.files host.old ≡ Some at
         → IfOk result (λ left. IsSaidOfLeft (texts_at at arguments.now) limit arguments.now.format left) }
+    ensures same { H.files host.new ≡ H.files host.old }
+    ensures keeps { H.kept host.new ≡ H.kept host.old }
 {
     let Arguments {
         settings,
-        paths,
         explains,
         format,
+        ..
     } = *arguments;
-    let seen = seen_if(alloc, explains);
+    let mut seen = seen_if(alloc, explains);
     let mut shelf = HostShelf {
         host,
-        paths,
-        seen,
+        paths: &arguments.paths,
+        seen: &mut seen,
         openings: Openings::none(),
     };
     let question = KeepBack {
@@ -219,8 +228,11 @@ pub(crate) fn outcome_of_possible<H: Host>(
     output: Option<&str>,
     notes: &mut Notes,
 ) -> Result<Outcome, AllocError>
-    ensures { (at : Files) → H.files host.old ≡ Some at → IfOk result (λ outcome. IsOutcomeOfPossible
+    ensures printed { (at : Files) → H.files host.old ≡ Some at → IfOk result (λ outcome. IsOutcomeOfPossible
         (texts_at at arguments.now) limit (option_map (λ path. path.now) output.entry) arguments.now.format outcome) }
+    ensures left { (at : Files) (was : Kept H.Journal) → H.files host.old ≡ Some at → H.kept host.old ≡ Some was → IsLeftWith
+        (IsLeftOfPossible (texts_at at arguments.now) limit (option_map (λ path. path.now) output.entry) arguments.now.format at was)
+        at was result (H.files host.new) (H.kept host.new) }
 {
     want(arguments, notes);
     match answer_of_possible(alloc, host, arguments, limit, notes)? {

@@ -2,7 +2,9 @@
 ghost use Rattle.std.specs.Prelude.{◌≡◌, ◌⊎◌, IfOk, Some, map};
 ghost use Rattle.cli.specs.Calls.{IsOutcomeOfAsked, IsOutcomeOfExtent, texts_at};
 ghost use Rattle.cli.specs.Files.{Files};
-ghost use Rattle.cli.specs.Words.{IsOutcomeOfWords};
+ghost use Rattle.cli.specs.Kept.{Kept};
+ghost use Rattle.cli.specs.Leaving.{IsLeftOfAsked, IsLeftOfExtent, IsLeftOrUntold, IsLeftWith};
+ghost use Rattle.cli.specs.Words.{IsLeftOfWords, IsOutcomeOfWords};
 ghost use Rattle.command_line.specs.Asked.{asked_by, extent_by};
 ghost use Rattle.outcomes.specs.Outcome.{IsOutcomeOfMemory, IsWritten};
 ghost use Rattle.outcomes.specs.declared.outcome.Outcome.{Outcome as Found};
@@ -35,8 +37,11 @@ pub fn run<H: Host, W: Write, E: Write>(
     out: &mut W,
     err: &mut E,
 ) -> u8
-    ensures { (found : Found) × (IsOutcomeOfWords (H.files host.old) (map (λ word. word.items) words.now) found
+    ensures printed { (found : Found) × (IsOutcomeOfWords (H.files host.old) (map (λ word. word.items) words.now) found
         ⊎ IsOutcomeOfMemory found) × IsWritten found (W.contents out.old) (W.contents out.new) result }
+    ensures left { (at : Files) (was : Kept H.Journal) → H.files host.old ≡ Some at → H.kept host.old ≡ Some was → (found : Found)
+        × IsLeftOrUntold (IsLeftOfWords H.Journal.honest H.Journal.facts (map (λ word. word.items) words.now) at was)
+        at was found (H.files host.new) (H.kept host.new) × IsWritten found (W.contents out.old) (W.contents out.new) result }
 {
     let mut notes = Notes::new(alloc);
     match outcome_of_words(alloc, words, host, &mut notes) {
@@ -52,7 +57,10 @@ fn outcome_of_words<H: Host>(
     host: &mut H,
     notes: &mut Notes,
 ) -> Result<Outcome, AllocError>
-    ensures { IfOk result (IsOutcomeOfWords (H.files host.old) (map (λ word. word.items) words.now)) }
+    ensures printed { IfOk result (IsOutcomeOfWords (H.files host.old) (map (λ word. word.items) words.now)) }
+    ensures left { (at : Files) (was : Kept H.Journal) → H.files host.old ≡ Some at → H.kept host.old ≡ Some was → IsLeftWith
+        (IsLeftOfWords H.Journal.honest H.Journal.facts (map (λ word. word.items) words.now) at was)
+        at was result (H.files host.new) (H.kept host.new) }
 {
     let Some(texts) = texts_of(alloc, words)? else {
         return outcome_of_usage(alloc, &mistake(alloc, "an argument isn't UTF-8"));
@@ -71,7 +79,11 @@ fn outcome_of_call<H: Host>(
     host: &mut H,
     notes: &mut Notes,
 ) -> Result<Outcome, AllocError>
-    ensures { (at : Files) → H.files host.old ≡ Some at → IfOk result (λ outcome. IsOutcomeOfAsked at (asked_by call.now) outcome) }
+    ensures printed { (at : Files) → H.files host.old ≡ Some at
+        → IfOk result (λ outcome. IsOutcomeOfAsked at (asked_by call.now) outcome) }
+    ensures left { (at : Files) (was : Kept H.Journal) → H.files host.old ≡ Some at → H.kept host.old ≡ Some was → IsLeftWith
+        (IsLeftOfAsked H.Journal.honest H.Journal.facts (asked_by call.now) at was)
+        at was result (H.files host.new) (H.kept host.new) }
 {
     let goals = goals_of(alloc, call)?;
     match call {
@@ -150,8 +162,11 @@ fn outcome_of_extent<H: Host>(
     extent: &Extent<'_>,
     notes: &mut Notes,
 ) -> Result<Outcome, AllocError>
-    ensures { (at : Files) → H.files host.old ≡ Some at → IfOk result (λ outcome.
+    ensures printed { (at : Files) → H.files host.old ≡ Some at → IfOk result (λ outcome.
         IsOutcomeOfExtent (texts_at at arguments.now) limit (extent_by extent.now) arguments.now.format outcome) }
+    ensures left { (at : Files) (was : Kept H.Journal) → H.files host.old ≡ Some at → H.kept host.old ≡ Some was → IsLeftWith
+        (IsLeftOfExtent (texts_at at arguments.now) limit (extent_by extent.now) arguments.now.format at was)
+        at was result (H.files host.new) (H.kept host.new) }
 {
     match extent {
         Extent::Whole => outcome_of_request(alloc, host, arguments, limit, notes),

@@ -16,14 +16,14 @@ use universe_request::RequestFault;
 pub(crate) fn tell_refusal<T, H: Host>(
     alloc: Global,
     answer: &Result<T, Refusal>,
-    shelf: &HostShelf<'_, '_, H>,
+    shelf: &HostShelf<'_, '_, '_, H>,
     notes: &mut Notes,
 ) -> Result<(), AllocError> {
-    match (answer, &shelf.seen) {
+    match (answer, &*shelf.seen) {
         (Err(refusal), Some(seen)) => {
-            tell_place(alloc, refusal.place, &shelf.paths, seen, notes)?;
+            tell_place(alloc, refusal.place, shelf.paths, seen, notes)?;
             tell_trouble(alloc, refusal, shelf, seen, notes)?;
-            tell_fault(alloc, &refusal.fault, &shelf.paths, seen, notes)
+            tell_fault(alloc, &refusal.fault, shelf.paths, seen, notes)
         }
         _ => Ok(()),
     }
@@ -33,11 +33,11 @@ pub(crate) fn tell_refusal<T, H: Host>(
 fn tell_trouble<H: Host>(
     alloc: Global,
     refusal: &Refusal,
-    shelf: &HostShelf<'_, '_, H>,
+    shelf: &HostShelf<'_, '_, '_, H>,
     seen: &Seen,
     notes: &mut Notes,
 ) -> Result<(), AllocError> {
-    match (&refusal.fault, path_at(refusal.place, &shelf.paths, seen)) {
+    match (&refusal.fault, path_at(refusal.place, shelf.paths, seen)) {
         (Fault::Read, Some(path)) => tell_words(alloc, shelf.host.trouble(path), notes),
         _ => Ok(()),
     }

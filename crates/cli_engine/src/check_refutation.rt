@@ -1,8 +1,8 @@
 //! A refutation judged by texts, read in the order status, sources, indices, preferences, request and refutation.
 ghost use Rattle.std.specs.Prelude.{◌≡◌, ◌≢◌, IfErr, IfOk, List, Ok, Some, false, refl};
 ghost use mathlib.Core.Logic.{inl};
-ghost use Rattle.inputs.specs.Counting.{CountsRead};
 ghost use Rattle.inputs.specs.Meaning.{Denotes};
+ghost use Rattle.inputs.specs.ReadBy.{IsReadBy};
 ghost use Rattle.inputs.specs.Reading.{IsFaultOf};
 ghost use Rattle.inputs.specs.Texts.{Shelved, Texts};
 ghost use Rattle.inputs.specs.declared.refusal.Fault.TheVariants as fault;
@@ -60,9 +60,7 @@ fn read_lines<S: Shelf>(alloc: Global, shelf: &mut S) -> Result<Refutation, Refu
     ensures ok { (at : Shelved) → S.found shelf.old ≡ Some at → IfOk result (λ lines. refutation_of at.judged ≡ Ok lines) }
     ensures refused { (at : Shelved) (texts : Texts) (u : UniverseOf) (start : List Record) → S.found shelf.old ≡ Some at
         → Denotes texts u start → IfErr result (λ refused. IsFirstRefutationRefusal texts at.judged refused) }
-    ensures same { S.found shelf.new ≡ S.found shelf.old }
-    ensures count { CountsRead result (S.faults shelf.old) (S.faults shelf.new) }
-    ensures held { S.holds shelf.old shelf.new }
+    ensures read { IsReadBy S.Shelf shelf.old result shelf.new }
 {
     let text = read_part(alloc, shelf, Part::Judged, Input::Refutation)?;
     match lines_in(alloc, text.as_slice()) {

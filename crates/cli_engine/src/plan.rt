@@ -1,7 +1,7 @@
 //! The plan, read into its steps.
 ghost use Rattle.std.specs.Prelude.{◌≡◌, ◌≢◌, IfErr, IfOk, List, Ok, Some};
-ghost use Rattle.inputs.specs.Counting.{CountsRead};
 ghost use Rattle.inputs.specs.Meaning.{Denotes};
+ghost use Rattle.inputs.specs.ReadBy.{IsReadBy};
 ghost use Rattle.inputs.specs.Reading.{IsFaultOf};
 ghost use Rattle.inputs.specs.Texts.{Shelved, Texts};
 ghost use Rattle.inputs.specs.declared.refusal.Fault.TheVariants as fault;
@@ -32,9 +32,7 @@ pub fn read_steps<S: Shelf>(alloc: Global, shelf: &mut S) -> Result<Vec<Step>, R
     ensures ok { (at : Shelved) → S.found shelf.old ≡ Some at → IfOk result (λ steps. plan_of at.judged ≡ Ok steps.items) }
     ensures refused { (at : Shelved) (texts : Texts) (u : UniverseOf) (start : List Record) → S.found shelf.old ≡ Some at
         → Denotes texts u start → IfErr result (λ refused. IsFirstRefusal texts at.judged refused) }
-    ensures same { S.found shelf.new ≡ S.found shelf.old }
-    ensures count { CountsRead result (S.faults shelf.old) (S.faults shelf.new) }
-    ensures held { S.holds shelf.old shelf.new }
+    ensures read { IsReadBy S.Shelf shelf.old result shelf.new }
 {
     let text = read_part(alloc, shelf, Part::Judged, Input::Plan)?;
     match steps_in(alloc, text.as_slice()) {

@@ -1,8 +1,8 @@
 //! The request, read with sentences on inputs that change no answer, and on a name that no package has.
 ghost use Rattle.std.specs.Prelude.{◌≡◌, IfErr, IfOk, Some, false};
-ghost use Rattle.inputs.specs.Counting.{CountsRead};
 ghost use Rattle.inputs.specs.Meaning.{DenotesAsked};
 ghost use Rattle.inputs.specs.ReadAs.{AreReadAs, IsOver, start_of};
+ghost use Rattle.inputs.specs.ReadBy.{IsReadBy};
 ghost use Rattle.inputs.specs.Refused.{IsRefusal};
 ghost use Rattle.inputs.specs.Texts.{Shelved, texts_of};
 
@@ -101,9 +101,7 @@ pub(crate) fn read_asked<'i, 'a, S: Shelf>(
     ensures over { IfOk result (λ requested. IsOver before.now requested.universe) }
     ensures refused { (at : Shelved) → S.found shelf.old ≡ Some at → AreReadAs (texts_of before.now.settings.now at) before.now
         → IfErr result (λ refused. IsRefusal (texts_of before.now.settings.now at) refused) }
-    ensures same { S.found shelf.new ≡ S.found shelf.old }
-    ensures count { CountsRead result (S.faults shelf.old) (S.faults shelf.new) }
-    ensures held { S.holds shelf.old shelf.new }
+    ensures read { IsReadBy S.Shelf shelf.old result shelf.new }
     ensures unasked { notes.old.wanted ≡ false → notes.new ≡ notes.old }
 {
     tell_idle_inputs(alloc, before, notes)?;

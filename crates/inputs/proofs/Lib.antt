@@ -5,4 +5,5 @@ pub mod IndicesLemmas
 pub mod MeaningLemmas
 pub mod NameLemmas
 pub mod ReadAsLemmas
+pub mod ReadByLemmas
 pub mod UnreadLemmas

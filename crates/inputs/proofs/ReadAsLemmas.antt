@@ -1,5 +1,5 @@
 -- What is lent is what was read; what is read before a request is read alike whatever the request is.
-use Rattle.std.proofs.Common.{◌≡◌, ◌≢◌, ◌∙◌, ℕ, List, Ok, Some, ap, refl, subst, sym}
+use Rattle.std.proofs.Common.{◌≡◌, ◌∙◌, ℕ, List, Some, ap, refl, subst, sym}
 use Rattle.candidates.specs.Inputs.{indices_of}
 use Rattle.index.specs.Index.{ReadIndex, ReadStanzas}
 use Rattle.pins.specs.Prefs.{Preferences}
@@ -10,12 +10,11 @@ use Rattle.inputs.specs.Before.{AreListed, AreRead, HasIndices, HasStart}
 use Rattle.inputs.specs.Indices.{released}
 use Rattle.inputs.specs.Meaning.{IsRequestFault, request_in}
 use Rattle.inputs.specs.ReadAs.{AreReadAs, asking, start_of}
-use Rattle.inputs.specs.Reading.{IsPlaced, IsUnread, OrMemory, out_of_memory}
+use Rattle.inputs.specs.Reading.{IsPlaced, IsUnread, OrMemory}
 use Rattle.inputs.specs.Refused.{IsRefusal}
 use Rattle.inputs.specs.Texts.{Found, Texts}
 use Rattle.inputs.specs.declared.before.Before.{Before}
 use Rattle.inputs.specs.declared.refusal.Fault.{Fault}
-use Rattle.inputs.specs.declared.refusal.Fault.TheVariants as fault
 use Rattle.inputs.specs.declared.refusal.Input.TheVariants as place
 use Rattle.inputs.specs.declared.refusal.Refusal.{Refusal}
 use mathlib.Core.Logic.{inl, inr}

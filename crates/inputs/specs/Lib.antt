@@ -5,6 +5,7 @@ pub mod Indices
 pub mod Inputs
 pub mod Meaning
 pub mod ReadAs
+pub mod ReadBy
 pub mod Reading
 pub mod Refused
 pub mod StatusText

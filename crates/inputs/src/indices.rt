@@ -2,9 +2,9 @@
 ghost use Rattle.std.specs.Prelude.{◌≡◌, ◌⊎◌, Err, IfErr, IfOk, Ok, Some, length};
 ghost use Rattle.candidates.specs.Inputs.{indices_of};
 ghost use Rattle.inputs.specs.Before.{HasIndices, HasStatus, IsRefusalBefore};
-ghost use Rattle.inputs.specs.Counting.{CountsRead};
 ghost use Rattle.inputs.specs.Indices.{IsRefusedIndex, index_of, released, with_keys};
 ghost use Rattle.inputs.specs.Indices as Spec;
+ghost use Rattle.inputs.specs.ReadBy.{IsReadBy};
 ghost use Rattle.inputs.specs.Reading.{out_of_memory};
 ghost use Rattle.inputs.specs.Texts.{Shelved, sources_of, texts_of};
 
@@ -30,9 +30,7 @@ fn read_index<S: Shelf>(
         → IfOk result (λ kept. index_of arch.now at.index number before source.now ≡ Ok (with_keys source.now.release kept)) }
     ensures refused { (at : Shelved) → S.found shelf.old ≡ Some at
         → IfErr result (λ refused. IsRefusedIndex number (index_of arch.now at.index number before source.now) refused) }
-    ensures same { S.found shelf.new ≡ S.found shelf.old }
-    ensures count { CountsRead result (S.faults shelf.old) (S.faults shelf.new) }
-    ensures held { S.holds shelf.old shelf.new }
+    ensures read { IsReadBy S.Shelf shelf.old result shelf.new }
 {
     let mut text = open_index(alloc, shelf, number, source.file())?;
     match KeptIndex::read_from(alloc, &mut text, arch, number, before) {
@@ -60,9 +58,7 @@ fn read_each<S: Shelf>(
     ensures refused { (at : Shelved) → S.found shelf.old ≡ Some at → IfErr result (λ refused.
         (refused ≡ out_of_memory) ⊎ (Spec.read_indices arch.now at.index sources.entry.items ≡ Err refused)) }
     ensures count { IfOk result (λ listed. length listed.0.items ≡ length listed.1.items) }
-    ensures same { S.found shelf.new ≡ S.found shelf.old }
-    ensures counted { CountsRead result (S.faults shelf.old) (S.faults shelf.new) }
-    ensures held { S.holds shelf.old shelf.new }
+    ensures read { IsReadBy S.Shelf shelf.old result shelf.new }
 {
     let mut kept = Vec::new(alloc);
     let mut releases = Vec::new(alloc);
@@ -95,9 +91,7 @@ pub fn read_indices<S: Shelf>(
     ensures refused { (at : Shelved) → S.found shelf.old ≡ Some at → sources_of (texts_of settings.now at) ≡ Ok sources.entry.items
         → HasStatus (texts_of settings.now at) → IfErr result (λ refused. IsRefusalBefore (texts_of settings.now at) refused) }
     ensures count { IfOk result (λ listed. length listed.0.items ≡ length listed.1.items) }
-    ensures same { S.found shelf.new ≡ S.found shelf.old }
-    ensures counted { CountsRead result (S.faults shelf.old) (S.faults shelf.new) }
-    ensures held { S.holds shelf.old shelf.new }
+    ensures read { IsReadBy S.Shelf shelf.old result shelf.new }
 {
     match read_each(alloc, shelf, settings.arch, sources) {
         Ok(listed) => Ok(listed),
@@ -117,9 +111,7 @@ pub fn read_listed<S: Shelf>(
     ensures refused { (at : Shelved) → S.found shelf.old ≡ Some at → HasStatus (texts_of settings.now at)
         → IfErr result (λ refused. IsRefusalBefore (texts_of settings.now at) refused) }
     ensures count { IfOk result (λ listed. length listed.0.items ≡ length listed.1.items) }
-    ensures same { S.found shelf.new ≡ S.found shelf.old }
-    ensures counted { CountsRead result (S.faults shelf.old) (S.faults shelf.new) }
-    ensures held { S.holds shelf.old shelf.new }
+    ensures read { IsReadBy S.Shelf shelf.old result shelf.new }
 {
     let text = match read_sources_text(alloc, shelf) {
         Ok(text) => text,

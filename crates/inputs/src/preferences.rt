@@ -4,7 +4,7 @@ ghost use Rattle.std.specs.Option.{option_copied, option_map};
 ghost use Rattle.rules.specs.Available.{Index as IndexValue};
 ghost use Rattle.rules.specs.Database.{Record};
 ghost use Rattle.inputs.specs.Before.{AreListed, AreRead, IsRefusalBefore};
-ghost use Rattle.inputs.specs.Counting.{CountsRead};
+ghost use Rattle.inputs.specs.ReadBy.{IsReadBy};
 ghost use Rattle.inputs.specs.Reading.{IsFaultOf};
 ghost use Rattle.inputs.specs.Texts.{Shelved, records_in, texts_of, with_target};
 ghost use Rattle.inputs.specs.declared.refusal.Fault.TheVariants as fault;
@@ -66,9 +66,7 @@ pub fn read_preferences<S: Shelf>(
     ensures refused { (at : Shelved) (start : List Record) (indices : List IndexValue) → S.found shelf.old ≡ Some at
         → AreListed (texts_of settings.now at) start indices
         → IfErr result (λ refused. IsRefusalBefore (texts_of settings.now at) refused) }
-    ensures same { S.found shelf.new ≡ S.found shelf.old }
-    ensures count { CountsRead result (S.faults shelf.old) (S.faults shelf.new) }
-    ensures held { S.holds shelf.old shelf.new }
+    ensures read { IsReadBy S.Shelf shelf.old result shelf.new }
 {
     let text = read_preferences_text(alloc, shelf)?;
     match prefs_of(alloc, &text, settings.target) {

@@ -2,10 +2,10 @@
 ghost use Rattle.std.specs.Prelude.{◌≡◌, Err, Ok, Result, Some, length, map};
 ghost use Rattle.std.specs.Option.{option_copied};
 ghost use Rattle.inputs.specs.Before.{HasIndices, HasStart, IsRefusalBefore};
-ghost use Rattle.inputs.specs.Counting.{CountsRead};
 ghost use Rattle.inputs.specs.Indices.{released};
 ghost use Rattle.inputs.specs.Inputs.{shelved};
 ghost use Rattle.inputs.specs.ReadAs.{AreNamed, AreReadAs};
+ghost use Rattle.inputs.specs.ReadBy.{IsReadBy};
 ghost use Rattle.inputs.specs.Texts.{Found, Shelved, Texts, status_file_of, texts_of};
 ghost use Rattle.inputs.specs.declared.refusal.Refusal.{Refusal};
 ghost use Rattle.inputs.specs.declared.settings.Settings.{Settings as SettingsOf};
@@ -50,9 +50,7 @@ pub trait Question {
         ensures said { (at : Shelved) → S.found shelf.old ≡ Some at → AreReadAs (texts_of before.now.settings.now at) before.now
             → says self.now (texts_of before.now.settings.now at) at.judged beside.old result beside.new }
         ensures kept { keeps self.now before.now.settings.now beside.old result beside.new }
-        ensures same { S.found shelf.new ≡ S.found shelf.old }
-        ensures count { CountsRead result (S.faults shelf.old) (S.faults shelf.new) }
-        ensures held { S.holds shelf.old shelf.new };
+        ensures read { IsReadBy S.Shelf shelf.old result shelf.new };
 
     // The first refusal before the request is said, and then nothing else is done.
     ghost refuses: { (question : Self) (texts : Texts) (judged : Found) (beside : Self.Beside) (refused : Refusal)
@@ -82,9 +80,7 @@ fn ask_by<'k, 'a: 'k, S: Shelf, Q: Question>(
         → HasIndices (texts_of settings.now at) (released releases.items kept.now)
         → Q.says question.now (texts_of settings.now at) at.judged beside.old result beside.new }
     ensures kept { Q.keeps question.now settings.now beside.old result beside.new }
-    ensures same { S.found shelf.new ≡ S.found shelf.old }
-    ensures count { CountsRead result (S.faults shelf.old) (S.faults shelf.new) }
-    ensures held { S.holds shelf.old shelf.new }
+    ensures read { IsReadBy S.Shelf shelf.old result shelf.new }
 {
     let indices = lend_indices(alloc, kept, releases)?;
     let prefs = read_preferences(alloc, shelf, settings)?;
@@ -112,9 +108,7 @@ pub fn ask<S: Shelf, Q: Question>(
     ensures said { (at : Shelved) → S.found shelf.old ≡ Some at
         → Q.says question.now (texts_of settings.now at) at.judged beside.old result beside.new }
     ensures kept { Q.keeps question.now settings.now beside.old result beside.new }
-    ensures same { S.found shelf.new ≡ S.found shelf.old }
-    ensures count { CountsRead result (S.faults shelf.old) (S.faults shelf.new) }
-    ensures held { S.holds shelf.old shelf.new }
+    ensures read { IsReadBy S.Shelf shelf.old result shelf.new }
 {
     let status = read_status(alloc, shelf, settings)?;
     let status_file = read_status_file(alloc, &status)?;

@@ -9,9 +9,9 @@ ghost use Rattle.rules.specs.Names.{HasListedNames};
 ghost use Rattle.universe_build.specs.Error.{IsBuilt, IsUniverseFault};
 ghost use Rattle.universe_build.specs.Listing.{IsListing};
 ghost use Rattle.universe_request.specs.Request as Read;
-ghost use Rattle.inputs.specs.Counting.{CountsRead};
 ghost use Rattle.inputs.specs.Meaning.{DenotesAsked, IsBuildFault, IsRequestFault, IsRequested};
 ghost use Rattle.inputs.specs.ReadAs.{AreReadAs, IsListed, IsOver, asking, start_of};
+ghost use Rattle.inputs.specs.ReadBy.{IsReadBy};
 ghost use Rattle.inputs.specs.Reading.{IsFaultOf, OrMemory, with_fault};
 ghost use Rattle.inputs.specs.Refused.{IsRefusal};
 ghost use Rattle.inputs.specs.Texts.{Shelved, Texts, texts_of};
@@ -215,9 +215,7 @@ pub fn read_requested<'i, 'a, S: Shelf>(
     ensures over { IfOk result (λ requested. IsOver before.now requested.universe) }
     ensures refused { (at : Shelved) → S.found shelf.old ≡ Some at → AreReadAs (texts_of before.now.settings.now at) before.now
         → IfErr result (λ refused. IsRefusal (texts_of before.now.settings.now at) refused) }
-    ensures same { S.found shelf.new ≡ S.found shelf.old }
-    ensures count { CountsRead result (S.faults shelf.old) (S.faults shelf.new) }
-    ensures held { S.holds shelf.old shelf.new }
+    ensures read { IsReadBy S.Shelf shelf.old result shelf.new }
 {
     let text = read_part(alloc, shelf, Part::Request, Input::Request)?;
     requested_in(alloc, before, None, text.as_slice())

@@ -1,9 +1,9 @@
 //! The sources, which name the indices.
 ghost use Rattle.std.specs.Prelude.{◌≡◌, ◌≢◌, IfErr, IfOk, Ok, Some, map};
 ghost use Rattle.inputs.specs.Before.{HasStatus, IsRefusalBefore};
-ghost use Rattle.inputs.specs.Counting.{CountsRead};
 ghost use Rattle.inputs.specs.Reading.{IsFaultOf};
 ghost use Rattle.inputs.specs.ReadAs.{files_of};
+ghost use Rattle.inputs.specs.ReadBy.{IsReadBy};
 ghost use Rattle.inputs.specs.Texts.{Shelved, sources_in, sources_of, texts_of};
 ghost use Rattle.inputs.specs.declared.refusal.Fault.TheVariants as fault;
 ghost use Rattle.inputs.specs.declared.settings.Settings.{Settings as SettingsOf};
@@ -32,9 +32,7 @@ pub fn read_sources_text<S: Shelf>(alloc: Global, shelf: &mut S) -> Result<Vec<u
     ensures text { (at : Shelved) → S.found shelf.old ≡ Some at → IfOk result (λ text. at.sources ≡ Some text.items) }
     ensures refused { (at : Shelved) (settings : SettingsOf) → S.found shelf.old ≡ Some at → HasStatus (texts_of settings at)
         → IfErr result (λ refused. IsRefusalBefore (texts_of settings at) refused) }
-    ensures same { S.found shelf.new ≡ S.found shelf.old }
-    ensures count { CountsRead result (S.faults shelf.old) (S.faults shelf.new) }
-    ensures held { S.holds shelf.old shelf.new }
+    ensures read { IsReadBy S.Shelf shelf.old result shelf.new }
 {
     match read_part(alloc, shelf, Part::Sources, Input::Sources) {
         Ok(text) => Ok(text),

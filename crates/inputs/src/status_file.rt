@@ -2,8 +2,8 @@
 ghost use Rattle.std.specs.Prelude.{◌≡◌, ◌≢◌, IfErr, IfOk, Ok, Some};
 ghost use Rattle.status_text.specs.Slot.{slot_records};
 ghost use Rattle.inputs.specs.Before.{HasStart, IsRefusalBefore};
+ghost use Rattle.inputs.specs.ReadBy.{IsReadBy};
 ghost use Rattle.inputs.specs.StatusText.{IsStatusText};
-ghost use Rattle.inputs.specs.Counting.{CountsRead};
 ghost use Rattle.inputs.specs.Reading.{IsFaultOf, OrMemory};
 ghost use Rattle.inputs.specs.Texts.{Shelved, Texts, status_in, status_file_of, status_refusal, texts_of};
 ghost use Rattle.inputs.specs.declared.refusal.Fault.TheVariants as fault;
@@ -54,9 +54,7 @@ pub fn read_status<S: Shelf>(
     ensures text { (at : Shelved) → S.found shelf.old ≡ Some at → IfOk result (λ status. IsStatusText (texts_of settings.now at) status) }
     ensures refused { (at : Shelved) → S.found shelf.old ≡ Some at
         → IfErr result (λ refused. IsRefusalBefore (texts_of settings.now at) refused) }
-    ensures same { S.found shelf.new ≡ S.found shelf.old }
-    ensures count { CountsRead result (S.faults shelf.old) (S.faults shelf.new) }
-    ensures held { S.holds shelf.old shelf.new }
+    ensures read { IsReadBy S.Shelf shelf.old result shelf.new }
 {
     match read_part(alloc, shelf, Part::Status, Input::Status) {
         Ok(text) => Ok(StatusText {

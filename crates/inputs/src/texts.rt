@@ -1,7 +1,7 @@
 //! The texts, each at its turn: a text that can't be read is refused at its place.
 ghost use Rattle.std.specs.Prelude.{◌≡◌, IfErr, IfOk, List, Some, ℕ};
 ghost use Rattle.std.specs.Option.{option_map};
-ghost use Rattle.inputs.specs.Counting.{CountsRead};
+ghost use Rattle.inputs.specs.ReadBy.{IsReadBy};
 ghost use Rattle.inputs.specs.Reading.{AreUnread, IsUnread, unread_at};
 ghost use Rattle.inputs.specs.Texts.{Shelved, part_of};
 ghost use Rattle.inputs.specs.declared.refusal.Input.TheVariants as place;
@@ -33,9 +33,7 @@ pub fn read_part<S: Shelf>(
     ensures text { (at : Shelved) → S.found shelf.old ≡ Some at → IfOk result (λ text. part_of at part ≡ Some text.items) }
     ensures missing { (at : Shelved) → S.found shelf.old ≡ Some at
         → IfErr result (λ refused. IsUnread place (part_of at part) refused) }
-    ensures same { S.found shelf.new ≡ S.found shelf.old }
-    ensures count { CountsRead result (S.faults shelf.old) (S.faults shelf.new) }
-    ensures held { S.holds shelf.old shelf.new }
+    ensures read { IsReadBy S.Shelf shelf.old result shelf.new }
 {
     match shelf.read(alloc, part) {
         Ok(text) => Ok(text),
@@ -51,9 +49,7 @@ pub(crate) fn read_preferences_text<S: Shelf>(
     ensures text { (at : Shelved) → S.found shelf.old ≡ Some at
         → IfOk result (λ text. at.preferences ≡ option_map (λ text. Some text.items) text) }
     ensures missing { (at : Shelved) → S.found shelf.old ≡ Some at → IfErr result (λ refused. AreUnread at.preferences refused) }
-    ensures same { S.found shelf.new ≡ S.found shelf.old }
-    ensures count { CountsRead result (S.faults shelf.old) (S.faults shelf.new) }
-    ensures held { S.holds shelf.old shelf.new }
+    ensures read { IsReadBy S.Shelf shelf.old result shelf.new }
 {
     match shelf.read_preferences(alloc) {
         Ok(text) => Ok(text),
@@ -73,9 +69,7 @@ pub fn open_index<S: Shelf>(
     ensures missing { (at : Shelved) → S.found shelf.old ≡ Some at
         → IfErr result (λ refused. IsUnread (place.Index number) (at.index number file.now) refused) }
     ensures fresh { IfOk result (λ text. S.Text.faults text ≡ 0) }
-    ensures same { S.found shelf.new ≡ S.found shelf.old }
-    ensures count { CountsRead result (S.faults shelf.old) (S.faults shelf.new) }
-    ensures held { S.holds shelf.old shelf.new }
+    ensures read { IsReadBy S.Shelf shelf.old result shelf.new }
 {
     match shelf.open(alloc, number, file) {
         Ok(text) => Ok(text),

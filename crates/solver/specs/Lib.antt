@@ -1,2 +1,3 @@
+pub mod Decided
 pub mod Solvable
 pub mod Solved

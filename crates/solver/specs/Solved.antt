@@ -1,5 +1,5 @@
 -- What is answered to a request over its universe.
-use Rattle.std.specs.Prelude.{◌≡◌, ℕ, Bool, List, ⊤}
+use Rattle.std.specs.Prelude.{◌≡◌, ℕ, Bool, List, Option, Some, None, ⊤}
 use Rattle.refutation.specs.Refutation.{IsAccepted}
 use Rattle.refutation.specs.declared.line.Line.{Line}
 use Rattle.refutation_text.specs.Text.{IsWritable}
@@ -50,6 +50,11 @@ IsStuck u start steps = (numbers : List ℕ) × IsStuckFor u start steps numbers
 -- the lines are accepted, and they can be written, so that their text is read as them again
 abbrev pub IsShownBy : Universe → List Line → Type 0
 IsShownBy u lines = IsAccepted u lines × IsWritable lines
+
+-- lines are answered, and they show that no selection is acceptable; or none are, since those that were found don't show it
+abbrev pub IsJudged : Universe → Option (List Line) → Type 0
+IsJudged u (Some lines) = IsShownBy u lines × ((selection : ℕ → Bool) → ¬ IsAcceptable u selection)
+IsJudged u None = (lines : List Line) × ¬ IsShownBy u lines
 
 -- it is undecided: at the limit handed in, where some clause leaves a choice; the start isn't quiet; an acceptable and locally
 -- minimal selection isn't put in order, and the change to it isn't plain; or lines that were found don't show that there is none

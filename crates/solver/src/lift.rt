@@ -15,7 +15,7 @@ ghost use Rattle.search.specs.Found.{IsSelection};
 ghost use Rattle.search_settle.specs.Encoded.{StandingArePresent};
 ghost use Rattle.universe_parts.specs.Parts.{HaveDistinctNames};
 
-use encode::Encoding;
+use encode::{Encoding, true_selection_is_acceptable};
 use part::{list_is_lifted, part_has_needed_pairs, part_is_acceptable, part_is_minimal};
 use reach::Reached;
 use search_settle::settle;
@@ -32,6 +32,35 @@ fn lifted(alloc: Global, numbers: &[u32], chosen: &[u32]) -> Result<Vec<u32>, Al
         lifted.push(numbers[*number as usize - 1])?;
     }
     Ok(lifted)
+}
+
+/// The numbers in the universe of a selection of the part that makes all clauses true: they ascend, and their selection is acceptable.
+/// Memory alone can fail.
+pub(crate) fn lifted_selection(
+    alloc: Global,
+    universe: &Universe<'_, '_>,
+    reached: &Reached<'_, '_, '_>,
+    encoding: &Encoding<'_>,
+    selection: &[u32],
+) -> Result<Vec<u32>, AllocError>
+    requires part { IsPart universe.now reached.now.numbers.items reached.now.part }
+    requires closed { IsClosedPart universe.now reached.now.numbers.items }
+    requires encoding { IsEncoding reached.now.part encoding.now }
+    requires present { StandingArePresent universe.now }
+    requires ascending { HasAscendingPairs universe.now }
+    requires needed { HasNeededPairs universe.now }
+    requires selection { IsSelection encoding.now.clauses.numbers selection.now }
+    requires makes_true { MakesAllTrue selection.now encoding.now.clauses.clauses }
+    ensures acceptable { IfOk result (λ lifted. IsAcceptable universe.now (selects lifted.items)) }
+    ensures numbers { IfOk result (λ lifted. AreAscending lifted.items) }
+{
+    list_is_lifted();
+    part_has_needed_pairs();
+    part_is_acceptable();
+    true_selection_is_acceptable();
+    let (_universe, _encoding) = (universe, encoding);
+    let numbers = lifted(alloc, reached.numbers.as_slice(), selection)?;
+    Ok(numbers)
 }
 
 /// Has settled a selection of the part that makes all clauses true: the numbers in the universe of a selection that is

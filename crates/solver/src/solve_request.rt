@@ -8,7 +8,7 @@ ghost use Rattle.search.specs.Found.{IsAnswer};
 ghost use Rattle.solver.specs.Solvable.{IsSolvable};
 ghost use Rattle.solver.specs.Solved.{IsAnswerTo, IsOfRefutation, IsSolved};
 
-use crate::convert::refutation_of;
+use crate::judged::judged;
 use crate::lift::settled;
 use crate::plan::planned;
 use crate::solved::{Solved, Undecided};
@@ -17,16 +17,13 @@ use part::choice_of_part;
 use plancheck::is_quiet;
 use plancheck_state::Records;
 use reach::{Reached, reach};
-use refutation::one_answer;
-use refutation_text::is_writable;
-use refutecheck::{Verdict, check_refutation};
 use search::{Found, Refutation, search};
 use search_settle::standing_records_are_present;
 use std::alloc::{AllocError, Global};
 use universe::Universe;
 
 // Has judged what was found as a refutation.
-fn judged(
+fn refuted(
     alloc: Global,
     start: &Records<'_, '_>,
     universe: &Universe<'_, '_>,
@@ -40,16 +37,10 @@ fn judged(
     ensures solved { IfOk result (λ solved. IsSolved universe.now start.now limit solved) }
     ensures answer { IfOk result (λ solved. IsOfRefutation solved) }
 {
-    one_answer();
-    let _start = start;
-    let refutation = refutation_of(alloc, reached, encoding, found)?;
-    let writable = is_writable(alloc, &refutation)?;
-    if !writable {
-        return Ok(Solved::Undecided(Undecided::Unchecked));
-    }
-    match check_refutation(alloc, universe, &refutation)? {
-        Verdict::Yes => Ok(Solved::Refuted(refutation)),
-        Verdict::No(_) => Ok(Solved::Undecided(Undecided::Unchecked)),
+    let (_start, _limit) = (start, limit);
+    match judged(alloc, universe, reached, encoding, found)? {
+        Some(refutation) => Ok(Solved::Refuted(refutation)),
+        None => Ok(Solved::Undecided(Undecided::Unchecked)),
     }
 }
 
@@ -81,7 +72,7 @@ fn answer_of<'p, 'a>(
             Ok(solved)
         }
         Found::Refutation(refutation) => {
-            let solved = judged(alloc, start, universe, reached, encoding, refutation, limit)?;
+            let solved = refuted(alloc, start, universe, reached, encoding, refutation, limit)?;
             Ok(solved)
         }
         Found::Limit(spent) => Ok(Solved::Undecided(Undecided::Limit(*spent))),

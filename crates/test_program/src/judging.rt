@@ -115,10 +115,11 @@ const PATHS: Paths<'static> = Paths {
 
 // What is answered about the plan of the files of a host.
 fn judged<H: Host>(alloc: Global, host: &mut H) -> Result<JudgedPlan, Refusal> {
+    let mut seen = None;
     let mut shelf = HostShelf {
         host,
-        paths: PATHS,
-        seen: None,
+        paths: &PATHS,
+        seen: &mut seen,
         openings: Openings::none(),
     };
     let mut notes = Notes::new(alloc);
@@ -214,10 +215,11 @@ fn add_foo(alloc: Global, host: &mut Memory<'_>) -> Result<(), Fail> {
 fn answer_of_foo(alloc: Global) -> Result<Result<Items<Option<Candidate>>, Refusal>, Fail> {
     let mut host = Memory::new(alloc);
     add_foo(alloc, &mut host)?;
+    let mut seen = None;
     let mut shelf = HostShelf {
         host: &mut host,
-        paths: PATHS,
-        seen: None,
+        paths: &PATHS,
+        seen: &mut seen,
         openings: Openings::none(),
     };
     let question = Candidates {

@@ -2,7 +2,7 @@
 ghost use Rattle.std.specs.Prelude.{◌≡◌, IfErr, IfOk, List, Some, length, map, ℕ};
 ghost use Rattle.std.specs.List.{AllZip};
 ghost use Rattle.std.specs.List.Sorted.{IsNonDecreasingBy};
-ghost use Rattle.inputs.specs.Counting.{CountsRead};
+ghost use Rattle.inputs.specs.ReadBy.{IsReadBy};
 ghost use Rattle.inputs.specs.Texts.{Shelved};
 ghost use Rattle.unpack_texts.specs.Fetched.{items_in};
 ghost use Rattle.unpack_texts.specs.Opened.{IsOpenedFault};
@@ -31,9 +31,7 @@ pub(crate) fn fetch_from<S: Shelf>(
         × AllZip (IsEnded arch.now (items_in bytes)) (map (λ entry. entry.now) wanted.now) (map (λ text. text.items) texts.items)) }
     ensures refused { (at : Shelved) → S.found shelf.old ≡ Some at → IfErr result (λ refused.
         IsOpenedFault arch.now number (at.index number file.now) (map (λ entry. entry.now) wanted.now) refused) }
-    ensures same { S.found shelf.new ≡ S.found shelf.old }
-    ensures count { CountsRead result (S.faults shelf.old) (S.faults shelf.new) }
-    ensures held { S.holds shelf.old shelf.new }
+    ensures read { IsReadBy S.Shelf shelf.old result shelf.new }
 {
     let mut text = open_index(alloc, shelf, number, file)?;
     match fetch(alloc, &mut text, arch, wanted) {

@@ -1,7 +1,7 @@
 //! The texts of all steps of a plan.
 ghost use Rattle.std.specs.Prelude.{◌≡◌, ◌<◌, IfErr, IfOk, OnOk, Some, length, map};
 ghost use Rattle.std.specs.Option.{option_copied};
-ghost use Rattle.inputs.specs.Counting.{CountsRead};
+ghost use Rattle.inputs.specs.ReadBy.{IsReadBy};
 ghost use Rattle.inputs.specs.Texts.{Shelved};
 ghost use Rattle.universe_parts.specs.Parts.{numbered};
 ghost use Rattle.unpack_texts.specs.Filled.{IsFilled};
@@ -45,9 +45,7 @@ fn fetch_group<S: Shelf>(
         (Belongs arch.now at.index (map (λ file. file.now) files.now)) group.now texts.old.items texts.new.items) }
     ensures refused { (at : Shelved) → S.found shelf.old ≡ Some at → IfErr result (λ refused.
         IsGroupRefusal arch.now at.index (map (λ file. file.now) files.now) group.now refused) }
-    ensures same { S.found shelf.new ≡ S.found shelf.old }
-    ensures counted { CountsRead result (S.faults shelf.old) (S.faults shelf.new) }
-    ensures held { S.holds shelf.old shelf.new }
+    ensures read { IsReadBy S.Shelf shelf.old result shelf.new }
 {
     let Some(file) = file_of(files, number) else {
         return Err(refused_at(Input::Index(number), Fault::Changed));
@@ -74,9 +72,7 @@ fn fetch_all<S: Shelf>(
         (Belongs arch.now at.index (map (λ file. file.now) files.now)) wanted.now texts.old.items texts.new.items) }
     ensures refused { (at : Shelved) → S.found shelf.old ≡ Some at → IfErr result (λ refused.
         IsGroupRefusal arch.now at.index (map (λ file. file.now) files.now) wanted.now refused) }
-    ensures same { S.found shelf.new ≡ S.found shelf.old }
-    ensures counted { CountsRead result (S.faults shelf.old) (S.faults shelf.new) }
-    ensures held { S.holds shelf.old shelf.new }
+    ensures read { IsReadBy S.Shelf shelf.old result shelf.new }
 {
     let mut at = 0;
     while at < wanted.len() {
@@ -108,9 +104,7 @@ pub fn fetch_texts<S: Shelf>(
     ensures refused { (at : Shelved) → S.found shelf.old ≡ Some at → IfErr result (λ refused.
         IsTextsRefusal arch.now at.index (map (λ file. file.now) files.now) universe.now steps.now refused) }
     ensures count { IfOk result (λ texts. length texts.items ≡ length steps.now) }
-    ensures same { S.found shelf.new ≡ S.found shelf.old }
-    ensures counted { CountsRead result (S.faults shelf.old) (S.faults shelf.new) }
-    ensures held { S.holds shelf.old shelf.new }
+    ensures read { IsReadBy S.Shelf shelf.old result shelf.new }
 {
     let wanted = by_index(wanted_by(alloc, universe, steps)?)?;
     let mut texts = empty_places(alloc, steps.len())?;

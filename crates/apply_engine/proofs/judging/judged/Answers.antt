@@ -17,14 +17,14 @@ returns-in_err-steps-clause-refused g c = λ at known read.
     let denoted = (c.in_ok-universe.ensures.asked at known read).denoted in
     let p = err_from_is_err_and c.from_residual-in_err-steps.result c.from_residual-in_err-steps.ensures.1 in
     rw (p.1, p.2) (c.in_err-steps.ensures.refused at (texts_of c.args.before.now.settings.now at) c.in_ok-universe.field-0.universe
-    (start_of c.args.before.now) (c.in_ok-universe.ensures.same ∙ known) denoted)
+    (start_of c.args.before.now) (c.in_ok-universe.ensures.read.same ∙ known) denoted)
 
 pub returns-clause-answer : goal.returns-clause-answer
 returns-clause-answer g c = λ at known read. record {
   begin = start_of c.args.before.now;
   read_as = record {
     denoted = (c.in_ok-universe.ensures.asked at known read).denoted;
-    read = c.in_ok-steps.ensures.ok at (c.in_ok-universe.ensures.same ∙ known);
+    read = c.in_ok-steps.ensures.ok at (c.in_ok-universe.ensures.read.same ∙ known);
   };
   holds = subst (λ (ss : List Step). IsVerdict c.in_ok-universe.field-0.universe (start_of c.args.before.now) ss c.in_ok-verdict.verdict)
       c.as_slice.ensures.value c.in_ok-verdict.ensures;

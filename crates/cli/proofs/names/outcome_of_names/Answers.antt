@@ -5,8 +5,8 @@ use Rattle.cli.proofs.names.outcome_of_names.Goals as goal
 use Rattle.cli.specs.Calls.{IsOutcomeOfNames, texts_at}
 use Rattle.outcomes.specs.Outcome.{IsOutcomeIn}
 
-pub returns : goal.returns
-returns g c at known =
+pub returns-clause-printed : goal.returns-clause-printed
+returns-clause-printed g c at known =
     let texts = texts_at at c.args.arguments.now in
     let written = c.args.arguments.now.format in
     if_ok c.outcome_in.result (IsOutcomeIn written c.in_ok-plain.plain) (IsOutcomeOfNames texts (map (λ name. name.now) c.args.names.now) written)

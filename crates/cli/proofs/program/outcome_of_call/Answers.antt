@@ -1,38 +1,102 @@
--- What is printed of each call is what is said in answer to it.
-use Rattle.std.proofs.Common.{[], IfOk, List, ap, map, refl, subst}
+-- What is printed and left of each call is what is said in answer to it.
+use Rattle.std.proofs.Common.{[], IfOk, List, ap, map, refl, rules, subst, ◌∙◌}
 use Rattle.cli.proofs.CallLemmas.{exchanged}
+use Rattle.cli.proofs.LeavingLemmas.{none_left, nothing_left}
 use Rattle.cli.proofs.program.outcome_of_call.Goals as goal
-use Rattle.cli.specs.Calls.{IsOutcomeOfLines, IsOutcomeOfNames, IsOutcomeOfPlanJudged}
+use Rattle.cli.specs.Calls.{IsOutcomeOfLines, IsOutcomeOfNames, IsOutcomeOfPlanJudged, texts_at}
 use Rattle.cli.specs.Applied.{IsOutcomeOfPlanTaken}
-use Rattle.cli.specs.Places.{texts_for}
-use Rattle.command_line.specs.Asked.{given_by, goals, request_by, texts_by}
+use Rattle.cli.specs.Leaving.{IsLeftOfAsked, IsLeftOfExtent, IsLeftOfPlanTaken, IsLeftWith}
+use Rattle.cli.specs.Places.{paths_for, paths_read, texts_for}
+use Rattle.command_line.specs.Asked.{asked_by, extent_by, given_by, goals, request_by, texts_by}
 use Rattle.command_line.specs.Joined.{Text}
 
-pub returns-in-Candidate : goal.returns-in-Candidate
-returns-in-Candidate g c at known =
+pub returns-in-Compare-clause-printed : goal.returns-in-Compare-clause-printed
+returns-in-Compare-clause-printed g c at known = rw c.in-Compare.is (search rules)
+
+pub returns-in-Candidate-clause-printed : goal.returns-in-Candidate-clause-printed
+returns-in-Candidate-clause-printed g c at known =
     let made = c.arguments_by-arguments in
     let r = c.outcome_of_names.result in
     rw c.in-Candidate.is (subst (λ (names : List Text). IfOk r (IsOutcomeOfNames (texts_for at (given_by c.in-Candidate.options) (goals [])) names c.in-Candidate.format)) (ap texts_by c.as_slice.ensures.value)
     (exchanged (λ texts word written. IfOk r (IsOutcomeOfNames texts (map (λ name. name.now) c.as_slice.result.now) written)) _ _ [] [] _ _
-    (made.ensures.texts at (goals []) refl) refl made.ensures.format (c.outcome_of_names.ensures at known)))
+    (made.ensures.texts at (goals []) refl) refl made.ensures.format (c.outcome_of_names.ensures.printed at known)))
 
-pub returns-in-CheckPlan : goal.returns-in-CheckPlan
-returns-in-CheckPlan g c at known =
+pub returns-in-CheckPlan-clause-printed : goal.returns-in-CheckPlan-clause-printed
+returns-in-CheckPlan-clause-printed g c at known =
     let made = c.arguments_by-arguments-in-CheckPlan in
     rw c.in-CheckPlan.is (exchanged (λ texts plan written. IfOk c.outcome_of_plan_judged.result (IsOutcomeOfPlanJudged texts (at plan) written)) _ _ _ _ _ _
     (made.ensures.texts at (request_by c.in-CheckPlan.request) (c.place_of-place-in-CheckPlan.ensures.text at)) made.ensures.judged made.ensures.format
-    (c.outcome_of_plan_judged.ensures at known))
+    (c.outcome_of_plan_judged.ensures.printed at known))
 
-pub returns-in-CheckRefutation : goal.returns-in-CheckRefutation
-returns-in-CheckRefutation g c at known =
+pub returns-in-CheckRefutation-clause-printed : goal.returns-in-CheckRefutation-clause-printed
+returns-in-CheckRefutation-clause-printed g c at known =
     let made = c.arguments_by-arguments-in-CheckRefutation in
     rw c.in-CheckRefutation.is (exchanged (λ texts lines written. IfOk c.outcome_of_lines.result (IsOutcomeOfLines texts (at lines) written)) _ _ _ _ _ _
     (made.ensures.texts at (request_by c.in-CheckRefutation.request) (c.place_of-place-in-CheckRefutation.ensures.text at)) made.ensures.judged made.ensures.format
-    (c.outcome_of_lines.ensures at known))
+    (c.outcome_of_lines.ensures.printed at known))
 
-pub returns : goal.returns
-returns g c at known =
+pub returns-clause-printed : goal.returns-clause-printed
+returns-clause-printed g c at known =
     let made = c.arguments_by-arguments-in-Apply in
     rw c.in-Apply.is (exchanged (λ texts plan written. IfOk c.outcome_of_applied.result (IsOutcomeOfPlanTaken texts (at plan))) _ _ _ _ _ _
     (made.ensures.texts at (request_by c.in-Apply.request) (c.place_of-place-in-Apply.ensures.text at)) made.ensures.judged made.ensures.format
-    (c.outcome_of_applied.ensures at known))
+    (c.outcome_of_applied.ensures.printed at known))
+
+pub returns-in_err-goals-clause-left : goal.returns-in_err-goals-clause-left
+returns-in_err-goals-clause-left g c at was f k =
+    none_left at was _ _ (IsLeftOfAsked g.H.Journal.Disk.honest g.H.Journal.Disk.facts (asked_by c.args.call.now) at was) _ c.from_residual.ensures.0 (f, k)
+
+pub returns-in-Compare-clause-left : goal.returns-in-Compare-clause-left
+returns-in-Compare-clause-left g c at was f k =
+    nothing_left at was _ _ g.H.Journal.Disk.honest g.H.Journal.Disk.facts (asked_by c.args.call.now) (rw c.in-Compare.is tt) c.outcome_of_versions.result
+    (returns-in-Compare-clause-printed g c at f) (f, k)
+
+pub returns-in-Candidate-clause-left : goal.returns-in-Candidate-clause-left
+returns-in-Candidate-clause-left g c at was f k =
+    nothing_left at was _ _ g.H.Journal.Disk.honest g.H.Journal.Disk.facts (asked_by c.args.call.now) (rw c.in-Candidate.is tt) c.outcome_of_names.result
+    (returns-in-Candidate-clause-printed g c at f) (c.outcome_of_names.ensures.same ∙ f, c.outcome_of_names.ensures.keeps ∙ k)
+
+pub returns-in-Solve-clause-left : goal.returns-in-Solve-clause-left
+returns-in-Solve-clause-left g c at was f k =
+    let made = c.arguments_by-arguments-in-Solve in
+    let r = c.outcome_of_extent.result in
+    let files = g.H.Host.files c.outcome_of_extent.new.host in
+    let kept = g.H.Host.kept c.outcome_of_extent.new.host in
+    rw c.in-Solve.is (exchanged (λ texts word written. IsLeftWith (IsLeftOfExtent texts c.in-Solve.limit (extent_by c.in-Solve.extent) written at was) at was r files kept)
+    _ _ [] [] _ _ (made.ensures.texts at (request_by c.in-Solve.request) (c.place_of-place.ensures.text at)) refl made.ensures.format
+    (c.outcome_of_extent.ensures.left at was f k))
+
+pub returns-in-CheckPlan-clause-left : goal.returns-in-CheckPlan-clause-left
+returns-in-CheckPlan-clause-left g c at was f k =
+    nothing_left at was _ _ g.H.Journal.Disk.honest g.H.Journal.Disk.facts (asked_by c.args.call.now) (rw c.in-CheckPlan.is tt) c.outcome_of_plan_judged.result
+    (returns-in-CheckPlan-clause-printed g c at f) (c.outcome_of_plan_judged.ensures.same ∙ f, c.outcome_of_plan_judged.ensures.keeps ∙ k)
+
+pub returns-in-CheckRefutation-clause-left : goal.returns-in-CheckRefutation-clause-left
+returns-in-CheckRefutation-clause-left g c at was f k =
+    nothing_left at was _ _ g.H.Journal.Disk.honest g.H.Journal.Disk.facts (asked_by c.args.call.now) (rw c.in-CheckRefutation.is tt) c.outcome_of_lines.result
+    (returns-in-CheckRefutation-clause-printed g c at f) (c.outcome_of_lines.ensures.same ∙ f, c.outcome_of_lines.ensures.keeps ∙ k)
+
+pub returns-clause-left : goal.returns-clause-left
+returns-clause-left g c at was f k =
+    let made = c.arguments_by-arguments-in-Apply in
+    let place = c.place_of-place-in-Apply in
+    let request = request_by c.in-Apply.request in
+    let honest = g.H.Journal.Disk.honest in
+    let facts = g.H.Journal.Disk.facts in
+    let journal = c.in-Apply.journal.now in
+    let output = c.in-Apply.output.now in
+    let r = c.outcome_of_applied.result in
+    let files = g.H.Host.files c.outcome_of_applied.new.host in
+    let kept = g.H.Host.kept c.outcome_of_applied.new.host in
+    let read = paths_for (given_by c.in-Apply.options) request c.in-Apply.plan.now in
+    let texts = texts_at at made.result in
+    let plan = at made.result.paths.judged.now in
+    let paths = paths_read made.result.paths in
+    rw c.in-Apply.is (exchanged (λ texts plan written. IsLeftWith (IsLeftOfPlanTaken honest facts texts (at plan) read journal output at was) at was r files kept)
+    _ _ _ _ _ _ (made.ensures.texts at request (place.ensures.text at)) made.ensures.judged made.ensures.format
+    (subst (λ (others : List Text). IsLeftWith (IsLeftOfPlanTaken honest facts texts plan others journal output at was) at was r files kept)
+    (made.ensures.read request place.ensures.path)
+    (subst (λ (path : Text). IsLeftWith (IsLeftOfPlanTaken honest facts texts plan paths journal path at was) at was r files kept)
+    c.as_bytes-in-Apply.ensures.value
+    (subst (λ (path : Text). IsLeftWith (IsLeftOfPlanTaken honest facts texts plan paths path c.as_bytes-in-Apply.result.now at was) at was r files kept)
+    c.as_bytes.ensures.value (c.outcome_of_applied.ensures.left at was f k)))))

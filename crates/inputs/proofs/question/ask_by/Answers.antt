@@ -21,7 +21,7 @@ returns-clause-said g c = λ at known started slots named indexed.
     let texts = texts_of c.args.settings.now at in
     let listed = lent_listed texts (slot_records c.args.status_file.now.slots) c.args.releases.items
     c.args.kept.now c.in_ok-indices.indices.items c.as_slice.result.now started indexed c.in_ok-indices.ensures c.as_slice.ensures.value in
-    c.answer.ensures.said at (c.in_ok-prefs.ensures.same ∙ known) (record {
+    c.answer.ensures.said at (c.in_ok-prefs.ensures.read.same ∙ known) (record {
       arch = refl;
       read = c.in_ok-prefs.ensures.ok at (slot_records c.args.status_file.now.slots) (indices_of c.as_slice.result.now) known listed;
       status_is = slots;

@@ -5,6 +5,7 @@ use Rattle.std.proofs.lemmas.List.{length-drop, take-append-drop}
 use Rattle.std.proofs.lemmas.Result.{err_from_is_err_and}
 use Rattle.inputs.specs.Texts.{Found}
 use Rattle.inputs.specs.declared.refusal.Refusal.{Refusal}
+use Rattle.inputs.proofs.ReadByLemmas.{answered, read_on}
 use Rattle.rules.specs.ElementLaws.{Any-append_left, Any-append_right}
 use Rattle.unpack_texts.specs.Filled.{IsFilled}
 use Rattle.unpack_texts.specs.Opened.{Belongs, IsGroupRefusal}
@@ -32,7 +33,7 @@ returns-in_err-fetch_group-clause-refused g c at known =
     let p = err_from_is_err_and c.from_residual.result c.from_residual.ensures.1 in
     rw (p.1, p.2) (of_all c.args.arch.now at.index files c.args.wanted.now c.loop-at.at count _
     (subst (λ (l : List WantedStanza). IsGroupRefusal c.args.arch.now at.index files l c.in_err-fetch_group.field-0.0) group
-    (c.in_err-fetch_group.ensures.refused at (c.loop-at.invariant.same ∙ known))))
+    (c.in_err-fetch_group.ensures.refused at (c.loop-at.invariant.read.same ∙ known))))
 
 pub loop-at-preserved : goal.loop-at-preserved
 loop-at-preserved g c =
@@ -48,8 +49,6 @@ loop-at-preserved g c =
           subst (λ (l : List WantedStanza). IsFilled B l c.args.texts.now.items c.fetch_group.new.texts.items) (sym (take_both c.loop-at.at count wanted))
           (filled_then B (take c.loop-at.at wanted) (take count (drop c.loop-at.at wanted)) c.args.texts.now.items c.loop-at.texts.items c.fetch_group.new.texts.items
           (c.loop-at.invariant.filled at known)
-          (subst (λ (l : List WantedStanza). IsFilled B l c.loop-at.texts.items c.fetch_group.new.texts.items) group (done.filled at (c.loop-at.invariant.same ∙ known)))));
-      same = done.same ∙ c.loop-at.invariant.same;
-      count = done.counted ∙ c.loop-at.invariant.count;
-      held = g.met.S.Shelf.holds_on c.args.shelf.now c.loop-at.shelf c.fetch_group.new.shelf c.loop-at.invariant.held done.held;
+          (subst (λ (l : List WantedStanza). IsFilled B l c.loop-at.texts.items c.fetch_group.new.texts.items) group (done.filled at (c.loop-at.invariant.read.same ∙ known)))));
+      read = answered (read_on g.met.S.Shelf.holds_on c.loop-at.invariant.read done.read);
     }

@@ -1,5 +1,6 @@
 -- The texts of the first stanzas are put at their places.
-use Rattle.std.proofs.Common.{◌≡◌, ◌-◌, ◌≤◌, Some, length, map, take}
+use Rattle.std.proofs.Common.{◌≡◌, ◌-◌, ◌≤◌, Ok, Some, length, map, take}
+use Rattle.inputs.specs.ReadBy.{IsReadBy}
 use Rattle.inputs.specs.Texts.{Shelved}
 use Rattle.unpack_texts.specs.Filled.{IsFilled}
 use Rattle.unpack_texts.specs.Opened.{Belongs}
@@ -11,9 +12,7 @@ invariant-loop-at g l = record {
   size : length l.texts.items ≡ length l.fn.texts.items;
   filled : (at : Shelved) → g.S.Shelf.found l.fn.shelf ≡ Some at
       → IsFilled (Belongs l.arch at.index (map (λ file. file.now) l.files)) (take l.at l.wanted) l.fn.texts.items l.texts.items;
-  same : g.S.Shelf.found l.shelf ≡ g.S.Shelf.found l.fn.shelf;
-  count : g.S.Shelf.faults l.shelf ≡ g.S.Shelf.faults l.fn.shelf;
-  held : g.S.Shelf.holds l.fn.shelf l.shelf;
+  read : IsReadBy g.S.Shelf l.fn.shelf (Ok l.texts) l.shelf;
 }
 
 abbrev pub decreases-loop-at : goal.decreases-loop-at

@@ -5,6 +5,7 @@ use Rattle.rules.specs.Verdict.{IsVerdict}
 use Rattle.rules.specs.declared.step.Step.{Step}
 use Rattle.inputs.specs.ReadAs.{start_of}
 use Rattle.inputs.specs.Texts.{texts_of}
+use Rattle.inputs.proofs.ReadByLemmas.{read_on, then_wanting}
 use Rattle.cli_engine.proofs.check.CheckPlanQuestion.answer.Goals as goal
 
 pub returns-in_err-steps-clause-said : goal.returns-in_err-steps-clause-said
@@ -12,14 +13,15 @@ returns-in_err-steps-clause-said g c = λ at known read.
     let denoted = (c.in_ok-universe.ensures.asked at known read).denoted in
     let p = err_from_is_err_and c.from_residual-in_err-steps.result c.from_residual-in_err-steps.ensures.1 in
     rw (p.1, p.2) (c.in_err-steps.ensures.refused at (texts_of c.args.before.now.settings.now at) c.in_ok-universe.field-0.universe
-    (start_of c.args.before.now) (c.in_ok-universe.ensures.same ∙ known) denoted)
+    (start_of c.args.before.now) (c.in_ok-universe.ensures.read.same ∙ known) denoted)
 
-pub returns-in_err-steps-clause-held : goal.returns-in_err-steps-clause-held
-returns-in_err-steps-clause-held g c = g.met.S.Shelf.holds_on _ _ _ c.read_asked.ensures.held c.read_steps.ensures.held
+pub returns-in_err-tell_judged-clause-read : goal.returns-in_err-tell_judged-clause-read
+returns-in_err-tell_judged-clause-read g c = then_wanting c.from_residual-in_err-tell_judged.result
+    (read_on g.met.S.Shelf.holds_on c.in_ok-universe.ensures.read c.in_ok-steps.ensures.read) c.from_residual-in_err-tell_judged.ensures.1
 
 pub returns-clause-said : goal.returns-clause-said
 returns-clause-said g c = λ at known read.
-    let steps = c.in_ok-steps.ensures.ok at (c.in_ok-universe.ensures.same ∙ known) in
+    let steps = c.in_ok-steps.ensures.ok at (c.in_ok-universe.ensures.read.same ∙ known) in
     record {
       answer = record {
         universe = c.in_ok-universe.field-0.universe;

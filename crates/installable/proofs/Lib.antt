@@ -1,0 +1,4 @@
+pub mod AskedLemmas
+pub mod DecidableLemmas
+pub mod OrderLemmas
+pub mod ShardLemmas

@@ -1,0 +1,9 @@
+-- The request of a universe over what is read can be decided, and what is decided of it is told.
+use Rattle.installable.proofs.DecidableLemmas.{over_is_decidable}
+use Rattle.installable.proofs.over.installability_over.Goals as goal
+
+pub decide-requires : goal.decide-requires
+decide-requires c = over_is_decidable c.args.before.now c.args.universe.now c.requires
+
+pub returns : goal.returns
+returns c = c.told.ensures c.args.universe.now c.args.limit c.in_ok-decided.ensures

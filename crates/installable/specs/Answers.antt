@@ -1,0 +1,96 @@
+-- What is answered of packages, and which refusal comes first.
+use Rattle.std.specs.Prelude.{◌≡◌, ◌⊎◌, ℕ, Bool, List, [], map, Result, Ok, Err, if◌then◌else◌}
+use Rattle.std.specs.List.{AllZip, Any}
+use Rattle.inputs.specs.Before.{HasIndices, IsRefusalBefore}
+use Rattle.inputs.specs.Meaning.{Denotes}
+use Rattle.inputs.specs.ReadAs.{asking}
+use Rattle.inputs.specs.Refused.{IsRefusal}
+use Rattle.inputs.specs.Texts.{Texts}
+use Rattle.inputs.specs.declared.refusal.Refusal.{Refusal}
+use Rattle.part.specs.Premises.{LeavesChoice}
+use Rattle.refutation.specs.declared.line.Line.{Line}
+use Rattle.refutation_text.specs.Text.{refutation_text}
+use Rattle.rules.specs.Available.{Index}
+use Rattle.rules.specs.Database.{Record}
+use Rattle.rules.specs.Sound.{IsAcceptable}
+use Rattle.rules.specs.Step.{IndexPackage}
+use Rattle.rules.specs.Universe.{Universe}
+use Rattle.solver.specs.Solved.{IsShownBy}
+use Rattle.installable.specs.Asked.{AreAsked}
+use Rattle.installable.specs.Essential.{essential_names}
+use Rattle.installable.specs.RequestText.{lines_beside, request_of}
+use Rattle.installable.specs.declared.answer.Installability.{Installability}
+use Rattle.installable.specs.declared.answer.Installability.TheVariants as answer
+use Rattle.installable.specs.declared.answer.PackageAnswer.{PackageAnswer}
+use Rattle.installable.specs.declared.question.Installable.{Installable}
+
+-- it is the text of lines that are accepted and can be written, and no selection is acceptable
+pub record IsBroken (u : Universe) (text : List ℕ) : Type 0 where
+  pub lines : List Line
+  pub text_is : text ≡ refutation_text lines
+  pub shown : IsShownBy u lines
+  pub none : (selection : ℕ → Bool) → ¬ IsAcceptable u selection
+
+-- whether the request of this universe can be met: some selection is acceptable; or none is, by an accepted refutation with this
+-- text; or it is undecided, at the limit handed in, where some clause leaves a choice, or since lines that were found don't show that
+-- there is none
+abbrev pub IsInstallability : Universe → ℕ → Installability → Type 0
+IsInstallability u limit answer.Installable = (selection : ℕ → Bool) × IsAcceptable u selection
+IsInstallability u limit (answer.Broken text) = IsBroken u text
+IsInstallability u limit (answer.Limit reached) = (reached ≡ limit) × LeavesChoice u
+IsInstallability u limit answer.Unchecked = (lines : List Line) × ¬ IsShownBy u lines
+
+-- the answer is true of the universe that the texts denote
+pub record IsAnsweredBy (texts : Texts) (limit : ℕ) (found : Installability) : Type 0 where
+  pub universe : Universe
+  pub start : List Record
+  pub denoted : Denotes texts universe start
+  pub holds : IsInstallability universe limit found
+
+-- the answer is that of the package, and is true of the texts with the package's request, beside these lines, in the place of theirs
+pub record IsPackageAnswer (texts : Texts) (limit : ℕ) (beside : List ℕ) (found : IndexPackage) (answer : PackageAnswer) : Type 0 where
+  pub name : answer.name ≡ found.pkg.name
+  pub version : answer.version ≡ found.pkg.version
+  pub holds : IsAnsweredBy (asking (request_of beside found) texts) limit answer.installability
+
+-- the names that are asked about
+abbrev pub names_of : Installable → List (List ℕ)
+names_of question = map (λ name. name.now) question.names.now
+
+-- the names whose installation is asked for beside each package
+abbrev pub names_beside : Bool → List Index → List (List ℕ)
+names_beside without_essential indices = if without_essential then [] else essential_names indices
+
+-- the lines beside that of each package
+abbrev pub beside_in : Installable → List Index → List ℕ
+beside_in question indices = lines_beside (names_beside question.without_essential indices) question.asks_all_versions
+
+-- each package that is asked about has its answer, in their order
+pub record AreAnswered (texts : Texts) (question : Installable) (answers : List PackageAnswer) : Type 0 where
+  pub indices : List Index
+  pub asked : List IndexPackage
+  pub indexed : HasIndices texts indices
+  pub asked_are : AreAsked indices (names_of question) question.shard asked
+  pub answers_are : AllZip (IsPackageAnswer texts question.limit (beside_in question indices)) asked answers
+
+-- the request for the package, beside these lines, is refused so, in the place of that of the texts
+abbrev pub IsRefusedFor : Texts → List ℕ → Refusal → IndexPackage → Type 0
+IsRefusedFor texts beside refused found = IsRefusal (asking (request_of beside found) texts) refused
+
+-- the texts before the request are refused so, or the request for one of these packages is
+abbrev pub IsRefusedAmong : Texts → List ℕ → List IndexPackage → Refusal → Type 0
+IsRefusedAmong texts beside asked refused = IsRefusalBefore texts refused ⊎ Any (IsRefusedFor texts beside refused) asked
+
+-- the request for a package that is asked about is refused so
+pub record IsPackageRefusal (texts : Texts) (question : Installable) (refused : Refusal) : Type 0 where
+  pub indices : List Index
+  pub asked : List IndexPackage
+  pub indexed : HasIndices texts indices
+  pub asked_are : AreAsked indices (names_of question) question.shard asked
+  pub refused_so : Any (IsRefusedFor texts (beside_in question indices) refused) asked
+
+-- what is said of packages: the answer to each that is asked about, or the first refusal of the texts before the request, or that of the
+-- request for one of them
+abbrev pub IsSaidOfPackages : Texts → Installable → Result (List PackageAnswer) Refusal → Type 0
+IsSaidOfPackages texts question (Ok answers) = AreAnswered texts question answers
+IsSaidOfPackages texts question (Err refused) = IsRefusalBefore texts refused ⊎ IsPackageRefusal texts question refused
