@@ -1,10 +1,11 @@
 """What the tools that stand on the built program have in common: how a tool ends, the programs that it calls, control text
 (Policy 5.1), relations (Policy 7.1) and versions (Policy 5.6.12), and how debplan is asked about a folder of inputs.
 
-A folder of inputs is what tools/collect-inputs writes: the files `status`, `sources`, the indices that it names, perhaps
-`preferences` and `pins-left-out`, and beside them a `request` and a `plan`."""
+A folder of inputs is what tools/collect-inputs writes: the files `status`, `sources`, the indices that it names, `preferences` and
+perhaps `pins-left-out`, and beside them a `request` and a `plan`."""
 import argparse
 import collections
+import email.utils
 import functools
 import hashlib
 import os
@@ -23,6 +24,14 @@ UNCONFIGURED = ("unpacked", "half-configured", *TRIGGERED)
 PRESENT = ("half-installed", *UNCONFIGURED, "installed")
 # The file that says which pins of the machine aren't in a folder of inputs, and the exit status where that wasn't accepted.
 LEFT_OUT, WITHOUT_PINS = "pins-left-out", 6
+# apt's program that downloads and reads, the ways that it is given a URI by, and what it says of a file that isn't there (any more).
+HELPER = "/usr/lib/apt/apt-helper"
+SCHEMES = ("http", "https", "ftp", "file", "copy")
+GONE = re.compile(r"^E: Failed to fetch (\S+) +(?:404|410|File not found)", re.MULTILINE)
+# The archive on snapshot.debian.org of an index with this label, where its origin is Debian.
+SNAPSHOTS = {"Debian": "debian", "Debian Backports": "debian", "Debian-Security": "debian-security"}
+# A sentence of the program on a record of the preferences.
+UNMATCHED = re.compile(r"^Record \d+ of the preferences matches nothing: .*\n", re.MULTILINE)
 ATOM = re.compile(r"\s*([A-Za-z0-9][A-Za-z0-9+.-]*)(?::([A-Za-z0-9-]+))?\s*(?:\(\s*(<<|<=|=|>=|>>|<|>)\s*([^\s)]+)\s*\))?\s*")
 Atom = collections.namedtuple("Atom", "name qualifier operator version")
 
@@ -43,12 +52,12 @@ class Words(argparse.ArgumentParser):
         super().__init__(prog=tool_name(), allow_abbrev=False, add_help=False)
         self.add_argument("--help", action="store_true")
 
-    def read(self, words):
-        """The words as options and values."""
+    def read(self, words, mixed=False):
+        """The words as options and values; where they may be mixed, options stand between the values too."""
         if "--help" in words:
             print(self.head)
             sys.exit(0)
-        return self.parse_args(words)
+        return self.parse_intermixed_args(words) if mixed else self.parse_args(words)
 
     def error(self, message):
         print(f"{self.prog}: {message}\n{self.head.partition(':')[0]}", file=sys.stderr)
@@ -170,6 +179,22 @@ def stanzas_of(lines):
             fields.setdefault(key, value.strip())
     if fields:
         yield fields
+
+
+def stanzas_named(path, names):
+    """Yields the stanzas of these names in an index, in their order, without reading the others."""
+    data = pathlib.Path(path).read_bytes()
+    if re.search(rb"\n[ \t]+\n", data):
+        yield from (fields for fields in stanzas_in(path) if fields.get("Package") in names)
+        return
+    wanted = {name.encode("utf-8", "surrogateescape") for name in names}
+    yield from (fields_of(stanza) for stanza in data.split(b"\n\n") if name_in(stanza) in wanted)
+
+
+def name_in(stanza):
+    """The name of the package of a stanza, of its bytes, without reading the other fields."""
+    start = len(b"Package:") if stanza.startswith(b"Package:") else stanza.find(b"\nPackage:") + len(b"\nPackage:")
+    return stanza[start:].partition(b"\n")[0].strip()
 
 
 def fields_of(stanza):
@@ -316,9 +341,13 @@ class Inputs:
     def path(self, name):
         return self.folder / name
 
+    def sources(self):
+        """The stanzas of the sources file."""
+        return [stanza for stanza in stanzas_in(self.folder / "sources") if "File" in stanza]
+
     def indices(self):
         """The paths of the indices. One that isn't whole is taken from the folder, as the program is run there."""
-        return [self.folder / stanza["File"] for stanza in stanzas_in(self.folder / "sources") if "File" in stanza]
+        return [self.folder / stanza["File"] for stanza in self.sources()]
 
     def of_index(self):
         """Yields the stanzas of the indices that count for the architecture, in their order."""
@@ -327,25 +356,56 @@ class Inputs:
                 if fields.get("Architecture") in ("all", self.arch) and "Package" in fields and "Version" in fields:
                     yield fields
 
+    def located(self, wanted):
+        """Of each of these pairs of a name and a version the first stanza in the indices, and the stanza of the sources file that
+        names this index."""
+        found, names = {}, {name for name, _ in wanted}
+        for keys in self.sources() if names else ():
+            for fields in stanzas_named(self.folder / keys["File"], names):
+                pair = fields["Package"], fields.get("Version")
+                if pair in wanted and fields.get("Architecture") in ("all", self.arch):
+                    found.setdefault(pair, (fields, keys))
+        return found
+
     def stanzas_for(self, wanted):
         """Of each of these pairs of a name and a version the first stanza in the indices."""
-        found = {}
-        for fields in self.of_index():
-            pair = fields["Package"], fields["Version"]
-            if pair in wanted:
-                found.setdefault(pair, fields)
-        return found
+        return {pair: fields for pair, (fields, _) in self.located(wanted).items()}
 
     def asks(self, command, *words, status="status", request="request"):
         """Runs the program on the folder, in it, and returns how it ended. Where it can explain an answer it does, on standard
-        error."""
+        error. What it says there of records that match nothing is left out: their numbers are of the written file, and of the pins
+        that they were made of collect-inputs says it."""
         options = ["--explain"] if explains(command) else []
         options += ["--arch", self.arch, "--status", str(status), "--sources", "sources"]
         options += ["--preferences", "preferences"] if self.path("preferences").is_file() else []
         options += ["--target", self.target] if self.target else []
         options += ["--request", request] if request else []
-        return subprocess.run([program(), command, *options, *words], cwd=self.folder, stdin=subprocess.DEVNULL,
-                              stdout=subprocess.PIPE, stderr=subprocess.PIPE, encoding="utf-8", errors="surrogateescape", check=False)
+        run = subprocess.run([program(), command, *options, *words], cwd=self.folder, stdin=subprocess.DEVNULL,
+                             stdout=subprocess.PIPE, stderr=subprocess.PIPE, encoding="utf-8", errors="surrogateescape", check=False)
+        run.stderr = UNMATCHED.sub("", run.stderr)
+        return run
+
+    def pins_on(self, name):
+        """The records of the preferences that name a package, each as the place of the pin that it was made of, and what it says."""
+        path, found = self.path("preferences"), []
+        for fields in stanzas_in(path) if path.is_file() else ():
+            if name in fields.get("Package", "").split():
+                place = fields.get("Explanation") or str(path)
+                found.append(f"{place}: {' '.join(fields.get('Pin', '').split())}, {fields.get('Pin-Priority')}")
+        return list(dict.fromkeys(found))
+
+    def pins_against(self, run, plan="plan"):
+        """Of a plan that check-plan found to unpack what isn't admitted the lines that name the pins of that package."""
+        found = re.match(r"no step (\d+) F10 ", run.stdout)
+        if not found:
+            return []
+        name = self.steps(plan)[int(found.group(1)) - 1][1]
+        return [f"a pin names {name}: {pin}" for pin in self.pins_on(name)]
+
+    def verdict(self, run, plan="plan"):
+        """What check-plan says of a plan: yes, or a no with what stands against it."""
+        said = [] if run.returncode == 0 else [*run.stderr.splitlines(), *self.pins_against(run, plan)]
+        return "\n".join([f"debplan check-plan: {run.stdout.strip()}", *said])
 
     def pins_left_out(self):
         """The pins of the machine that aren't among the preferences of the folder, each with the reason."""
@@ -423,11 +483,34 @@ class Database:
 # Package files
 
 
-class Debs:
-    """The .deb files of the packages that a plan unpacks."""
+def uri_of(fields, keys):
+    """The URI of the file of a package: that of its archive, as the sources file has it, with the file's name; or None."""
+    uri, name = keys.get("URI", ""), fields.get("Filename")
+    return uri.rstrip("/") + "/" + name.removeprefix("./") if name and uri.partition(":")[0] in SCHEMES else None
 
-    def __init__(self, folder, offered):
-        self.folder, self.offered = pathlib.Path(folder).resolve(), offered
+
+def stamp_of(date):
+    """The date of a Release file as snapshot.debian.org writes it, or None."""
+    try:
+        return email.utils.parsedate_to_datetime(date).strftime("%Y%m%dT%H%M%SZ")
+    except (TypeError, ValueError):
+        return None
+
+
+def snapshot_of(keys):
+    """The archive of an index as it was when the index was made, by its release keys; None where snapshot.debian.org has none."""
+    archive = SNAPSHOTS.get(keys.get("Label")) if keys.get("Origin") == "Debian" else None
+    stamp = stamp_of(keys.get("Date", ""))
+    return f"http://snapshot.debian.org/archive/{archive}/{stamp}/" if archive and stamp else None
+
+
+class Debs:
+    """The .deb files of the packages that a plan unpacks, each of which has its stanza, and that of its index in the sources."""
+
+    def __init__(self, folder, located):
+        self.folder = pathlib.Path(folder).resolve()
+        self.offered = {pair: fields for pair, (fields, _) in located.items()}
+        self.keys = {pair: keys for pair, (_, keys) in located.items()}
 
     def names(self, pair):
         """The names that the file of a package may have: apt's, and that of the archive."""
@@ -442,16 +525,47 @@ class Debs:
     def missing(self):
         return [pair for pair in self.offered if self.file(pair) is None]
 
+    def uri(self, pair):
+        return uri_of(self.offered[pair], self.keys[pair])
+
     def download(self):
-        """Gets what is missing."""
-        wanted = [f"{name}:{fields['Architecture']}={version}" if fields["Architecture"] != "all" else f"{name}={version}"
-                  for (name, version), fields in self.offered.items() if self.file((name, version)) is None]
+        """Gets what is missing: from the archive that the sources name, and else by apt's lists."""
+        missing = self.missing()
         self.folder.mkdir(parents=True, exist_ok=True)
-        for first in range(0, len(wanted), 200):
-            words = ["apt-get", "download", "-q", "-o", "APT::Sandbox::User=root", *wanted[first:first + 200]]
-            run = subprocess.run(words, cwd=self.folder, stdin=subprocess.DEVNULL, stdout=subprocess.DEVNULL, check=False)
-            if run.returncode:
-                raise Failure("apt-get download didn't get all packages")
+        for pairs, get in (([it for it in missing if self.uri(it)], self.get_by_uri), ([it for it in missing if not self.uri(it)], self.get_by_apt)):
+            for first in range(0, len(pairs), 200):
+                get(pairs[first:first + 200])
+
+    def get_by_uri(self, pairs):
+        """Gets the files of these packages from where the sources say that they are, each with the SHA256 of its stanza."""
+        words = [HELPER, "download-file", "-o", "APT::Sandbox::User=root"]
+        for pair in pairs:
+            words += [self.uri(pair), str(self.folder / self.names(pair)[0])]
+            words += [f"SHA256:{self.offered[pair]['SHA256']}"] if "SHA256" in self.offered[pair] else []
+        run = run_of(words)
+        if run.returncode:
+            self.tell_gone(run.stderr)
+            raise Failure(f"not all packages were downloaded:\n{last_words(run)}")
+
+    def tell_gone(self, said):
+        """Ends where an archive doesn't have a file any more, and says of which day its index is and where the file may still be."""
+        gone = [uri for uri in GONE.findall(said)]
+        pair = next((it for it in self.offered if self.uri(it) in gone), None)
+        if pair is None:
+            return
+        keys, snapshot = self.keys[pair], snapshot_of(self.keys[pair])
+        lines = [f"{keys['URI']} doesn't have the file of {' '.join(pair)} any more, and {len(gone)} are missing in all: the archive has "
+                 f"moved on since the index was made{', ' + keys['Date'] if 'Date' in keys else ''}"]
+        lines += [f"with `URI: {snapshot}` in the sources file of the folder they are asked for there"] if snapshot else []
+        raise Failure("\n".join(lines))
+
+    def get_by_apt(self, pairs):
+        """Gets the files of these packages by `apt-get download`."""
+        wanted = [f"{name}:{self.offered[name, version]['Architecture']}={version}" if self.offered[name, version]["Architecture"] != "all"
+                  else f"{name}={version}" for name, version in pairs]
+        words = ["apt-get", "download", "-q", "-o", "APT::Sandbox::User=root", *wanted]
+        if subprocess.run(words, cwd=self.folder, stdin=subprocess.DEVNULL, stdout=subprocess.DEVNULL, check=False).returncode:
+            raise Failure("apt-get download didn't get all packages")
 
     def verify(self):
         """Compares each file with the SHA256 of its stanza."""
