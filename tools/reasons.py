@@ -24,7 +24,7 @@ class Record:
         self.names = None if words == ["*"] else set(words)
         self.priority = int(fields["Pin-Priority"])
         self.word, _, rest = " ".join(fields["Pin"].split()).partition(" ")
-        self.rest = rest.strip('"')
+        self.rest, self.place = rest.strip('"'), fields.get("Explanation")
 
     def matches(self, version, keys):
         """Whether the record matches a version in an index with these release keys."""
@@ -65,12 +65,17 @@ class Preferences:
                 return record.priority
         return default_priority(keys)
 
-    def priority(self, name, version, places):
-        """The priority of a version over the indices that have it."""
+    def record_on(self, name, version, places):
+        """The record that names a package and matches a version in one of the indices that have it; None where there is none."""
         for record in self.records if name in self.named else ():
             if record.names and name in record.names and any(record.matches(version, keys) for keys in places):
-                return record.priority
-        return max(self.at(version, keys) for keys in places)
+                return record
+        return None
+
+    def priority(self, name, version, places):
+        """The priority of a version over the indices that have it."""
+        record = self.record_on(name, version, places)
+        return record.priority if record else max(self.at(version, keys) for keys in places)
 
 
 class Offered:
@@ -282,9 +287,8 @@ class Premises:
         found = [atom for atom in atoms if common.matches(other.fields, atom, self.universe.arch)]
         if not found or one.name == other.name:
             raise Unclear
-        by = common.written(found[:1])
-        return f"{one.name} {one.version} {SAYS[kind]} {by}" + (f", which {other.name} {other.version} " +
-               ("is" if found[0].name == other.name else "provides"))
+        said = f"{one.name} {one.version} {SAYS[kind]} {other.name} {other.version}"
+        return said if found[0].name == other.name else f"{said}, which provides {common.written(found[:1])}"
 
     def asked(self, line):
         """A goal, and why nothing fulfils it where that is so."""
