@@ -30,8 +30,8 @@ SCHEMES = ("http", "https", "ftp", "file", "copy")
 GONE = re.compile(r"^E: Failed to fetch (\S+) +(?:404|410|File not found)", re.MULTILINE)
 # The archive on snapshot.debian.org of an index with this label, where its origin is Debian.
 SNAPSHOTS = {"Debian": "debian", "Debian Backports": "debian", "Debian-Security": "debian-security"}
-# A sentence of the program on a record of the preferences.
-UNMATCHED = re.compile(r"^Record \d+ of the preferences matches nothing: .*\n", re.MULTILINE)
+# A sentence of the program on an input that changes no answer: a record of the preferences, or an index.
+UNMATCHED = re.compile(r"^(?:Record \d+ of the preferences matches nothing|Index \d+ adds no version): .*\n", re.MULTILINE)
 ATOM = re.compile(r"\s*([A-Za-z0-9][A-Za-z0-9+.-]*)(?::([A-Za-z0-9-]+))?\s*(?:\(\s*(<<|<=|=|>=|>>|<|>)\s*([^\s)]+)\s*\))?\s*")
 Atom = collections.namedtuple("Atom", "name qualifier operator version")
 
@@ -373,8 +373,8 @@ class Inputs:
 
     def asks(self, command, *words, status="status", request="request"):
         """Runs the program on the folder, in it, and returns how it ended. Where it can explain an answer it does, on standard
-        error. What it says there of records that match nothing is left out: their numbers are of the written file, and of the pins
-        that they were made of collect-inputs says it."""
+        error. What it says there of records that match nothing and of indices that add nothing is left out: the numbers are of files
+        that were written, and of pins collect-inputs says it."""
         options = ["--explain"] if explains(command) else []
         options += ["--arch", self.arch, "--status", str(status), "--sources", "sources"]
         options += ["--preferences", "preferences"] if self.path("preferences").is_file() else []
@@ -532,12 +532,16 @@ class Debs:
         """Gets what is missing: from the archive that the sources name, and else by apt's lists."""
         missing = self.missing()
         self.folder.mkdir(parents=True, exist_ok=True)
-        for pairs, get in (([it for it in missing if self.uri(it)], self.get_by_uri), ([it for it in missing if not self.uri(it)], self.get_by_apt)):
-            for first in range(0, len(pairs), 200):
-                get(pairs[first:first + 200])
+        by_uri = [pair for pair in missing if self.uri(pair)]
+        by_apt = [pair for pair in missing if not self.uri(pair)]
+        for first in range(0, len(missing), 200):
+            self.get_by_uri(by_uri[first:first + 200])
+            self.get_by_apt(by_apt[first:first + 200])
 
     def get_by_uri(self, pairs):
         """Gets the files of these packages from where the sources say that they are, each with the SHA256 of its stanza."""
+        if not pairs:
+            return
         words = [HELPER, "download-file", "-o", "APT::Sandbox::User=root"]
         for pair in pairs:
             words += [self.uri(pair), str(self.folder / self.names(pair)[0])]
@@ -561,6 +565,8 @@ class Debs:
 
     def get_by_apt(self, pairs):
         """Gets the files of these packages by `apt-get download`."""
+        if not pairs:
+            return
         wanted = [f"{name}:{self.offered[name, version]['Architecture']}={version}" if self.offered[name, version]["Architecture"] != "all"
                   else f"{name}={version}" for name, version in pairs]
         words = ["apt-get", "download", "-q", "-o", "APT::Sandbox::User=root", *wanted]
