@@ -48,6 +48,12 @@ def reasons_in(sentences):
     return found
 
 
+def mended_in(sentences):
+    """What was broken before the plan and isn't behind it, as the sentences say it."""
+    found = filter(None, map(LIST.fullmatch, sentences))
+    return [item for listed in found if listed.group(1) == "Broken before, mended" for item in items_of(listed.group(2))]
+
+
 def size_text(count):
     """A number of bytes as apt writes it: with a point below 100 of a unit, in thousands."""
     number, unit = float(abs(count)), 0
@@ -87,8 +93,10 @@ class Changes:
         download = size_text(sum(number_in(fields, "Size") for fields in unpacked))
         return [f"{download} to download, {size_text((more - less) * 1024)} {'more' if more >= less else 'less'} on disk"]
 
-    def lists(self, asked, reasons):
-        """The lines of the lists, one name a line. What goes because it was asked for stands apart from what goes for a reason."""
+    def lists(self, asked, sentences):
+        """The lines of the lists, one name a line, with what the sentences say of them. What goes because it was asked for stands apart
+        from what goes for a reason."""
+        reasons = reasons_in(sentences)
         wanted = [it for it in self.removed if it.name in asked]
         others = [it for it in self.removed if it.name not in asked]
         yield from listed("new", (f"{it.name} {it.new}" for it in self.new))
@@ -98,6 +106,7 @@ class Changes:
         yield from listed("removed, as asked for", (f"{it.name} {it.old}" for it in wanted))
         yield from listed("removed, and not asked for", (f"{it.name} {it.old}{behind(reasons.get(it.name))}" for it in others))
         yield from listed("purged", self.purged)
+        yield from listed("broken before, and mended", mended_in(sentences))
 
 
 def listed(title, lines):
