@@ -519,8 +519,8 @@ class Debs:
         return [f"{name}_{version.replace(':', '%3a')}_{arch}.deb", os.path.basename(self.offered[pair].get("Filename", "")) or "-"]
 
     def file(self, pair):
-        """The file of a package, or None."""
-        return next((self.folder / it for it in self.names(pair) if (self.folder / it).is_file()), None)
+        """The file of a package, or None. Of an archive on this machine apt leaves a link, which leads nowhere in another root."""
+        return next(((self.folder / it).resolve() for it in self.names(pair) if (self.folder / it).is_file()), None)
 
     def missing(self):
         return [pair for pair in self.offered if self.file(pair) is None]
@@ -549,7 +549,8 @@ class Debs:
         run = run_of(words)
         if run.returncode:
             self.tell_gone(run.stderr)
-            raise Failure(f"not all packages were downloaded:\n{last_words(run)}")
+            # an archive that asks for a password has it in apt's sources, and not in those of the folder
+            self.get_by_apt([pair for pair in pairs if self.file(pair) is None], f"\n{last_words(run)}")
 
     def tell_gone(self, said):
         """Ends where an archive doesn't have a file any more, and says of which day its index is and where the file may still be."""
@@ -563,15 +564,17 @@ class Debs:
         lines += [f"with `URI: {snapshot}` in the sources file of the folder they are asked for there"] if snapshot else []
         raise Failure("\n".join(lines))
 
-    def get_by_apt(self, pairs):
-        """Gets the files of these packages by `apt-get download`."""
+    def get_by_apt(self, pairs, why=""):
+        """Gets the files of these packages by `apt-get download`; why they couldn't be had otherwise is told where that fails too."""
         if not pairs:
             return
         wanted = [f"{name}:{self.offered[name, version]['Architecture']}={version}" if self.offered[name, version]["Architecture"] != "all"
                   else f"{name}={version}" for name, version in pairs]
         words = ["apt-get", "download", "-q", "-o", "APT::Sandbox::User=root", *wanted]
-        if subprocess.run(words, cwd=self.folder, stdin=subprocess.DEVNULL, stdout=subprocess.DEVNULL, check=False).returncode:
-            raise Failure("apt-get download didn't get all packages")
+        run = subprocess.run(words, cwd=self.folder, stdin=subprocess.DEVNULL, stdout=subprocess.DEVNULL, stderr=subprocess.PIPE,
+                             encoding="utf-8", errors="replace", check=False)
+        if run.returncode:
+            raise Failure(f"not all packages were downloaded:{why}\n{last_words(run)}")
 
     def verify(self):
         """Compares each file with the SHA256 of its stanza."""
