@@ -367,6 +367,15 @@ class Inputs:
                     found.setdefault(pair, (fields, keys))
         return found
 
+    def providing(self, name):
+        """The stanzas of the indices that provide a name, as their Provides says."""
+        text = name.encode("utf-8", "surrogateescape")
+        for path in self.indices():
+            for stanza in path.read_bytes().split(b"\n\n"):
+                fields = fields_of(stanza) if text in stanza and b"\nProvides:" in stanza else {}
+                if fields.get("Architecture") in ("all", self.arch) and any(atom.name == name for atom in provided_by(fields)):
+                    yield fields
+
     def stanzas_for(self, wanted):
         """Of each of these pairs of a name and a version the first stanza in the indices."""
         return {pair: fields for pair, (fields, _) in self.located(wanted).items()}
