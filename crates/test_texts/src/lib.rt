@@ -8,6 +8,8 @@ mod collecting;
 #[cfg(test)]
 mod fields;
 #[cfg(test)]
+mod named_refutations;
+#[cfg(test)]
 mod packages;
 #[cfg(test)]
 mod plans;

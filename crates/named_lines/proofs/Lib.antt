@@ -1,0 +1,4 @@
+pub mod EachLemmas
+pub mod JudgedLemmas
+pub mod NumberLemmas
+pub mod RoundLemmas

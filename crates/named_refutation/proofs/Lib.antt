@@ -1,0 +1,6 @@
+pub mod IndexLemmas
+pub mod LineLemmas
+pub mod ReadLemmas
+pub mod SeenLemmas
+pub mod TextLemmas
+pub mod WrittenLemmas
