@@ -8,7 +8,7 @@ use Rattle.named_refutation.specs.declared.named.NamedPair.{NamedPair}
 use Rattle.named_lines.specs.Naming.{each_some}
 use Rattle.named_lines.specs.Numbering.{each_ok, line_numbered, made, numbered_from, put_numbered}
 use Rattle.named_lines.specs.declared.numbering.Missing.{Missing}
-use Rattle.named_lines.specs.declared.numbering.Numbered.{Numbered}
+use Rattle.named_lines.specs.declared.numbering.NumberedLines.{NumberedLines}
 
 -- Naming
 
@@ -67,11 +67,11 @@ ok_all {A} {B} give so_far items none =
 -- Lines
 
 -- the lines so far, before those behind them
-abbrev pub lines_behind : List Line → Numbered → Numbered
+abbrev pub lines_behind : List Line → NumberedLines → NumberedLines
 lines_behind so_far behind = record { lines = so_far ++ behind.lines; missing = behind.missing }
 
 -- these lines, and what is missing behind them
-abbrev pub stopped_at : List Line → Option Missing → Numbered
+abbrev pub stopped_at : List Line → Option Missing → NumberedLines
 stopped_at lines missing = record { lines = lines; missing = missing }
 
 -- one more line is numbered

@@ -12,7 +12,7 @@ use Rattle.named_refutation.specs.declared.named.NamedPair.{NamedPair}
 use Rattle.named_lines.specs.Judged.{AreAccepted, IsFirstBadBehind, IsVerdictOn, stopped}
 use Rattle.named_lines.specs.Numbering.{line_numbered, numbered_from, numbered_lines, put_numbered}
 use Rattle.named_lines.specs.declared.numbering.Missing.{Missing}
-use Rattle.named_lines.specs.declared.numbering.Numbered.{Numbered}
+use Rattle.named_lines.specs.declared.numbering.NumberedLines.{NumberedLines}
 
 -- the line that names a missing pair is the one behind those that were numbered
 missing_behind : (pairs : List Pair) (number : ℕ) (lines : List NamedLine) (missing : Missing) → (numbered_from pairs number lines).missing ≡ Some missing
@@ -41,12 +41,12 @@ unfolding numbered_lines
 missing_line pairs lines missing h = missing_behind pairs 1 lines missing h
 
 -- where no pair is missing, the verdict is that on the lines by numbers
-pub whole_verdict : (u : Universe) (numbered : Numbered) (judged : Verdict) → numbered.missing ≡ None → IsVerdict u numbered.lines judged → IsVerdictOn u numbered judged
+pub whole_verdict : (u : Universe) (numbered : NumberedLines) (judged : Verdict) → numbered.missing ≡ None → IsVerdict u numbered.lines judged → IsVerdictOn u numbered judged
 whole_verdict u numbered Yes none is = record { none_missing = none; accepted = is }
 whole_verdict u numbered (No number) none is = subst (λ (missing : Option Missing). IsFirstBadBehind u numbered.lines missing number) (sym none) is
 
 -- where a pair is missing, the verdict is no
-pub stopped_verdict : (u : Universe) (numbered : Numbered) (missing : Missing) (judged : Verdict) → numbered.missing ≡ Some missing
+pub stopped_verdict : (u : Universe) (numbered : NumberedLines) (missing : Missing) (judged : Verdict) → numbered.missing ≡ Some missing
     → missing.line ≡ length numbered.lines + 1 → IsVerdict u numbered.lines judged → IsVerdictOn u numbered (stopped missing.line judged)
 unfolding IsFirstBad
 stopped_verdict u numbered missing Yes some line is =
@@ -58,7 +58,7 @@ stopped_verdict u numbered missing (No number) some line is =
     ])
 
 -- what is accepted has the verdict yes
-pub accepted_yes : (u : Universe) (numbered : Numbered) (judged : Verdict) → OneAnswer → IsVerdict u numbered.lines judged → AreAccepted u numbered → judged ≡ Yes
+pub accepted_yes : (u : Universe) (numbered : NumberedLines) (judged : Verdict) → OneAnswer → IsVerdict u numbered.lines judged → AreAccepted u numbered → judged ≡ Yes
 accepted_yes u numbered Yes one is accepted = refl
 accepted_yes u numbered (No number) one is accepted = absurd ((one u numbered.lines number is).0 accepted.accepted)
 
@@ -67,5 +67,5 @@ stopped_refutes u line Yes = tt
 stopped_refutes u line (No number) = tt
 
 -- where a pair is missing, nothing is accepted
-pub stopped_none : (u : Universe) (numbered : Numbered) (missing : Missing) → numbered.missing ≡ Some missing → AreAccepted u numbered → ⊥
+pub stopped_none : (u : Universe) (numbered : NumberedLines) (missing : Missing) → numbered.missing ≡ Some missing → AreAccepted u numbered → ⊥
 stopped_none u numbered missing some accepted = let none : None ≡ Some missing = sym accepted.none_missing ∙ some in cc

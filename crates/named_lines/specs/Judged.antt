@@ -9,10 +9,10 @@ use Rattle.refutecheck.specs.declared.verdict.Verdict.TheVariants as verdict
 use Rattle.named_refutation.specs.declared.named.NamedLine.{NamedLine}
 use Rattle.named_lines.specs.Numbering.{numbered_lines}
 use Rattle.named_lines.specs.declared.numbering.Missing.{Missing}
-use Rattle.named_lines.specs.declared.numbering.Numbered.{Numbered}
+use Rattle.named_lines.specs.declared.numbering.NumberedLines.{NumberedLines}
 
 -- accepted: no line names a missing pair, and the lines by numbers are accepted
-pub record AreAccepted (u : Universe) (numbered : Numbered) : Type 0 where
+pub record AreAccepted (u : Universe) (numbered : NumberedLines) : Type 0 where
   pub none_missing : numbered.missing ≡ None
   pub accepted : IsAccepted u numbered.lines
 
@@ -23,7 +23,7 @@ IsFirstBadBehind u lines None number = IsFirstBad u lines number
 IsFirstBadBehind u lines (Some missing) number = IsFirstNotGood u lines number ⊎ (AreGoodLines u lines × (number ≡ missing.line))
 
 -- the verdict on the lines by numbers: yes exactly where they are accepted, and else the number of the first bad one
-abbrev pub IsVerdictOn : Universe → Numbered → Verdict → Type 0
+abbrev pub IsVerdictOn : Universe → NumberedLines → Verdict → Type 0
 IsVerdictOn u numbered verdict.Yes = AreAccepted u numbered
 IsVerdictOn u numbered (verdict.No number) = IsFirstBadBehind u numbered.lines numbered.missing number
 

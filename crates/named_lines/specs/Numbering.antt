@@ -16,7 +16,7 @@ use Rattle.named_refutation.specs.declared.named.NamedLiteral.TheVariants as nam
 use Rattle.named_refutation.specs.declared.named.NamedPair.{NamedPair}
 use Rattle.named_refutation.specs.declared.named.NamedPremise.{NamedPremise}
 use Rattle.named_refutation.specs.declared.named.NamedPremise.TheVariants as named_premise
-use Rattle.named_lines.specs.declared.numbering.Numbered.{Numbered}
+use Rattle.named_lines.specs.declared.numbering.NumberedLines.{NumberedLines}
 
 -- what the value gives, if there is one, and else the pair that is missing
 abbrev pub go_on : {A B : Type 0} → (A → Result B NamedPair) → Result A NamedPair → Result B NamedPair
@@ -66,15 +66,15 @@ line_numbered pairs (named_line.Derived literals hints) =
     made (λ numbered. line.Derived numbered hints) (each_ok (literal_numbered pairs) literals)
 
 -- the line before those behind it, or where it names a missing pair nothing but that
-abbrev pub put_numbered : ℕ → Result Line NamedPair → Numbered → Numbered
+abbrev pub put_numbered : ℕ → Result Line NamedPair → NumberedLines → NumberedLines
 put_numbered number (Ok found) later = record { lines = found ∷ later.lines; missing = later.missing }
 put_numbered number (Err pair) later = record { lines = []; missing = Some (record { line = number; pair = pair }) }
 
 -- the lines by numbers, the first of which has this number, up to the first that names a missing pair, and which that is
-abbrev pub numbered_from : List Pair → ℕ → List NamedLine → Numbered
+abbrev pub numbered_from : List Pair → ℕ → List NamedLine → NumberedLines
 numbered_from pairs number [] = record { lines = []; missing = None }
 numbered_from pairs number (found ∷ later) = put_numbered number (line_numbered pairs found) (numbered_from pairs (number + 1) later)
 
 -- the lines of a refutation by numbers, up to the first that names a missing pair, and which that is
-unfoldable pub numbered_lines : List Pair → List NamedLine → Numbered
+unfoldable pub numbered_lines : List Pair → List NamedLine → NumberedLines
 numbered_lines pairs lines = numbered_from pairs 1 lines

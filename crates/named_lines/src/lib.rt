@@ -11,4 +11,4 @@ mod numbering;
 pub use check::check_named;
 pub use laws::named_lines_are_numbered_again;
 pub use naming::named;
-pub use numbering::{Missing, Numbered, numbered};
+pub use numbering::{Missing, NumberedLines, numbered};

@@ -64,19 +64,25 @@ fn premise_named(
     ensures { IfOk result (λ found. found ≡ premise_named universe.now.pairs premise.now) }
 {
     match premise {
-        Premise::Same(number, other) => Ok(two_named(alloc, universe, *number, *other)?
-            .map(|two| NamedPremise::Same(two.0, two.1))),
-        Premise::PreDepends(number, clause) => Ok(pair_named(alloc, universe, *number)?
-            .map(|pair| NamedPremise::PreDepends(pair, *clause))),
-        Premise::Depends(number, clause) => Ok(pair_named(alloc, universe, *number)?
-            .map(|pair| NamedPremise::Depends(pair, *clause))),
-        Premise::Conflicts(number, other) => Ok(two_named(alloc, universe, *number, *other)?
-            .map(|two| NamedPremise::Conflicts(two.0, two.1))),
-        Premise::Breaks(number, other) => Ok(two_named(alloc, universe, *number, *other)?
-            .map(|two| NamedPremise::Breaks(two.0, two.1))),
+        Premise::Same(number, other) => Ok(two_named(alloc, universe, *number, *other)?.map(
+            |two| NamedPremise::Same(two.0, two.1),
+        )),
+        Premise::PreDepends(number, clause) => Ok(pair_named(alloc, universe, *number)?.map(
+            |pair| NamedPremise::PreDepends(pair, *clause),
+        )),
+        Premise::Depends(number, clause) => Ok(pair_named(alloc, universe, *number)?.map(
+            |pair| NamedPremise::Depends(pair, *clause),
+        )),
+        Premise::Conflicts(number, other) => Ok(two_named(alloc, universe, *number, *other)?.map(
+            |two| NamedPremise::Conflicts(two.0, two.1),
+        )),
+        Premise::Breaks(number, other) => Ok(two_named(alloc, universe, *number, *other)?.map(
+            |two| NamedPremise::Breaks(two.0, two.1),
+        )),
         Premise::Goal(goal) => Ok(Some(NamedPremise::Goal(*goal))),
-        Premise::GoalOn(goal, number) => Ok(pair_named(alloc, universe, *number)?
-            .map(|pair| NamedPremise::GoalOn(*goal, pair))),
+        Premise::GoalOn(goal, number) => Ok(pair_named(alloc, universe, *number)?.map(
+            |pair| NamedPremise::GoalOn(*goal, pair),
+        )),
         Premise::Hold(number) => {
             Ok(pair_named(alloc, universe, *number)?.map(|pair| NamedPremise::Hold(pair)))
         }
@@ -130,8 +136,9 @@ fn line_named(
     ensures { IfOk result (λ found. found ≡ line_named universe.now.pairs line.now) }
 {
     match line {
-        Line::Premise(premise) => Ok(premise_named(alloc, universe, premise)?
-            .map(|named| NamedLine::Premise(named))),
+        Line::Premise(premise) => Ok(premise_named(alloc, universe, premise)?.map(
+            |named| NamedLine::Premise(named),
+        )),
         Line::Derived(literals, hints) => {
             let Some(named) = literals_named(alloc, universe, literals.as_slice())? else {
                 return Ok(None);

@@ -21,7 +21,7 @@ pub struct Missing {
 
 /// The lines of a refutation by numbers.
 #[derive(Drop)]
-pub struct Numbered {
+pub struct NumberedLines {
     /// The lines before the first that names a missing pair, or all lines.
     pub lines: Refutation,
     /// That line, if there is one.
@@ -82,19 +82,25 @@ fn premise_numbered(
     ensures { IfOk result (λ found. found ≡ premise_numbered universe.now.pairs premise.now) }
 {
     match premise {
-        NamedPremise::Same(pair, other) => Ok(two_numbered(alloc, universe, pair, other)?
-            .map(|two| Premise::Same(two.0, two.1))),
-        NamedPremise::PreDepends(pair, clause) => Ok(pair_numbered(alloc, universe, pair)?
-            .map(|number| Premise::PreDepends(number, *clause))),
-        NamedPremise::Depends(pair, clause) => Ok(pair_numbered(alloc, universe, pair)?
-            .map(|number| Premise::Depends(number, *clause))),
-        NamedPremise::Conflicts(pair, other) => Ok(two_numbered(alloc, universe, pair, other)?
-            .map(|two| Premise::Conflicts(two.0, two.1))),
-        NamedPremise::Breaks(pair, other) => Ok(two_numbered(alloc, universe, pair, other)?
-            .map(|two| Premise::Breaks(two.0, two.1))),
+        NamedPremise::Same(pair, other) => Ok(two_numbered(alloc, universe, pair, other)?.map(
+            |two| Premise::Same(two.0, two.1),
+        )),
+        NamedPremise::PreDepends(pair, clause) => Ok(pair_numbered(alloc, universe, pair)?.map(
+            |number| Premise::PreDepends(number, *clause),
+        )),
+        NamedPremise::Depends(pair, clause) => Ok(pair_numbered(alloc, universe, pair)?.map(
+            |number| Premise::Depends(number, *clause),
+        )),
+        NamedPremise::Conflicts(pair, other) => Ok(two_numbered(alloc, universe, pair, other)?.map(
+            |two| Premise::Conflicts(two.0, two.1),
+        )),
+        NamedPremise::Breaks(pair, other) => Ok(two_numbered(alloc, universe, pair, other)?.map(
+            |two| Premise::Breaks(two.0, two.1),
+        )),
         NamedPremise::Goal(goal) => Ok(Ok(Premise::Goal(*goal))),
-        NamedPremise::GoalOn(goal, pair) => Ok(pair_numbered(alloc, universe, pair)?
-            .map(|number| Premise::GoalOn(*goal, number))),
+        NamedPremise::GoalOn(goal, pair) => Ok(pair_numbered(alloc, universe, pair)?.map(
+            |number| Premise::GoalOn(*goal, number),
+        )),
         NamedPremise::Hold(pair) => {
             Ok(pair_numbered(alloc, universe, pair)?.map(|number| Premise::Hold(number)))
         }
@@ -151,8 +157,9 @@ fn line_numbered(
     ensures { IfOk result (λ found. found ≡ line_numbered universe.now.pairs line.now) }
 {
     match line {
-        NamedLine::Premise(premise) => Ok(premise_numbered(alloc, universe, premise)?
-            .map(|numbered| Line::Premise(numbered))),
+        NamedLine::Premise(premise) => Ok(premise_numbered(alloc, universe, premise)?.map(
+            |numbered| Line::Premise(numbered),
+        )),
         NamedLine::Derived(literals, hints) => {
             match literals_numbered(alloc, universe, literals.as_slice())? {
                 Err(missing) => Ok(Err(missing)),
@@ -172,7 +179,7 @@ pub fn numbered(
     alloc: Global,
     universe: &Universe<'_, '_>,
     refutation: &NamedRefutation,
-) -> Result<Numbered, AllocError>
+) -> Result<NumberedLines, AllocError>
     // pairs have numbers of 32 bits, as those of a request have (`rules::PAIRS`)
     requires few { length universe.now.pairs < 2 ^ 32 }
     ensures { IfOk result (λ found. found ≡ numbered_lines universe.now.pairs refutation.now.lines) }
@@ -181,7 +188,7 @@ pub fn numbered(
     for (place, line) in refutation.lines.as_slice().iter().enumerate() {
         match line_numbered(alloc, universe, line)? {
             Err(pair) => {
-                return Ok(Numbered {
+                return Ok(NumberedLines {
                     lines: Refutation::new(lines),
                     missing: Some(Missing {
                         line: place + 1,
@@ -192,7 +199,7 @@ pub fn numbered(
             Ok(found) => lines.push(found)?,
         }
     }
-    Ok(Numbered {
+    Ok(NumberedLines {
         lines: Refutation::new(lines),
         missing: None,
     })

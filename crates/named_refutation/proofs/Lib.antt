@@ -1,3 +1,6 @@
+pub mod AgainLemmas
+pub mod AgainTexts
+pub mod ByteLemmas
 pub mod IndexLemmas
 pub mod LineLemmas
 pub mod ReadLemmas

@@ -1,8 +1,8 @@
 -- The line of an index (this project's own): the SHA-256 sum of its text in hexadecimal digits, and the path that it was read
 -- from, in which spaces may stand.
-use Rattle.std.specs.Prelude.{ℕ, ◌==◌, nat_le, Bool, true, false, not, ◌&&◌, ◌||◌, List, [], ◌∷◌, ◌++◌, length, take, drop, Option, Some, None, codes, if◌then◌else◌}
+use Rattle.std.specs.Prelude.{ℕ, ◌==◌, nat_le, Bool, false, not, ◌&&◌, ◌||◌, List, [], ◌∷◌, ◌++◌, length, take, drop, Option, Some, None, codes, if◌then◌else◌}
 use Rattle.std.specs.Char.{is_ascii_digit}
-use Rattle.std.specs.List.{list_all, list_any}
+use Rattle.std.specs.List.{list_all}
 use Rattle.std.specs.Str.{bytes_eq}
 use Rattle.plantext.specs.declared.cut.TheConstants.{NEWLINE, SPACE}
 use Rattle.named_refutation.specs.declared.index_line.TheConstants.{SUM}
@@ -39,7 +39,7 @@ index_text index = index_front ++ index.sum ++ SPACE ∷ index.path ++ NEWLINE �
 -- one byte or more, and none is a newline
 abbrev pub is_path : List ℕ → Bool
 is_path [] = false
-is_path (b ∷ later) = not (list_any (λ byte. byte == NEWLINE) (b ∷ later))
+is_path (b ∷ later) = list_all (λ byte. not (byte == NEWLINE)) (b ∷ later)
 
 -- the index can be written: its sum is one, and so is its path
 abbrev pub is_index_writable : IndexLine → Bool

@@ -41,9 +41,10 @@ impl<'l> Seen<'l> {
         ensures fresh { IfOk result (λ is_new. is_new ≡ not (list_any (is_same (Selected pair.now)) self.old)) }
         ensures kept { IfOk result (λ is_new. is_new ≡ true → self.new ≡ self.old ++ Selected pair.now ∷ []) }
     {
-        Ok(self
-            .keys
-            .insert((true, pair.name.as_bytes(), pair.version.as_bytes()))?)
+        Ok(
+            self.keys
+                .insert((true, pair.name.as_bytes(), pair.version.as_bytes()))?,
+        )
     }
 
     // Adds the literal that the pair isn't selected, and answers whether it is new.
@@ -51,9 +52,10 @@ impl<'l> Seen<'l> {
         ensures fresh { IfOk result (λ is_new. is_new ≡ not (list_any (is_same (Unselected pair.now)) self.old)) }
         ensures kept { IfOk result (λ is_new. is_new ≡ true → self.new ≡ self.old ++ Unselected pair.now ∷ []) }
     {
-        Ok(self
-            .keys
-            .insert((false, pair.name.as_bytes(), pair.version.as_bytes()))?)
+        Ok(
+            self.keys
+                .insert((false, pair.name.as_bytes(), pair.version.as_bytes()))?,
+        )
     }
 
     // Adds the literal, and answers whether it is new.

@@ -11,9 +11,7 @@ ghost use Rattle.named_refutation.specs.LineText.{is_literal, is_named, is_pair,
 ghost use Rattle.named_refutation.specs.Text.{named_text, IsReadAs};
 ghost use Rattle.named_refutation.specs.declared.named.NamedLine.TheVariants.{Derived};
 
-use crate::named::{
-    IndexLine, NamedLine, NamedLiteral, NamedPair, NamedPremise, NamedRefutation,
-};
+use crate::named::{IndexLine, NamedLine, NamedLiteral, NamedPair, NamedPremise, NamedRefutation};
 use itoa::Buffer;
 use plantext::{NEWLINE, SPACE};
 use rules::Name;
