@@ -19,13 +19,6 @@ missing_behind : (pairs : List Pair) (number : ℕ) (lines : List NamedLine) (mi
     → missing.line ≡ length (numbered_from pairs number lines).lines + number
 missing_behind pairs number [] missing h = cc
 missing_behind pairs number (found ∷ later) missing h = go (line_numbered pairs found) (missing_behind pairs (number + 1) later missing) h where
-  go : (read : Result Line NamedPair)
-      → ((numbered_from pairs (number + 1) later).missing ≡ Some missing → missing.line ≡ length (numbered_from pairs (number + 1) later).lines + (number + 1))
-      → (put_numbered number read (numbered_from pairs (number + 1) later)).missing ≡ Some missing
-      → missing.line ≡ length (put_numbered number read (numbered_from pairs (number + 1) later)).lines + number
-  go (Ok line) behind e = let here = behind e in omega arith
-  go (Err pair) behind e = first pair missing e
-
   of : NamedPair → Missing
   of pair = record { line = number; pair = pair }
 
@@ -34,6 +27,13 @@ missing_behind pairs number (found ∷ later) missing h = go (line_numbered pair
       let same : of pair ≡ missing = cc in
       let line : number ≡ missing.line = ap (λ (m : Missing). m.line) same in
       omega arith
+
+  go : (read : Result Line NamedPair)
+      → ((numbered_from pairs (number + 1) later).missing ≡ Some missing → missing.line ≡ length (numbered_from pairs (number + 1) later).lines + (number + 1))
+      → (put_numbered number read (numbered_from pairs (number + 1) later)).missing ≡ Some missing
+      → missing.line ≡ length (put_numbered number read (numbered_from pairs (number + 1) later)).lines + number
+  go (Ok line) behind e = let here = behind e in omega arith
+  go (Err pair) behind e = first pair missing e
 
 pub missing_line : (pairs : List Pair) (lines : List NamedLine) (missing : Missing) → (numbered_lines pairs lines).missing ≡ Some missing
     → missing.line ≡ length (numbered_lines pairs lines).lines + 1

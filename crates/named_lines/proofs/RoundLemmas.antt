@@ -109,15 +109,15 @@ literal_again pairs (literal.Unselected number) found ascending h =
     (literal_numbered pairs) (pair_named pairs number) number found (λ a. refl) (λ a. pair_again pairs number a ascending) h
 
 -- what the first item and those behind it gave
-record Parts {A B : Type 0} (first : Option B) (behind : Option (List B)) (found : List B) : Type 0 where
+record Parts {B : Type 0} (first : Option B) (behind : Option (List B)) (found : List B) : Type 0 where
   here : B
   rest : List B
   first_is : first ≡ Some here
   behind_is : behind ≡ Some rest
   all : found ≡ here ∷ rest
 
-parts_of : {A B : Type 0} (first : Option B) (behind : Option (List B)) (found : List B)
-    → option_and_then (λ here. option_map (λ rest. here ∷ rest) behind) first ≡ Some found → Parts {A} {B} first behind found
+parts_of : {B : Type 0} (first : Option B) (behind : Option (List B)) (found : List B)
+    → option_and_then (λ here. option_map (λ rest. here ∷ rest) behind) first ≡ Some found → Parts first behind found
 parts_of None behind found h = cc
 parts_of (Some here) None found h = cc
 parts_of (Some here) (Some rest) found h = record { here = here; rest = rest; first_is = refl; behind_is = refl; all = cc }
@@ -125,8 +125,8 @@ parts_of (Some here) (Some rest) found h = record { here = here; rest = rest; fi
 each_again : {A B : Type 0} (give : A → Option B) (back : B → Result A NamedPair) → ((a : A) (b : B) → give a ≡ Some b → back b ≡ Ok a)
     → (items : List A) (found : List B) → each_some give items ≡ Some found → each_ok back found ≡ Ok items
 each_again give back again [] found h = let none : [] ≡ found = cc in sym (ap (each_ok back) none)
-each_again {A} {B} give back again (item ∷ later) found h =
-    let parts = parts_of {A} {B} (give item) (each_some give later) found h in
+each_again give back again (item ∷ later) found h =
+    let parts = parts_of (give item) (each_some give later) found h in
     ap (each_ok back) parts.all
     ∙ ap (go_on (λ here. made (λ rest. here ∷ rest) (each_ok back parts.rest))) (again item parts.here parts.first_is)
     ∙ ap (made (λ rest. item ∷ rest)) (each_again give back again later parts.rest parts.behind_is)
@@ -144,7 +144,7 @@ lines_again : (pairs : List Pair) (number : ℕ) (lines : List Line) (found : Li
     → numbered_from pairs number found ≡ stopped_at lines None
 lines_again pairs number [] found ascending h = let none : [] ≡ found = cc in sym (ap (numbered_from pairs number) none)
 lines_again pairs number (from ∷ later) found ascending h =
-    let parts = parts_of {Line} {NamedLine} (line_named pairs from) (each_some (line_named pairs) later) found h in
+    let parts = parts_of (line_named pairs from) (each_some (line_named pairs) later) found h in
     ap (numbered_from pairs number) parts.all
     ∙ ap (λ (read : Result Line NamedPair). put_numbered number read (numbered_from pairs (number + 1) parts.rest)) (line_again pairs from parts.here ascending parts.first_is)
     ∙ ap (put_numbered number (Ok from)) (lines_again pairs (number + 1) later parts.rest ascending parts.behind_is)

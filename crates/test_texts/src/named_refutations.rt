@@ -2,6 +2,7 @@
 //! format is this project's own. Lines were counted by hand.
 use crate::shown::spelled;
 use named_refutation::{read_named_refutation, write_named_refutation};
+use refutation_text::RefutationError;
 use std::alloc::{AllocError, Global};
 
 fn is_written(alloc: Global, text: &[u8]) -> Result<bool, AllocError> {
@@ -62,5 +63,16 @@ fn named_texts_are_read_and_written_again_or_refused_at_a_line(
         let row = spelled(rt.alloc(), row)?;
         assert!(rt; is_read(rt.alloc(), row.as_str())?, "{row}");
     }
+    Ok(())
+}
+
+#[test]
+fn the_readme_example_of_named_refutation(rt: HostRuntime) -> Result<(), RefutationError> {
+    let alloc = rt.alloc();
+    let text = b"refutation 2\ngoal 1\nhold a 1.0\nderive -a 1.0 : 1\nend 3\n";
+    let refutation = read_named_refutation(alloc, text)?;
+    assert_eq!(rt; refutation.lines.as_slice().len(), 3);
+    assert!(rt; read_named_refutation(alloc, b"refutation 2\ngoal 1\nend 2\n").is_err());
+    assert!(rt; write_named_refutation(alloc, &refutation)?.as_slice() == text.as_slice());
     Ok(())
 }
