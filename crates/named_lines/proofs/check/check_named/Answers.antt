@@ -11,38 +11,38 @@ use Rattle.named_lines.proofs.check.check_named.Goals as goal
 pub returns-in-None-clause-exact : goal.returns-in-None-clause-exact
 returns-in-None-clause-exact c =
     let u = c.args.universe.now in
-    let found = c.in_ok-found.field-0 in
-    let judged = c.in_ok-judged.field-0 in
+    let found = c.in_ok-found.found in
+    let judged = c.in_ok-judged.judged in
     subst (λ (numbered : NumberedLines). IsVerdictOn u numbered judged) c.in_ok-found.ensures
     (whole_verdict u found judged c.in-None.is c.in_ok-judged.ensures.exact)
 
 pub returns-in-None-clause-complete : goal.returns-in-None-clause-complete
 returns-in-None-clause-complete c = λ accepted.
     let u = c.args.universe.now in
-    let found = c.in_ok-found.field-0 in
-    accepted_yes u found c.in_ok-judged.field-0 c.one_answer.ensures c.in_ok-judged.ensures.exact
+    let found = c.in_ok-found.found in
+    accepted_yes u found c.in_ok-judged.judged c.one_answer.ensures c.in_ok-judged.ensures.exact
     (subst (AreAccepted u) (sym c.in_ok-found.ensures) accepted)
 
-pub returns-in-Some-clause-exact : goal.returns-in-Some-clause-exact
-returns-in-Some-clause-exact c =
+pub returns-clause-exact : goal.returns-clause-exact
+returns-clause-exact c =
     let u = c.args.universe.now in
-    let judged = c.in_ok-judged.field-0 in
-    let missing = c.in-Some.missing.now in
+    let judged = c.in_ok-judged.judged in
+    let missing = c.in-Some.missing in
     let numbered : NumberedLines = numbered_lines u.pairs c.args.refutation.now.lines in
     let some : numbered.missing ≡ Some missing = sym (ap (λ (n : NumberedLines). n.missing) c.in_ok-found.ensures) ∙ c.in-Some.is in
     let is : IsVerdict u numbered.lines judged = subst (λ (n : NumberedLines). IsVerdict u n.lines judged) c.in_ok-found.ensures c.in_ok-judged.ensures.exact in
     subst (λ (verdict : Verdict). IsVerdictOn u numbered verdict) (sym c.stopped.ensures)
     (stopped_verdict u numbered missing judged some (missing_line u.pairs c.args.refutation.now.lines missing some) is)
 
-pub returns-in-Some-clause-refutes : goal.returns-in-Some-clause-refutes
-returns-in-Some-clause-refutes c =
+pub returns-clause-refutes : goal.returns-clause-refutes
+returns-clause-refutes c =
     let u = c.args.universe.now in
-    subst (Refutes u) (sym c.stopped.ensures) (stopped_refutes u c.in-Some.missing.now.line c.in_ok-judged.field-0)
+    subst (Refutes u) (sym c.stopped.ensures) (stopped_refutes u c.in-Some.missing.line c.in_ok-judged.judged)
 
-pub returns-in-Some-clause-complete : goal.returns-in-Some-clause-complete
-returns-in-Some-clause-complete c = λ accepted.
+pub returns-clause-complete : goal.returns-clause-complete
+returns-clause-complete c = λ accepted.
     let u = c.args.universe.now in
-    let missing = c.in-Some.missing.now in
+    let missing = c.in-Some.missing in
     let numbered : NumberedLines = numbered_lines u.pairs c.args.refutation.now.lines in
     let some : numbered.missing ≡ Some missing = sym (ap (λ (n : NumberedLines). n.missing) c.in_ok-found.ensures) ∙ c.in-Some.is in
     absurd (stopped_none u numbered missing some accepted)
