@@ -2,7 +2,7 @@
 use Rattle.std.proofs.Common.{◌≡◌, ℕ, ◌+◌, List, [], ◌∷◌, length, Option, Some, None, Result, Ok, Err, refl, sym, ap, subst, ◌∙◌, arith, inl, inr}
 use Rattle.rules.specs.Universe.{Pair, Universe}
 use Rattle.refutation.specs.Laws.{OneAnswer}
-use Rattle.refutation.specs.Refutation.{IsAccepted, IsFirstBad}
+use Rattle.refutation.specs.Refutation.{IsFirstBad}
 use Rattle.refutation.specs.declared.line.Line.{Line}
 use Rattle.refutecheck.specs.Answer.{IsVerdict, Refutes}
 use Rattle.refutecheck.specs.declared.verdict.Verdict.{Verdict}

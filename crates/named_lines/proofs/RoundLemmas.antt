@@ -1,5 +1,5 @@
 -- What is named is numbered again.
-use Rattle.std.proofs.Common.{◌≡◌, ℕ, ◌+◌, true, false, List, [], ◌∷◌, Option, Some, None, Result, Ok, Err, refl, sym, ap, ◌∙◌, inl, inr}
+use Rattle.std.proofs.Common.{◌≡◌, ℕ, ◌+◌, List, [], ◌∷◌, Option, Some, None, Result, Ok, refl, sym, ap, ◌∙◌, inl, inr}
 use Rattle.std.proofs.lemmas.Bool.{cases_Bool}
 use Rattle.std.specs.List.Sorted.{IsStrictlySortedBy}
 use Rattle.std.specs.Option.{ok_or, option_and_then, option_map}
@@ -22,7 +22,6 @@ use Rattle.named_refutation.specs.declared.named.NamedPremise.TheVariants as nam
 use Rattle.named_refutation.specs.declared.named.NamedRefutation.{NamedRefutation}
 use Rattle.named_lines.specs.Naming.{each_some, line_named, literal_named, named_of, pair_named, premise_named, refutation_named, two_named}
 use Rattle.named_lines.specs.Numbering.{each_ok, go_on, line_numbered, literal_numbered, made, numbered_from, numbered_lines, pair_numbered, premise_numbered, put_numbered, two_numbered}
-use Rattle.named_lines.specs.declared.numbering.NumberedLines.{NumberedLines}
 use Rattle.named_lines.proofs.EachLemmas.{stopped_at}
 use Rattle.named_lines.proofs.NumberLemmas.{number_again}
 

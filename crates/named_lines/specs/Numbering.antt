@@ -1,5 +1,5 @@
 -- Lines by numbers, in place of lines whose pairs are named (this project's own): each pair by its number in the universe.
-use Rattle.std.specs.Prelude.{ℕ, ◌+◌, List, [], ◌∷◌, Option, Some, None, Result, Ok, Err}
+use Rattle.std.specs.Prelude.{ℕ, ◌+◌, List, [], ◌∷◌, Some, None, Result, Ok, Err}
 use Rattle.std.specs.Option.{ok_or}
 use Rattle.rules.specs.Universe.{Pair}
 use Rattle.refutation.specs.declared.line.Line.{Line}

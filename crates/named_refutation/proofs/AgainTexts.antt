@@ -1,5 +1,5 @@
 -- What is written is read again: the indices, then all lines, then the text.
-use Rattle.std.proofs.Common.{◌≡◌, ℕ, ◌+◌, ◌≤◌, ◌<◌, ◌^◌, true, false, ◌&&◌, not, List, [], ◌∷◌, ◌++◌, length, take, drop, Option, Some, None, Result, Ok, refl, sym, ap, ◌∙◌, eqb, append_assoc, arith}
+use Rattle.std.proofs.Common.{◌≡◌, ℕ, ◌+◌, ◌≤◌, ◌<◌, ◌^◌, true, false, not, List, [], ◌∷◌, ◌++◌, length, take, drop, Some, None, Ok, refl, sym, ap, ◌∙◌, eqb, append_assoc, arith}
 use Rattle.std.proofs.Math.Seq.{drop-append_seam, take-append_seam}
 use Rattle.std.proofs.lemmas.Bool.{and_parts, eqb-true, false≢true, le-ltb, ne_eqb, not-true}
 use Rattle.std.proofs.lemmas.Fmt.{digits_decimal}
@@ -7,7 +7,6 @@ use Rattle.std.proofs.lemmas.List.Elements.{All-append, All-cons, All-nil}
 use Rattle.std.proofs.lemmas.List.Splits.{slice_split_at}
 use Rattle.std.proofs.lemmas.Str.Parse.{digit_from_value, numerals_by_value, tells_digits}
 use Rattle.std.specs.List.{flat_map, list_all}
-use Rattle.std.specs.Option.{option_map_or}
 use Rattle.std.specs.Prelude.{codes, decimal}
 use Rattle.std.specs.Str.{bytes_eq}
 use Rattle.std.specs.Str.Parse.{AllDigits}
@@ -16,7 +15,6 @@ use Rattle.rules.specs.declared.limits.TheConstants.{TEXT_BYTES}
 use Rattle.plantext.specs.Cut.{parts_at}
 use Rattle.plantext.specs.Plan.{end_line}
 use Rattle.plantext.proofs.ByteLemmas.{IsFree, passing_free}
-use Rattle.refutation_text.specs.declared.error.RefutationFault.{RefutationFault}
 use Rattle.refutation_text.specs.declared.limits.TheConstants.{LINES}
 use Rattle.named_refutation.specs.Index.{index_by, index_front, index_of, index_text, is_index_writable, is_path, is_sum, is_sum_digit}
 use Rattle.named_refutation.specs.LineText.{is_named, is_writable, line_text}

@@ -5,7 +5,6 @@ use Rattle.std.proofs.lemmas.List.Elements.{All-append, All-cons, All-nil}
 use Rattle.std.specs.Char.{is_ascii_alphanumeric, is_ascii_digit}
 use Rattle.std.specs.List.{flat_map, list_all}
 use Rattle.std.specs.Prelude.{codes, decimal, length, not}
-use Rattle.rules.specs.Name.{is_name}
 use Rattle.rules.specs.declared.step.Step.TheVariants.{Unpack}
 use Rattle.plantext.proofs.ByteLemmas.{AreFree, IsFree, IsOutside, letters_free, name_free, passing_free, words_free as step_free}
 use Rattle.refutation_text.specs.Derived.{is_some_hint}

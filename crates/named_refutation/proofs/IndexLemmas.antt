@@ -1,5 +1,5 @@
 -- Indices read so far, and those that are cut off behind them.
-use Rattle.std.proofs.Common.{◌≡◌, ℕ, List, [], ◌∷◌, ◌++◌, Option, Some, None, refl, sym, ap, ◌∙◌, append_assoc, append-nil}
+use Rattle.std.proofs.Common.{◌≡◌, ℕ, List, [], ◌∷◌, ◌++◌, Some, None, refl, sym, ap, ◌∙◌, append_assoc, append-nil}
 use Rattle.plantext.specs.Cut.{SplitsPart, parts_at}
 use Rattle.plantext.specs.declared.cut.TheConstants.{NEWLINE}
 use Rattle.plantext.proofs.PartLemmas.{parts_some}

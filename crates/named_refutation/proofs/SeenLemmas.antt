@@ -1,5 +1,5 @@
 -- A key is that of an earlier literal exactly where the literals are the same.
-use Rattle.std.proofs.Common.{◌≡◌, ℕ, ◌+◌, Bool, true, false, List, [], ◌∷◌, ◌++◌, ◌&&◌, not, map, refl, sym, ap, ◌∙◌, take, drop, bytes_eq}
+use Rattle.std.proofs.Common.{◌≡◌, ℕ, ◌+◌, Bool, true, false, List, [], ◌∷◌, ◌++◌, ◌&&◌, map, refl, sym, ap, ◌∙◌, take, drop, bytes_eq}
 use Rattle.std.specs.Borrow.{Bor}
 use mathlib.Core.Bool.{beq}
 use Rattle.std.specs.List.{list_any}

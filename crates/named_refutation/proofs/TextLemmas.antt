@@ -1,10 +1,9 @@
 -- What is read as a refutation is its text: the indices, then all lines, then the text.
-use Rattle.std.proofs.Common.{◌≡◌, ℕ, ◌+◌, ◌||◌, ◌&&◌, true, ltb, List, [], ◌∷◌, ◌++◌, length, take, drop, Option, Some, None, Result, Ok, Err, refl, sym, ap, ◌∙◌, append_assoc, append-nil, arith, inl, inr, eqb}
+use Rattle.std.proofs.Common.{◌≡◌, ℕ, ◌+◌, ◌||◌, ◌&&◌, ltb, List, [], ◌∷◌, ◌++◌, length, take, drop, Option, Some, None, Result, Ok, Err, refl, sym, ap, ◌∙◌, append_assoc, append-nil, arith, inl, inr, eqb}
 use Rattle.std.proofs.lemmas.Bool.{and_parts, cases_Bool, eqb-true}
 use Rattle.std.proofs.lemmas.List.{take-append-drop}
 use Rattle.std.proofs.lemmas.List.Splits.{join_with_byte-slice_split}
 use Rattle.std.specs.List.{flat_map, join_with_byte}
-use Rattle.std.specs.Option.{option_map_or}
 use Rattle.std.specs.Str.{bytes_eq}
 use Rattle.rules.specs.NamedLaws.{bytes_eq-true}
 use Rattle.rules.specs.declared.limits.TheConstants.{TEXT_BYTES}
@@ -14,7 +13,7 @@ use Rattle.refutation_text.specs.declared.error.RefutationFault.{RefutationFault
 use Rattle.refutation_text.specs.declared.limits.TheConstants.{LINES}
 use Rattle.named_refutation.specs.Index.{index_by, index_front, index_of, index_text, is_sum}
 use Rattle.named_refutation.specs.LineText.{line_of, line_text}
-use Rattle.named_refutation.specs.Text.{cut_indices, header, is_wide, line_in_text, named_text, numbered_line, put_index, put_line, read_behind, read_end, read_lines, read_named, read_parts, with_indices}
+use Rattle.named_refutation.specs.Text.{cut_indices, header, is_wide, line_in_text, named_text, numbered_line, put_line, read_behind, read_end, read_lines, read_named, read_parts, with_indices}
 use Rattle.named_refutation.specs.declared.named.IndexLine.{IndexLine}
 use Rattle.named_refutation.specs.declared.named.NamedLine.{NamedLine}
 use Rattle.named_refutation.specs.declared.named.NamedRefutation.{NamedRefutation}

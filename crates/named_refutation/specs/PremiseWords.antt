@@ -1,5 +1,5 @@
 -- The words of a premise (this project's own): the word of its kind, and then pairs and numbers, or a name.
-use Rattle.std.specs.Prelude.{ℕ, List, [], ◌∷◌, Option, None, codes, if◌then◌else◌}
+use Rattle.std.specs.Prelude.{ℕ, List, Option, None, codes, if◌then◌else◌}
 use Rattle.std.specs.Option.{option_map, option_or}
 use Rattle.std.specs.Str.{bytes_eq}
 use Rattle.plantext.specs.Word.{only_name}

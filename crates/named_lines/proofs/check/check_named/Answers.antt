@@ -1,8 +1,8 @@
 -- The verdict on the lines by numbers is that on the refutation where no pair is missing, and else a no.
-use Rattle.std.proofs.Common.{◌≡◌, ◌∙◌, ◌+◌, Some, length, sym, ap, subst}
+use Rattle.std.proofs.Common.{◌≡◌, ◌∙◌, Some, sym, ap, subst}
 use Rattle.refutecheck.specs.Answer.{IsVerdict, Refutes}
 use Rattle.refutecheck.specs.declared.verdict.Verdict.{Verdict}
-use Rattle.named_lines.specs.Judged.{AreAccepted, IsVerdictOn, stopped}
+use Rattle.named_lines.specs.Judged.{AreAccepted, IsVerdictOn}
 use Rattle.named_lines.specs.Numbering.{numbered_lines}
 use Rattle.named_lines.specs.declared.numbering.NumberedLines.{NumberedLines}
 use Rattle.named_lines.proofs.JudgedLemmas.{accepted_yes, missing_line, stopped_none, stopped_refutes, stopped_verdict, whole_verdict}

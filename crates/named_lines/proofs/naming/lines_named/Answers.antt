@@ -1,5 +1,5 @@
 -- A line is named before those that are left.
-use Rattle.std.proofs.Common.{◌≡◌, ◌∙◌, ◌+◌, ◌∷◌, List, Option, Some, drop, sym, ap}
+use Rattle.std.proofs.Common.{◌≡◌, ◌∙◌, ◌+◌, ◌∷◌, Option, Some, drop, sym, ap}
 use Rattle.std.proofs.lemmas.List.{drop_more}
 use Rattle.refutation.specs.declared.line.Line.{Line}
 use Rattle.named_refutation.specs.declared.named.NamedLine.{NamedLine}

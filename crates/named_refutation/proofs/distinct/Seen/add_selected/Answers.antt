@@ -1,5 +1,5 @@
 -- The key that is added is among those before it exactly where its literal is among theirs.
-use Rattle.std.proofs.Common.{◌≡◌, ◌∙◌, true, not, map, refl, sym, ap}
+use Rattle.std.proofs.Common.{◌≡◌, ◌∙◌, true, not, map, refl, ap}
 use Rattle.std.specs.List.{list_any}
 use Rattle.named_refutation.specs.Derived.{is_same}
 use Rattle.named_refutation.specs.Seen.{literal_by}
