@@ -10,15 +10,15 @@ _debplan()
         before=${COMP_WORDS[COMP_CWORD-2]}
     fi
     if [ "$COMP_CWORD" -eq 1 ]; then
-        COMPREPLY=($(compgen -W "compare candidate solve check-plan check-refutation apply help --help --version" -- "$word"))
+        COMPREPLY=($(compgen -W "compare candidate solve check-plan check-refutation apply installable help --help --version" -- "$word"))
         return
     fi
     case $before in
-        --journal | --output | --preferences | --request | --request-out | --sources | --status)
+        --journal | --output | --preferences | --refutations | --request | --request-out | --sources | --status)
             COMPREPLY=($(compgen -f -- "$word"))
             return
             ;;
-        --arch | --goal | --limit | --target)
+        --arch | --goal | --limit | --shard | --target)
             return
             ;;
         --format)
@@ -48,8 +48,11 @@ _debplan()
             COMPREPLY=($(compgen -W "--arch --status --sources --preferences --target --request --goal --journal --output --help" -- "$word"))
             COMPREPLY+=($(compgen -f -- "$word"))
             ;;
+        installable)
+            COMPREPLY=($(compgen -W "--arch --status --sources --preferences --target --all-versions --without-essential --shard --limit --refutations --help" -- "$word"))
+            ;;
         help)
-            COMPREPLY=($(compgen -W "compare candidate solve check-plan check-refutation apply" -- "$word"))
+            COMPREPLY=($(compgen -W "compare candidate solve check-plan check-refutation apply installable" -- "$word"))
             ;;
     esac
 }

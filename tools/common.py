@@ -234,8 +234,14 @@ def weights_of(word):
     return (*(-1 if it == "~" else ord(it) if it.isalpha() else ord(it) + 256 for it in word), 0)
 
 
+def number_key(digits):
+    """A number of any length as a key by which numbers are in order."""
+    digits = digits.lstrip("0")
+    return len(digits), digits
+
+
 def pieces_of(text):
-    return tuple((weights_of(word), int(digits or 0)) for word, digits in re.findall(r"(\D*)(\d*)", text))
+    return tuple((weights_of(word), number_key(digits)) for word, digits in re.findall(r"(\D*)(\d*)", text))
 
 
 @functools.lru_cache(maxsize=None)
@@ -247,7 +253,7 @@ def version_key(version):
     upstream, hyphen, revision = rest.rpartition("-")
     if not hyphen:
         upstream, revision = rest, "0"
-    return int(epoch) if epoch.isdigit() else -1, pieces_of(upstream), pieces_of(revision)
+    return number_key(epoch) if epoch.isdigit() else (-1, ""), pieces_of(upstream), pieces_of(revision)
 
 
 def meets(version, atom):

@@ -16,10 +16,16 @@ VERDICT = rb"no (?:start F0 StartConflict|step %s %s|end F11 %s)\n" % (LINE, RUL
 # A name with its candidate, and a name that has none.
 FOUND = rb"%s %s -?[0-9]+\n" % (NAME, VERSION)
 LACKING = rb"[^\n]* none\n"
+# What is said of the base and of packages, where none is undecided and where some are; the last line, as far as what follows there.
+BROKEN = rb"(?:broken base\n)?(?:broken %s %s\n)*" % (NAME, VERSION)
+UNSURE = rb"(?:(?:broken|undecided) base\n)?(?:(?:broken|undecided) %s %s\n)*" % (NAME, VERSION)
+COUNTS = rb"checked [0-9]+, broken [0-9]+"
 # Of each command what it prints with each exit status. `undecided unchecked` is a bug of the program.
 ANSWERS = {
     "compare": {0: rb"yes\n", 1: rb"no\n"},
     "candidate": {0: rb"(?:%s)+" % FOUND, 1: rb"(?:%s)*%s(?:%s|%s)*" % (FOUND, LACKING, FOUND, LACKING)},
+    "installable": {0: rb"checked [0-9]+, broken 0\n", 1: rb"%s%s\n" % (BROKEN, COUNTS),
+                    2: rb"%s%s(?:, undecided %s)?\n" % (UNSURE, COUNTS, LINE)},
     "check-plan": {0: rb"yes\n", 1: VERDICT},
     "check-refutation": {0: rb"yes\n", 1: rb"no line %s\n" % LINE},
     "solve": {0: rb"(?:plan 1\n(?:%s)*|plan 2\n(?:%s)*end [0-9]+\n)" % (STEP, STEP), 1: rb"refutation 1\n(?:(?:%s|%s)\n)+" % (PREMISE, DERIVED),
@@ -55,7 +61,9 @@ def faults_of(printed, texts, kind, is_call):
     if printed.status < 0:
         return [f"it was ended by signal {-printed.status}"]
     if printed.status in FORMS:
-        return faults_of_refusal(printed, texts)
+        # (of installable the number behind `request` is that of a name among the words)
+        lined = {name: text for name, text in texts.items() if kind != "installable" or name != "request"}
+        return faults_of_refusal(printed, lined)
     if printed.status == 4 and not is_call:
         return [] if printed.err and not printed.out else ["a usage that isn't on standard error alone"]
     if printed.status not in (0, 1, 2):

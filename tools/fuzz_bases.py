@@ -31,7 +31,7 @@ class Base:
         """The words of its command line."""
         if not self.options:
             return [self.kind, *self.rest]
-        words = [self.kind, *self.options, *(["--request", "request"] if self.kind != "candidate" else [])]
+        words = [self.kind, *self.options, *(["--request", "request"] if self.kind not in ("candidate", "installable") else [])]
         if self.kind == "apply":
             words += ["--journal", "journal", "--output", "output"]
         return [*words, *self.rest, *([LAST[self.kind]] if self.kind in LAST else [])]
@@ -59,14 +59,14 @@ def base_of(label, scenario, command):
 
 @functools.lru_cache(maxsize=None)
 def scenario_bases():
-    """The calls of all scenarios, in the order of their files, but for those whose request is no file, that read standard input, or
-    that have sentences beside their answer."""
+    """The calls of all scenarios, in the order of their files, but for those whose request is no file, that read standard input, that
+    have sentences beside their answer, or that write files into a folder."""
     found = []
     for path in sorted((TOP / "scenarios").glob("*.txt")):
         for scenario in scenarios_of(path.read_text(encoding="utf-8")):
             if scenario.goals is None and not scenario.input:
                 found += [base_of(f"{path.name}:{command.line}", scenario, command) for command in scenario.commands
-                          if not {"--explain", "--keep-back"} & set(command.words(scenario))]
+                          if not {"--explain", "--keep-back", "--refutations"} & set(command.words(scenario))]
     return found
 
 

@@ -1,5 +1,6 @@
 mod LeavingLemmas
 mod LeftLemmas
+mod PutLemmas
 mod CallLemmas
 mod LineLemmas
 mod ResultLemmas

@@ -3,6 +3,7 @@ use Rattle.std.specs.Prelude.{◌≡◌, ℕ, Bool, List, [], Option, Result, Ok
 use Rattle.candidates.specs.Offer.{Offer}
 use Rattle.cli.specs.Applied.{IsOutcomeOfPlanTaken}
 use Rattle.cli.specs.Files.{Files, shelved_at}
+use Rattle.cli.specs.Packages.{IsOutcomeOfPackages}
 use Rattle.cli.specs.Places.{comparison_of, texts_for}
 use Rattle.cli.specs.Possible.{IsOutcomeOfPossible}
 use Rattle.cli.specs.declared.arguments.Arguments.{Arguments}
@@ -81,3 +82,5 @@ IsOutcomeOfAsked files (ask.check_refutation given request refutation explains w
     IsOutcomeOfLines (texts_for files given request) (files refutation) written found
 IsOutcomeOfAsked files (ask.apply given request plan journal output) found =
     IsOutcomeOfPlanTaken (texts_for files given request) (files plan) found
+IsOutcomeOfAsked files (ask.installable given survey folder) found =
+    IsOutcomeOfPackages (texts_for files given (ask.goals [])) survey folder found

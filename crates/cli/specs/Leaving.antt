@@ -9,6 +9,7 @@ use Rattle.cli.specs.Applied.{AreApart, IsOutcomeOfPrepared, IsOutcomeOfStop, Is
 use Rattle.cli.specs.Calls.{IsOutcomeOfAsked, IsOutcomeOfRequest}
 use Rattle.cli.specs.Files.{Files, HasPut}
 use Rattle.cli.specs.Kept.{IsNoted, Kept, Put, SameElsewhere, Untouched}
+use Rattle.cli.specs.Packages.{IsLeftOfPackages}
 use Rattle.cli.specs.Places.{paths_for, texts_for}
 use Rattle.cli.specs.Possible.{IsPrintedOfKept}
 use Rattle.cli.specs.declared.applied.Stop.{Stop}
@@ -125,10 +126,12 @@ IsLeftOfExtent texts limit (ask.possible output) written at was found files kept
     IsLeftOfPossible texts limit output written at was found files kept
 
 -- the outcome is that of what is said in answer to what is asked for: a request leaves what is left of it, a plan that is carried out
--- its journal and its output, and all else changes nothing
+-- its journal and its output, packages that are asked about the files of those that are broken, and all else changes nothing
 abbrev pub IsLeftOfAsked : {J : Type 0} → (J → Type 0) → (J → DiskFacts) → Asked → Files → Kept J → Leaving J
 IsLeftOfAsked honest facts (ask.solve given request limit extent explains written) at was found files kept =
     IsLeftOfExtent (texts_for at given request) limit extent written at was found files kept
 IsLeftOfAsked honest facts (ask.apply given request plan journal output) at was found files kept =
     IsLeftOfPlanTaken honest facts (texts_for at given request) (at plan) (paths_for given request plan) journal output at was found files kept
+IsLeftOfAsked honest facts (ask.installable given survey folder) at was found files kept =
+    IsLeftOfPackages (texts_for at given (ask.goals [])) survey folder at was found files kept
 IsLeftOfAsked honest facts asked at was found files kept = IsOutcomeOfAsked at asked found × Untouched at was files kept

@@ -14,6 +14,7 @@ use crate::arguments::{Arguments, arguments_by, goals_of, place_of};
 use crate::files::TextAt;
 use crate::host::Host;
 use crate::names::outcome_of_names;
+use crate::packages::outcome_of_packages;
 use crate::plan::outcome_of_plan_judged;
 use crate::possible::outcome_of_possible;
 use crate::refuted::outcome_of_lines;
@@ -29,7 +30,8 @@ use std::io::Write;
 /// It opens each file once, at its turn, and none behind a refusal; the sources and the indices of a plan that is written as JSON a
 /// second time, behind the answer, and the indices of a plan that is carried out. It writes nothing but its answer or one refusal, and
 /// where the words ask for them, sentences behind that on standard error; of files nothing but what the words name for it: the journal
-/// and the output of a plan that is carried out, and the request that is left of one that is kept back.
+/// and the output of a plan that is carried out, the request that is left of one that is kept back, and in the folder of refutations those
+/// of broken packages and their requests.
 pub fn run<H: Host, W: Write, E: Write>(
     alloc: Global,
     words: &[Vec<u8>],
@@ -134,6 +136,14 @@ fn outcome_of_call<H: Host>(
             let place = place_of(request, goals.as_slice());
             let arguments = arguments_by(options, place, *refutation, *explains, *format);
             outcome_of_lines(alloc, host, &arguments, notes)
+        }
+        Call::Installable {
+            options,
+            survey,
+            refutations,
+        } => {
+            let arguments = arguments_by(options, TextAt::Given(&[]), "", false, Format::Text);
+            outcome_of_packages(alloc, host, &arguments, survey, *refutations)
         }
         Call::Apply {
             options,

@@ -11,6 +11,8 @@ use Rattle.command_line.specs.declared.call.Options.{Options}
 use Rattle.command_line.specs.declared.call.Relation.{Relation}
 use Rattle.command_line.specs.declared.call.Request.{Request as RequestHeld}
 use Rattle.command_line.specs.declared.call.Request.TheVariants as held
+use Rattle.command_line.specs.declared.call.Shard.{Shard}
+use Rattle.command_line.specs.declared.call.Survey.{Survey as SurveyHeld}
 
 -- which packages there are, and what is preferred among them
 pub record Given : Type 0 where
@@ -34,6 +36,14 @@ pub data Extent : Type 0 where
   -- as much as can be, with the path of what is left of it, if there is one
   possible : Option Text → Extent
 
+-- which packages of the indices are asked about, and what is asked for beside each
+pub record Survey : Type 0 where
+  pub names : List Text
+  pub asks_all_versions : Bool
+  pub without_essential : Bool
+  pub shard : Shard
+  pub limit : ℕ
+
 -- one of the calls of the program; the last two of one whose answer may be told in another way are whether it explains, and the format
 pub data Asked : Type 0 where
   -- the version, its relation, and the other version
@@ -48,6 +58,8 @@ pub data Asked : Type 0 where
   check_refutation : Given → Request → Text → Bool → Format → Asked
   -- the request, the plan, the journal, and the output
   apply : Given → Request → Text → Text → Text → Asked
+  -- which packages, and the folder of refutations, if there is one
+  installable : Given → Survey → Option Text → Asked
 
 -- words, in their texts
 abbrev pub texts_by : List (Bor Text) → List Text
@@ -73,6 +85,16 @@ given_by options = record {
   target = option_map (λ word. word.now) options.target;
 }
 
+-- which packages are asked about, in texts
+abbrev pub survey_by : SurveyHeld → Survey
+survey_by survey = record {
+  names = texts_by survey.names.items;
+  asks_all_versions = survey.asks_all_versions;
+  without_essential = survey.without_essential;
+  shard = survey.shard;
+  limit = survey.limit;
+}
+
 -- the call, in texts
 abbrev pub asked_by : Call → Asked
 asked_by (call.Compare version relation other) = compare version.now relation other.now
@@ -84,3 +106,5 @@ asked_by (call.CheckRefutation options request refutation explains format) =
     check_refutation (given_by options) (request_by request) refutation.now explains format
 asked_by (call.Apply options request plan journal output) =
     apply (given_by options) (request_by request) plan.now journal.now output.now
+asked_by (call.Installable options survey refutations) =
+    installable (given_by options) (survey_by survey) (option_map (λ word. word.now) refutations)

@@ -28,14 +28,19 @@ answer_options = codes "--request-out" ∷ codes "--format" ∷ []
 abbrev pub own_options : List Text
 own_options = codes "--limit" ∷ codes "--journal" ∷ codes "--output" ∷ []
 
+-- the options that say which packages are asked about, and where refutations are written
+abbrev pub survey_options : List Text
+survey_options = codes "--shard" ∷ codes "--refutations" ∷ []
+
 -- the word is one of these options
 abbrev pub is_among : List Text → Text → Bool
 is_among options word = list_any (λ option. bytes_eq option word) options
 
--- the word is an option that takes a value, as all do but `--explain`, `--keep-back` and those for help and the version
+-- the word is an option that takes a value, as all do but `--explain`, `--keep-back`, `--all-versions`, `--without-essential` and those
+-- for help and the version
 unfoldable pub takes_value : Text → Bool
 takes_value word = is_among needed_options word || is_among optional_options word || is_among request_options word
-    || is_among answer_options word || is_among own_options word
+    || is_among answer_options word || is_among own_options word || is_among survey_options word
 
 -- the word ends the options: each word behind it stands for itself
 abbrev pub ends_options : Text → Bool

@@ -36,10 +36,18 @@ number rule = record rule { parser = Some (Signed (pos 0) (pos 4294967295)) }
 abbrev pub command : Text → List Rule → Shape
 command name rules = record (new_shape name) { rules = rules }
 
--- the options that say which packages there are, and what is preferred among them
-abbrev pub options : List Rule
-options = option (codes "arch") ∷ option (codes "status") ∷ option (codes "sources") ∷ optional (option (codes "preferences"))
+-- the options that say which packages there are, and what is preferred among them, with this one for the status file
+abbrev pub options_with : Rule → List Rule
+options_with status = option (codes "arch") ∷ status ∷ option (codes "sources") ∷ optional (option (codes "preferences"))
     ∷ optional (option (codes "target")) ∷ []
+
+-- these options where a status file has to be given
+abbrev pub options : List Rule
+options = options_with (option (codes "status"))
+
+-- these options where the status file may be left out
+abbrev pub archive_options : List Rule
+archive_options = options_with (optional (option (codes "status")))
 
 -- debplan compare V REL W
 abbrev pub compare_command : Shape
@@ -81,6 +89,16 @@ abbrev pub apply_command : Shape
 apply_command = command (codes "apply") (options ++ request_options ++ option (codes "journal") ∷ option (codes "output")
     ∷ word (codes "plan") ∷ [])
 
+-- the options that say which packages are asked about, and what is asked for beside each
+abbrev pub survey_options : List Rule
+survey_options = flag (codes "all-versions") ∷ flag (codes "without-essential") ∷ optional (option (codes "shard"))
+    ∷ number (optional (option (codes "limit"))) ∷ []
+
+-- debplan installable ARCHIVES [--all-versions] [--without-essential] [--shard K/N] [--limit N] [--refutations DIR] [NAME..]
+abbrev pub installable_command : Shape
+installable_command = command (codes "installable") (archive_options ++ survey_options ++ optional (option (codes "refutations"))
+    ∷ optional (repeated (word (codes "name"))) ∷ [])
+
 -- the program, which has a version, and of which a command has to be named
 unfoldable pub debplan_app : App
 debplan_app = record {
@@ -90,7 +108,8 @@ debplan_app = record {
     has_long_version = true;
     subcommand_required = true;
   };
-  subs = compare_command ∷ candidate_command ∷ solve_command ∷ check_plan_command ∷ check_refutation_command ∷ apply_command ∷ [];
+  subs = compare_command ∷ candidate_command ∷ solve_command ∷ check_plan_command ∷ check_refutation_command ∷ apply_command
+      ∷ installable_command ∷ [];
 }
 
 -- the argument is read as this one

@@ -7,12 +7,12 @@ use Rattle.clap.specs.Simple.{subcommand_of}
 use Rattle.clap.specs.Walk.{Row, all_of, first_of, is_empty}
 use Rattle.clap.specs.declared.error.Error.{Error}
 use Rattle.clap.specs.declared.error.kind.ErrorKind.TheVariants.{ValueValidation}
-use Rattle.command_line.specs.Asked.{Asked, Extent, Given, Request, asked_by, file, goals}
+use Rattle.command_line.specs.Asked.{Asked, Extent, Given, Request, Survey, asked_by, file, goals}
 use Rattle.command_line.specs.Asked as ask
 use Rattle.command_line.specs.Joined.{Text}
 use Rattle.command_line.specs.Number.{limit_of}
 use Rattle.command_line.specs.Program.{debplan_app}
-use Rattle.command_line.specs.Values.{explains_in, extent_in, format_in, given_in, relation_of, request_in}
+use Rattle.command_line.specs.Values.{archive_given_in, explains_in, extent_in, format_in, given_in, relation_of, request_in, survey_in}
 use Rattle.command_line.specs.declared.call.Call.{Call}
 use Rattle.command_line.specs.declared.call.Format.{Format}
 
@@ -63,6 +63,11 @@ abbrev pub apply_of : Option Given → Option Request → Option Text → Option
 apply_of (Some given) (Some request) plan journal output = taken_of given request (judged_beside request plan) journal output
 apply_of _ _ _ _ _ = None
 
+-- the question which packages can be installed, with the path of the folder of refutations, if there is one
+abbrev pub installable_of : Option Given → Option Survey → Option Text → Option Asked
+installable_of (Some given) (Some survey) refutations = Some (ask.installable given survey refutations)
+installable_of _ _ refutations = None
+
 -- what the command of this name asks for by these values, where no word is missing
 abbrev pub asked_in : Text → List Row → Option Asked
 asked_in name rows =
@@ -81,6 +86,8 @@ asked_in name rows =
     else if bytes_eq name (codes "apply")
     then apply_of (given_in rows) (request_in rows) (first_of (codes "plan") rows) (first_of (codes "journal") rows)
     (first_of (codes "output") rows)
+    else if bytes_eq name (codes "installable")
+    then installable_of (archive_given_in rows) (survey_in rows) (first_of (codes "refutations") rows)
     else None
 
 -- what a command is asked for, with the values that `clap` gives it by the words

@@ -1,13 +1,16 @@
 -- What the values of a command's words say, each for itself.
-use Rattle.std.specs.Prelude.{Bool, true, false, List, Option, Some, None, codes, if◌then◌else◌}
+use Rattle.std.specs.Prelude.{ℕ, Bool, true, false, List, [], Option, Some, None, codes, if◌then◌else◌}
+use Rattle.std.specs.Option.{unwrap_or}
 use Rattle.std.specs.Str.{bytes_eq}
 use Rattle.clap.specs.Walk.{Row, all_of, first_of}
-use Rattle.command_line.specs.Asked.{Extent, Given, Request, file, goals, possible, whole}
+use Rattle.command_line.specs.Asked.{Extent, Given, Request, Survey, file, goals, possible, whole}
 use Rattle.command_line.specs.Joined.{Text}
+use Rattle.command_line.specs.Number.{limit_of, shard_of}
 use Rattle.command_line.specs.declared.call.Format.{Format}
 use Rattle.command_line.specs.declared.call.Format.TheVariants as format
 use Rattle.command_line.specs.declared.call.Relation.{Relation}
 use Rattle.command_line.specs.declared.call.Relation.TheVariants as relation
+use Rattle.command_line.specs.declared.call.Shard.{Shard}
 
 -- the relation that a word of deb-version(7) names, if it does
 abbrev pub relation_of : Text → Option Relation
@@ -30,10 +33,22 @@ given_of (Some arch) (Some status) (Some sources) preferences target = Some (rec
 })
 given_of _ _ _ _ _ = None
 
+-- the options among the values of a command, with this path of the status file
+abbrev pub given_with : Option Text → List Row → Option Given
+given_with status rows = given_of (first_of (codes "arch") rows) status (first_of (codes "sources") rows)
+    (first_of (codes "preferences") rows) (first_of (codes "target") rows)
+
 -- the options among the values of a command
 abbrev pub given_in : List Row → Option Given
-given_in rows = given_of (first_of (codes "arch") rows) (first_of (codes "status") rows) (first_of (codes "sources") rows)
-    (first_of (codes "preferences") rows) (first_of (codes "target") rows)
+given_in rows = given_with (first_of (codes "status") rows) rows
+
+-- the path of an empty status file, by which nothing is installed
+abbrev pub nothing_installed : Text
+nothing_installed = codes "/dev/null"
+
+-- the options among the values of a command that may leave the status file out: nothing is installed then
+abbrev pub archive_given_in : List Row → Option Given
+archive_given_in rows = given_with (Some (unwrap_or (first_of (codes "status") rows) nothing_installed)) rows
 
 -- the request of a file or of goals, where one of them is given and not both
 abbrev pub request_of : Option Text → Option (List Text) → Option Request
@@ -78,3 +93,24 @@ extent_of false (Some path) = None
 -- how much of the request has to be fulfilled, by the values of a command
 abbrev pub extent_in : List Row → Option Extent
 extent_in rows = extent_of (is_set (first_of (codes "keep-back") rows)) (first_of (codes "request-out") rows)
+
+-- which packages are asked about: those of these names, or all without names, and of them those of the shard
+abbrev pub survey_of : Option (List Text) → Bool → Bool → Option Shard → Option ℕ → Option Survey
+survey_of names asks_all_versions without_essential (Some shard) (Some limit) = Some (record {
+  names = unwrap_or names [];
+  asks_all_versions = asks_all_versions;
+  without_essential = without_essential;
+  shard = shard;
+  limit = limit;
+})
+survey_of _ asks_all_versions without_essential _ _ = None
+
+-- which packages are asked about, by these names and the other values of a command
+abbrev pub survey_with : Option (List Text) → List Row → Option Survey
+survey_with names rows = survey_of names (is_set (first_of (codes "all-versions") rows))
+    (is_set (first_of (codes "without-essential") rows)) (shard_of (first_of (codes "shard") rows))
+    (limit_of (first_of (codes "limit") rows))
+
+-- which packages are asked about, by the values of a command
+abbrev pub survey_in : List Row → Option Survey
+survey_in rows = survey_with (all_of (codes "name") rows) rows

@@ -1,20 +1,24 @@
 // The words of a command line as a call.
 ghost use Rattle.std.specs.Prelude.{◌≡◌, ◌∷◌, IfOk, [], codes, map, option_map, string_bytes};
+ghost use Rattle.std.specs.Option.{unwrap_or};
 ghost use Rattle.clap.specs.Kinds.{HasKind};
 ghost use Rattle.clap.specs.Walk.{all_of, first_of, rows_of};
 ghost use Rattle.clap.specs.Words.{found_of, kind_of, subcommand_rows_of};
-ghost use Rattle.command_line.specs.Asked.{asked_by, extent_by, given_by, request_by, texts_by};
-ghost use Rattle.command_line.specs.Number.{limit_of};
+ghost use Rattle.command_line.specs.Asked.{asked_by, extent_by, given_by, request_by, survey_by, texts_by};
+ghost use Rattle.command_line.specs.Number.{limit_of, shard_of};
 ghost use Rattle.command_line.specs.Spelled as spell;
 ghost use Rattle.command_line.specs.Values as value;
 ghost use Rattle.command_line.specs.Asked as ask;
 
-use crate::call::{Call, Extent, Format, Options, Relation, Request};
+use crate::call::{Call, Extent, Format, Options, Relation, Request, Survey};
 use crate::declare::program;
-use crate::number::limit_of;
+use crate::number::{limit_of, shard_of};
 use clap::error::ErrorKind;
 use clap::{ArgMatches, Error};
 use std::alloc::{AllocError, Global};
+
+/// The path of an empty status file, by which nothing is installed.
+const NOTHING_INSTALLED: &str = "/dev/null";
 
 /// The call that the words spell, of which the first is the program's own name and each option is joined to its value, or what is
 /// to be said of the words: help, the version, or how they are wrong.
@@ -48,11 +52,12 @@ fn call_of_command<'a>(
 {
     let request = request_in(alloc, values)?;
     let names = texts_in(alloc, values, "name")?;
-    Ok(call_named(command, values, request, names))
+    Ok(call_named(alloc, command, values, request, names))
 }
 
 // The call that these values of the command of this name make, with the request and the names that are among them.
 fn call_named<'a>(
+    alloc: Global,
     command: &str,
     values: &ArgMatches<'a>,
     request: Option<Request<'a>>,
@@ -69,6 +74,7 @@ fn call_named<'a>(
         "check-plan" => plan_in(values, request),
         "check-refutation" => refutation_in(values, request),
         "apply" => apply_in(values, request),
+        "installable" => installable_in(alloc, values, names),
         _ => None,
     }
 }
@@ -89,6 +95,12 @@ fn mistake_of_values(values: &ArgMatches<'_>) -> &'static str {
     if extent_in(values).is_none() {
         return "--request-out FILE is given without --keep-back";
     }
+    if shard_of(text_in(values, "shard")).is_none() {
+        return "--shard K/N wants two numbers, the first from 1 to the second";
+    }
+    if limit_of(text_in(values, "limit")).is_none() {
+        return "N is a number without a sign or a leading zero";
+    }
     mistake_of_request(values)
 }
 
@@ -97,7 +109,6 @@ fn mistake_of_request(values: &ArgMatches<'_>) -> &'static str {
     match (values.contains_id("request"), values.contains_id("goal")) {
         (true, true) => "the request is given as --request FILE or as --goal TEXT, not as both",
         (false, false) => "the request is missing: --request FILE, or --goal TEXT once or more",
-        _ if values.contains_id("limit") => "N is a number without a sign or a leading zero",
         _ => "standard input (-) can be read as one file alone",
     }
 }
@@ -218,8 +229,26 @@ fn relation_of(word: &str) -> Option<Relation>
 fn options_in<'a>(values: &ArgMatches<'a>) -> Option<Options<'a>>
     ensures { option_map given_by result ≡ value.given_in (rows_of (found_of values.now)) }
 {
+    options_with(text_in(values, "status"), values)
+}
+
+// The options of a command that may leave the status file out, unless one that is required is missing.
+fn archive_options_in<'a>(values: &ArgMatches<'a>) -> Option<Options<'a>>
+    ensures { option_map given_by result ≡ value.archive_given_in (rows_of (found_of values.now)) }
+{
+    match text_in(values, "status") {
+        Some(status) => options_with(Some(status), values),
+        None => options_with(Some(NOTHING_INSTALLED), values),
+    }
+}
+
+// The options with this path of the status file, unless one that is required is missing.
+fn options_with<'a>(status: Option<&'a str>, values: &ArgMatches<'a>) -> Option<Options<'a>>
+    ensures { option_map given_by result
+        ≡ value.given_with (option_map (λ word. word.now) status.entry) (rows_of (found_of values.now)) }
+{
     let arch = text_in(values, "arch")?;
-    let status = text_in(values, "status")?;
+    let status = status?;
     let sources = text_in(values, "sources")?;
     let preferences = text_in(values, "preferences");
     let target = text_in(values, "target");
@@ -364,6 +393,57 @@ fn apply_in<'a>(values: &ArgMatches<'a>, request: Option<Request<'a>>) -> Option
         journal,
         output,
     })
+}
+
+fn installable_in<'a>(
+    alloc: Global,
+    values: &ArgMatches<'a>,
+    names: Option<Vec<&'a str>>,
+) -> Option<Call<'a>>
+    ensures { let rows = rows_of (found_of values.now) in option_map asked_by result ≡ spell.installable_of
+        (value.archive_given_in rows) (value.survey_with (option_map (λ names. texts_by names.items) names.entry) rows)
+        (first_of (codes "refutations") rows) }
+{
+    let options = archive_options_in(values)?;
+    let survey = survey_in(alloc, values, names)?;
+    let refutations = text_in(values, "refutations");
+    Some(Call::Installable {
+        options,
+        survey,
+        refutations,
+    })
+}
+
+// Which packages are asked about, unless the shard or the limit is none.
+fn survey_in<'a>(
+    alloc: Global,
+    values: &ArgMatches<'a>,
+    names: Option<Vec<&'a str>>,
+) -> Option<Survey<'a>>
+    ensures { option_map survey_by result
+        ≡ value.survey_with (option_map (λ names. texts_by names.items) names.entry) (rows_of (found_of values.now)) }
+{
+    let shard = shard_of(text_in(values, "shard"))?;
+    let limit = limit_of(text_in(values, "limit"))?;
+    let asks_all_versions = is_set(values, "all-versions");
+    let without_essential = is_set(values, "without-essential");
+    Some(Survey {
+        names: listed(alloc, names),
+        asks_all_versions,
+        without_essential,
+        shard,
+        limit,
+    })
+}
+
+// The words, or none.
+fn listed<'a>(alloc: Global, words: Option<Vec<&'a str>>) -> Vec<&'a str>
+    ensures { texts_by result.items ≡ unwrap_or (option_map (λ words. texts_by words.items) words.entry) [] }
+{
+    match words {
+        Some(words) => words,
+        None => Vec::new(alloc),
+    }
 }
 
 /// What is to be said of words that are wrong as this text says.

@@ -50,6 +50,30 @@ pub enum Extent<'a> {
     Possible(Option<&'a str>),
 }
 
+/// Which of the packages in their order are asked about: the K-th of every N.
+#[derive(Clone, Copy)]
+pub struct Shard {
+    /// K, from 1 to N.
+    pub number: u32,
+    /// N.
+    pub of: u32,
+}
+
+/// Which packages of the indices are asked about, and what is asked for beside each.
+#[derive(Drop)]
+pub struct Survey<'a> {
+    /// Their names, in the order of the words; all packages are asked about where there are none.
+    pub names: Vec<&'a str>,
+    /// Whether all versions are asked for.
+    pub asks_all_versions: bool,
+    /// Whether essential packages are not asked for beside each.
+    pub without_essential: bool,
+    /// Which of them.
+    pub shard: Shard,
+    /// The conflicts after which each search gives up.
+    pub limit: u32,
+}
+
 /// How an answer is written.
 #[derive(Clone, Copy)]
 pub enum Format {
@@ -136,5 +160,14 @@ pub enum Call<'a> {
         journal: &'a str,
         /// The path of the output.
         output: &'a str,
+    },
+    /// To say of each package whether it can be installed.
+    Installable {
+        /// By these files.
+        options: Options<'a>,
+        /// Of these packages.
+        survey: Survey<'a>,
+        /// The path of the folder of refutations, if there is one.
+        refutations: Option<&'a str>,
     },
 }

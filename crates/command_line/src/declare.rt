@@ -5,8 +5,9 @@ ghost use Rattle.clap.specs.Words.{app_of};
 ghost use Rattle.command_line.specs.Program as app;
 
 use crate::help::{
-    ANSWERS, APPLY_USAGE, CHECK_PLAN_USAGE, CHECK_REFUTATION_USAGE, GUIDE, KEEP_BACK_HELP,
-    RELATION_HELP, SOLVE_USAGE, VERSION, VERSION_AND_TOOLCHAIN,
+    ANSWERS, APPLY_USAGE, ARCHIVE_STATUS_HELP, CHECK_PLAN_USAGE, CHECK_REFUTATION_USAGE, GUIDE,
+    KEEP_BACK_HELP, REFUTATIONS_HELP, RELATION_HELP, SHARD_HELP, SOLVE_USAGE, VERSION,
+    VERSION_AND_TOOLCHAIN, WITHOUT_ESSENTIAL_HELP,
 };
 use clap::{Arg, ArgAction, Command, value_parser};
 use std::alloc::{AllocError, Global};
@@ -29,7 +30,8 @@ pub fn program<'a>(alloc: Global) -> Result<Command<'a>, AllocError>
     let with_solve = with_candidate.subcommand(solve(alloc)?)?;
     let with_plan = with_solve.subcommand(check_plan(alloc)?)?;
     let with_refutation = with_plan.subcommand(check_refutation(alloc)?)?;
-    let whole = with_refutation.subcommand(apply(alloc)?)?;
+    let with_apply = with_refutation.subcommand(apply(alloc)?)?;
+    let whole = with_apply.subcommand(installable(alloc)?)?;
     Ok(whole)
 }
 
@@ -159,6 +161,44 @@ fn apply<'a>(alloc: Global) -> Result<Command<'a>, AllocError>
     Ok(whole)
 }
 
+fn installable<'a>(alloc: Global) -> Result<Command<'a>, AllocError>
+    ensures { IfOk result (app.Declares app.installable_command) }
+{
+    let start = named(
+        alloc,
+        "installable",
+        "Say of each package of the indices, or of some, whether it can be installed",
+        ANSWERS,
+    );
+    let refutations = optional(alloc, "refutations", "DIR", REFUTATIONS_HELP);
+    let names = names(alloc);
+    let optioned = with_archive_options(alloc, start)?;
+    let with_survey = with_survey(alloc, optioned)?;
+    let with_refutations = with_survey.arg(refutations)?;
+    let whole = with_refutations.arg(names)?;
+    Ok(whole)
+}
+
+// The command with the options that say which packages are asked about, and what is asked for beside each.
+fn with_survey<'a>(alloc: Global, start: Command<'a>) -> Result<Command<'a>, AllocError>
+    ensures { (name : Text) (rules : List Rule) → app.Declares (app.command name rules) start.entry
+        → IfOk result (app.Declares (app.command name (rules ++ app.survey_options))) }
+{
+    let all_versions = flag(
+        alloc,
+        "all-versions",
+        "Admit each version that may become the candidate, as a line all-versions of a request does",
+    );
+    let without_essential = flag(alloc, "without-essential", WITHOUT_ESSENTIAL_HELP);
+    let shard = optional(alloc, "shard", "K/N", SHARD_HELP);
+    let limit = limit(alloc);
+    let with_versions = start.arg(all_versions)?;
+    let with_essential = with_versions.arg(without_essential)?;
+    let with_shard = with_essential.arg(shard)?;
+    let whole = with_shard.arg(limit)?;
+    Ok(whole)
+}
+
 // The command with the options that say what is requested, of which `call_of` wants one kind.
 fn with_request<'a>(alloc: Global, start: Command<'a>) -> Result<Command<'a>, AllocError>
     ensures { (name : Text) (rules : List Rule) → app.Declares (app.command name rules) start.entry
@@ -244,13 +284,47 @@ fn limit<'a>(alloc: Global) -> Arg<'a>
     taken.value_parser(parser)
 }
 
+// The names of packages, of which there may be none.
+fn names<'a>(alloc: Global) -> Arg<'a>
+    ensures { app.Takes (app.optional (app.repeated (app.word (codes "name")))) result }
+{
+    repeated(word(
+        alloc,
+        "name",
+        "NAME",
+        "The name of a package, or several; all packages where there is none",
+    ))
+    .required(false)
+}
+
 // The command with the options that say which packages there are, and what is preferred among them.
 fn with_options<'a>(alloc: Global, start: Command<'a>) -> Result<Command<'a>, AllocError>
     ensures { (name : Text) → app.Declares (app.command name []) start.entry
         → IfOk result (app.Declares (app.command name app.options)) }
 {
-    let arch = option(alloc, "arch", "ARCH", "The architecture, such as amd64");
     let status = option(alloc, "status", "FILE", "The status file of dpkg");
+    with_files(alloc, start, status)
+}
+
+// The command with these options, of which the status file may be left out.
+fn with_archive_options<'a>(alloc: Global, start: Command<'a>) -> Result<Command<'a>, AllocError>
+    ensures { (name : Text) → app.Declares (app.command name []) start.entry
+        → IfOk result (app.Declares (app.command name app.archive_options)) }
+{
+    let status = optional(alloc, "status", "FILE", ARCHIVE_STATUS_HELP);
+    with_files(alloc, start, status)
+}
+
+// The command with these options, with this one for the status file.
+fn with_files<'a>(
+    alloc: Global,
+    start: Command<'a>,
+    status: Arg<'a>,
+) -> Result<Command<'a>, AllocError>
+    ensures { (name : Text) (rule : Rule) → app.Declares (app.command name []) start.entry → app.Takes rule status.entry
+        → IfOk result (app.Declares (app.command name (app.options_with rule))) }
+{
+    let arch = option(alloc, "arch", "ARCH", "The architecture, such as amd64");
     let sources = option(
         alloc,
         "sources",

@@ -16,9 +16,9 @@ may become the candidate; of a held package, the installed version alone.
 The goals, the form of the sources file and examples: debplan --help
 
 Exit status:
-  0  yes, a plan, a candidate of each name, a plan carried out, or help
-  1  no, a refutation, or a name without a candidate
-  2  undecided: the search gave up, or no order of steps was found
+  0  yes, a plan, a candidate of each name, packages that can all be installed, a plan carried out, or help
+  1  no, a refutation, a name without a candidate, or a package that can't be installed
+  2  undecided: the search gave up, no order of steps was found, or a package that is undecided
   3  an input is malformed, or the journal is another plan's: standard error names the file, the fault and its place
   4  the command line is wrong
   5  a file can't be read, memory is exhausted, or the answer, the journal or the output can't be written";
@@ -58,16 +58,16 @@ Two examples, over the packages of this machine:
 The request, the plan and the refutation are read from standard input where their path is -.
 
 Exit status:
-  0  yes, a plan, a candidate of each name, a plan carried out, or help
-  1  no, a refutation, or a name without a candidate
-  2  undecided: the search gave up, or no order of steps was found
+  0  yes, a plan, a candidate of each name, packages that can all be installed, a plan carried out, or help
+  1  no, a refutation, a name without a candidate, or a package that can't be installed
+  2  undecided: the search gave up, no order of steps was found, or a package that is undecided
   3  an input is malformed, or the journal is another plan's: standard error names the file, the fault and its place
   4  the command line is wrong
   5  a file can't be read, memory is exhausted, or the answer, the journal or the output can't be written";
 
 /// What is said of a command that there is none of, behind what is wrong with it.
 pub const COMMANDS: &str =
-    "Commands: compare, candidate, solve, check-plan, check-refutation, apply, help\n";
+    "Commands: compare, candidate, solve, check-plan, check-refutation, apply, installable, help\n";
 
 /// What the word for the relation of a comparison is, of which `clap` takes any.
 pub(crate) const RELATION_HELP: &str =
@@ -76,6 +76,22 @@ pub(crate) const RELATION_HELP: &str =
 /// What `--keep-back` does.
 pub(crate) const KEEP_BACK_HELP: &str =
     "Leave out goals that can't be fulfilled, one after the other, until there is a plan, and say on standard error which";
+
+/// What the status file is of a command that may do without one.
+pub(crate) const ARCHIVE_STATUS_HELP: &str =
+    "The status file of dpkg; nothing is installed where it is not given";
+
+/// What `--without-essential` does.
+pub(crate) const WITHOUT_ESSENTIAL_HELP: &str =
+    "Ask for each package alone, and not for the essential packages beside it";
+
+/// What `--shard` does.
+pub(crate) const SHARD_HELP: &str =
+    "Ask of the K-th of every N packages alone, in their order, so that N runs ask of all";
+
+/// What `--refutations` does.
+pub(crate) const REFUTATIONS_HELP: &str =
+    "The folder in which a refutation is written for each package that can't be installed";
 
 /// The usage of each command with a request, of which there are two kinds of options.
 pub(crate) const SOLVE_USAGE: &str =

@@ -1,6 +1,6 @@
 // Each option that takes a value joined to the word behind it.
 ghost use Rattle.std.specs.Prelude.{◌≡◌, ◌++◌, ◌∷◌, [], IfOk, List, None, OnOk, false, map, string_bytes};
-ghost use Rattle.command_line.specs.Joined.{Text, answer_options, is_among, joined, joined_behind, needed_options, optional_options, own_options, request_options, takes_value, with_value};
+ghost use Rattle.command_line.specs.Joined.{Text, answer_options, is_among, joined, joined_behind, needed_options, optional_options, own_options, request_options, survey_options, takes_value, with_value};
 ghost use Rattle.command_line.specs.Place.{left, place_behind};
 ghost use Rattle.command_line.specs.declared.join.Place.TheVariants.{Behind, Free, Operands};
 
@@ -162,6 +162,7 @@ fn takes_value(word: &str) -> bool
         || is_of_request(word)
         || is_of_answer(word)
         || is_own(word)
+        || is_of_survey(word)
 }
 
 fn is_needed(word: &str) -> bool
@@ -212,6 +213,16 @@ fn is_own(word: &str) -> bool
         "--limit" => true,
         "--journal" => true,
         "--output" => true,
+        _ => false,
+    }
+}
+
+fn is_of_survey(word: &str) -> bool
+    ensures { result ≡ is_among survey_options word.now }
+{
+    match word {
+        "--shard" => true,
+        "--refutations" => true,
         _ => false,
     }
 }

@@ -11,7 +11,7 @@ mod number;
 mod texts;
 
 pub use arguments::{call_of, mistake};
-pub use call::{Call, Extent, Format, Options, Relation, Request};
+pub use call::{Call, Extent, Format, Options, Relation, Request, Shard, Survey};
 pub use declare::program;
 pub use help::COMMANDS;
 pub use join::joined;

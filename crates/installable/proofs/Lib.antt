@@ -1,4 +1,5 @@
 pub mod AskedLemmas
 pub mod DecidableLemmas
+pub mod NamedLemmas
 pub mod OrderLemmas
 pub mod ShardLemmas

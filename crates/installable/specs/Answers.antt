@@ -1,5 +1,5 @@
 -- What is answered of packages, and which refusal comes first.
-use Rattle.std.specs.Prelude.{◌≡◌, ◌⊎◌, ℕ, Bool, List, [], map, Result, Ok, Err, if◌then◌else◌}
+use Rattle.std.specs.Prelude.{◌≡◌, ◌⊎◌, ℕ, Bool, List, [], map, Some, Result, Ok, Err, ⊤, if◌then◌else◌}
 use Rattle.std.specs.List.{AllZip, Any}
 use Rattle.inputs.specs.Before.{HasIndices, IsRefusalBefore}
 use Rattle.inputs.specs.Meaning.{Denotes}
@@ -16,12 +16,13 @@ use Rattle.rules.specs.Sound.{IsAcceptable}
 use Rattle.rules.specs.Step.{IndexPackage}
 use Rattle.rules.specs.Universe.{Universe}
 use Rattle.solver.specs.Solved.{IsShownBy}
-use Rattle.installable.specs.Asked.{AreAsked}
+use Rattle.installable.specs.Asked.{AreAsked, first_missing, unknown_name}
 use Rattle.installable.specs.Essential.{essential_names}
 use Rattle.installable.specs.RequestText.{lines_beside, request_of}
 use Rattle.installable.specs.declared.answer.Installability.{Installability}
 use Rattle.installable.specs.declared.answer.Installability.TheVariants as answer
 use Rattle.installable.specs.declared.answer.PackageAnswer.{PackageAnswer}
+use Rattle.installable.specs.declared.answer.Surveyed.{Surveyed}
 use Rattle.installable.specs.declared.question.Installable.{Installable}
 
 -- it is the text of lines that are accepted and can be written, and no selection is acceptable
@@ -36,22 +37,28 @@ pub record IsBroken (u : Universe) (text : List ℕ) : Type 0 where
 -- there is none
 abbrev pub IsInstallability : Universe → ℕ → Installability → Type 0
 IsInstallability u limit answer.Installable = (selection : ℕ → Bool) × IsAcceptable u selection
-IsInstallability u limit (answer.Broken text) = IsBroken u text
+IsInstallability u limit (answer.Broken refuted) = IsBroken u refuted.refutation
 IsInstallability u limit (answer.Limit reached) = (reached ≡ limit) × LeavesChoice u
 IsInstallability u limit answer.Unchecked = (lines : List Line) × ¬ IsShownBy u lines
 
--- the answer is true of the universe that the texts denote
-pub record IsAnsweredBy (texts : Texts) (limit : ℕ) (found : Installability) : Type 0 where
+-- beside a refutation stands this request
+abbrev pub HasRequest : List ℕ → Installability → Type 0
+HasRequest request (answer.Broken refuted) = refuted.request ≡ request
+HasRequest request found = ⊤
+
+-- the answer is true of the universe that the texts denote with this request in the place of theirs, which stands beside a refutation
+pub record IsAnsweredBy (texts : Texts) (request : List ℕ) (limit : ℕ) (found : Installability) : Type 0 where
   pub universe : Universe
   pub start : List Record
-  pub denoted : Denotes texts universe start
+  pub denoted : Denotes (asking request texts) universe start
   pub holds : IsInstallability universe limit found
+  pub kept : HasRequest request found
 
--- the answer is that of the package, and is true of the texts with the package's request, beside these lines, in the place of theirs
+-- the answer is that of the package, and is true of its request beside these lines
 pub record IsPackageAnswer (texts : Texts) (limit : ℕ) (beside : List ℕ) (found : IndexPackage) (answer : PackageAnswer) : Type 0 where
   pub name : answer.name ≡ found.pkg.name
   pub version : answer.version ≡ found.pkg.version
-  pub holds : IsAnsweredBy (asking (request_of beside found) texts) limit answer.installability
+  pub holds : IsAnsweredBy texts (request_of beside found) limit answer.installability
 
 -- the names that are asked about
 abbrev pub names_of : Installable → List (List ℕ)
@@ -65,13 +72,15 @@ names_beside without_essential indices = if without_essential then [] else essen
 abbrev pub beside_in : Installable → List Index → List ℕ
 beside_in question indices = lines_beside (names_beside question.without_essential indices) question.asks_all_versions
 
--- each package that is asked about has its answer, in their order
-pub record AreAnswered (texts : Texts) (question : Installable) (answers : List PackageAnswer) : Type 0 where
+-- the lines beside each package have their answer as a request by themselves, and each package that is asked about has its, in their
+-- order
+pub record AreAnswered (texts : Texts) (question : Installable) (surveyed : Surveyed) : Type 0 where
   pub indices : List Index
   pub asked : List IndexPackage
   pub indexed : HasIndices texts indices
   pub asked_are : AreAsked indices (names_of question) question.shard asked
-  pub answers_are : AllZip (IsPackageAnswer texts question.limit (beside_in question indices)) asked answers
+  pub base_is : IsAnsweredBy texts (beside_in question indices) question.limit surveyed.base
+  pub answers_are : AllZip (IsPackageAnswer texts question.limit (beside_in question indices)) asked surveyed.packages
 
 -- the request for the package, beside these lines, is refused so, in the place of that of the texts
 abbrev pub IsRefusedFor : Texts → List ℕ → Refusal → IndexPackage → Type 0
@@ -81,16 +90,26 @@ IsRefusedFor texts beside refused found = IsRefusal (asking (request_of beside f
 abbrev pub IsRefusedAmong : Texts → List ℕ → List IndexPackage → Refusal → Type 0
 IsRefusedAmong texts beside asked refused = IsRefusalBefore texts refused ⊎ Any (IsRefusedFor texts beside refused) asked
 
--- the request for a package that is asked about is refused so
+-- the request of the lines beside each package is refused so by itself, or beside the line of one that is asked about
 pub record IsPackageRefusal (texts : Texts) (question : Installable) (refused : Refusal) : Type 0 where
   pub indices : List Index
   pub asked : List IndexPackage
   pub indexed : HasIndices texts indices
   pub asked_are : AreAsked indices (names_of question) question.shard asked
-  pub refused_so : Any (IsRefusedFor texts (beside_in question indices) refused) asked
+  pub refused_so : IsRefusal (asking (beside_in question indices) texts) refused
+      ⊎ Any (IsRefusedFor texts (beside_in question indices) refused) asked
 
--- what is said of packages: the answer to each that is asked about, or the first refusal of the texts before the request, or that of the
--- request for one of them
-abbrev pub IsSaidOfPackages : Texts → Installable → Result (List PackageAnswer) Refusal → Type 0
-IsSaidOfPackages texts question (Ok answers) = AreAnswered texts question answers
-IsSaidOfPackages texts question (Err refused) = IsRefusalBefore texts refused ⊎ IsPackageRefusal texts question refused
+-- the first of the names that no stanza has is refused
+pub record IsNameRefusal (texts : Texts) (question : Installable) (refused : Refusal) : Type 0 where
+  pub indices : List Index
+  pub at : ℕ
+  pub indexed : HasIndices texts indices
+  pub missing : first_missing indices (names_of question) ≡ Some at
+  pub is : refused ≡ unknown_name at
+
+-- what is said of packages: the answer to each that is asked about, or the first refusal of the texts before the request, or that of a
+-- name that no stanza has, or where there is none that of a request; memory may be wanting
+abbrev pub IsSaidOfPackages : Texts → Installable → Result Surveyed Refusal → Type 0
+IsSaidOfPackages texts question (Ok surveyed) = AreAnswered texts question surveyed
+IsSaidOfPackages texts question (Err refused) =
+    IsRefusalBefore texts refused ⊎ (IsNameRefusal texts question refused ⊎ IsPackageRefusal texts question refused)

@@ -1,13 +1,22 @@
-//! What is answered of a package.
+//! What is answered of packages.
 use rules::{Items, Text};
 
-/// Whether a package can be installed.
+/// The texts of a request that can't be met and of its refutation.
+#[derive(Drop)]
+pub struct Refuted {
+    /// The request.
+    pub request: Items<u8>,
+    /// The refutation, which is accepted.
+    pub refutation: Items<u8>,
+}
+
+/// Whether a request can be met.
 #[derive(Drop)]
 pub enum Installability {
-    /// Its request has an acceptable selection.
+    /// It has an acceptable selection.
     Installable,
-    /// Its request has none: this is the text of a refutation that is accepted.
-    Broken(Items<u8>),
+    /// It has none, by this refutation.
+    Broken(Refuted),
     /// It is undecided: the search met more conflicts than this limit, which was handed in.
     Limit(u32),
     /// It is undecided: a refutation was found that isn't accepted, or can't be written.
@@ -21,6 +30,16 @@ pub struct PackageAnswer {
     pub name: Text,
     /// Its version, as the earliest stanza of the version has it.
     pub version: Text,
-    /// Whether it can be installed.
+    /// Whether its request can be met.
     pub installability: Installability,
+}
+
+/// What is answered of packages.
+#[derive(Drop)]
+pub struct Surveyed {
+    /// Whether the request of what stands beside each package, and of no package, can be met. Where it can't, a package can be
+    /// installed only where its own line admits another version of a name that is asked for.
+    pub base: Installability,
+    /// The packages that are asked about, in the order of names and versions.
+    pub packages: Items<PackageAnswer>,
 }

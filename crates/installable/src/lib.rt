@@ -6,11 +6,12 @@
 mod answer;
 mod asked;
 mod essential;
+mod named;
 mod over;
 mod question;
 mod request_text;
 mod shard;
 
-pub use answer::{Installability, PackageAnswer};
+pub use answer::{Installability, PackageAnswer, Refuted, Surveyed};
 pub use question::Installable;
 pub use shard::{Shard, shards_are_the_whole};

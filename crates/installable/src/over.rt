@@ -1,4 +1,4 @@
-//! Whether one package can be installed, by what is read before its request.
+//! Whether a request can be met, and that of one package, by what is read before it.
 ghost use Rattle.std.specs.Prelude.{◌≡◌, ◌≢◌, IfErr, IfOk, ℕ};
 ghost use Rattle.inputs.specs.ReadAs.{AreReadAs, IsListed, IsOver, asking};
 ghost use Rattle.inputs.specs.Refused.{IsRefusal};
@@ -6,10 +6,10 @@ ghost use Rattle.inputs.specs.Texts.{Texts};
 ghost use Rattle.inputs.specs.declared.refusal.Fault.TheVariants as fault;
 ghost use Rattle.rules.specs.Universe.{Universe as UniverseOf};
 ghost use Rattle.solver.specs.Decided.{IsDecided};
-ghost use Rattle.installable.specs.Answers.{IsInstallability, IsPackageAnswer};
+ghost use Rattle.installable.specs.Answers.{HasRequest, IsAnsweredBy, IsInstallability, IsPackageAnswer};
 ghost use Rattle.installable.specs.RequestText.{request_of};
 
-use crate::answer::{Installability, PackageAnswer};
+use crate::answer::{Installability, PackageAnswer, Refuted};
 use crate::asked::Stanza;
 use crate::request_text::request_of;
 use inputs::{Before, Refusal, requested_in};
@@ -20,34 +20,59 @@ use std::alloc::{AllocError, Global};
 use universe::Universe;
 use universe_build::Listing;
 
-// What is answered where this is decided.
-fn told(alloc: Global, decided: Decided) -> Result<Installability, AllocError>
-    ensures { (u : UniverseOf) (limit : ℕ) → IsDecided u limit decided → IfOk result (IsInstallability u limit) }
+// What is answered to the request with this text where it is decided so.
+fn told(alloc: Global, request: &[u8], decided: Decided) -> Result<Installability, AllocError>
+    ensures said { (u : UniverseOf) (limit : ℕ) → IsDecided u limit decided → IfOk result (IsInstallability u limit) }
+    ensures kept { IfOk result (HasRequest request.now) }
 {
     match decided {
         Decided::Selection(_) => Ok(Installability::Installable),
         Decided::Refuted(refutation) => {
             let text = write_refutation(alloc, &refutation)?;
-            Ok(Installability::Broken(Items::new(text)))
+            Ok(Installability::Broken(Refuted {
+                request: Items::new(request.to_vec(alloc)?),
+                refutation: Items::new(text),
+            }))
         }
         Decided::Limit(limit) => Ok(Installability::Limit(limit)),
         Decided::Unchecked => Ok(Installability::Unchecked),
     }
 }
 
-// Whether the request of the universe over what is read before it can be met.
+// Whether the request of the universe over what is read before it can be met, where this is its text.
 fn installability_over(
     alloc: Global,
     before: &Before<'_, '_, '_, '_, '_, '_, '_, '_>,
     universe: &Universe<'_, '_>,
+    request: &[u8],
     limit: u32,
 ) -> Result<Installability, AllocError>
     requires { IsOver before.now universe.now }
-    ensures { IfOk result (IsInstallability universe.now limit) }
+    ensures said { IfOk result (IsInstallability universe.now limit) }
+    ensures kept { IfOk result (HasRequest request.now) }
 {
     let _before = before;
     let decided = decide(alloc, universe, limit)?;
-    told(alloc, decided)
+    told(alloc, request, decided)
+}
+
+/// Whether the request with this text can be met, over what is read before it. It costs what `inputs::requested_in` and `solver::decide`
+/// cost.
+pub(crate) fn installability_of<'i, 'a>(
+    alloc: Global,
+    before: &Before<'_, '_, '_, '_, '_, '_, 'i, 'a>,
+    listing: &Listing<'_, 'i, 'a>,
+    request: &[u8],
+    limit: u32,
+) -> Result<Installability, Refusal>
+    requires { IsListed before.now listing.now }
+    ensures said { (texts : Texts) → AreReadAs texts before.now → IfOk result (IsAnsweredBy texts request.now limit) }
+    ensures refused { (texts : Texts) → AreReadAs texts before.now → IfErr result (IsRefusal (asking request.now texts)) }
+    ensures known { IfErr result (λ refused. refused.fault ≢ fault.Read) }
+{
+    let requested = requested_in(alloc, before, Some(listing), request)?;
+    let installability = installability_over(alloc, before, &requested.universe, request, limit)?;
+    Ok(installability)
 }
 
 // What is answered of the package where this is so.
@@ -67,8 +92,8 @@ fn answer_of(
     })
 }
 
-/// Whether the package can be installed, by its request over what is read before, beside these lines. It costs what
-/// `inputs::requested_in` and `solver::decide` cost.
+/// Whether the package can be installed, by its request over what is read before, beside these lines. It costs what `installability_of`
+/// does.
 pub(crate) fn answer_to<'i, 'a>(
     alloc: Global,
     before: &Before<'_, '_, '_, '_, '_, '_, 'i, 'a>,
@@ -84,8 +109,7 @@ pub(crate) fn answer_to<'i, 'a>(
     ensures known { IfErr result (λ refused. refused.fault ≢ fault.Read) }
 {
     let text = request_of(alloc, stanza, beside)?;
-    let requested = requested_in(alloc, before, Some(listing), text.as_slice())?;
-    let installability = installability_over(alloc, before, &requested.universe, limit)?;
+    let installability = installability_of(alloc, before, listing, text.as_slice(), limit)?;
     let answer = answer_of(alloc, stanza, installability)?;
     Ok(answer)
 }

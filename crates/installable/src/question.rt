@@ -8,10 +8,11 @@ ghost use Rattle.inputs.specs.Texts.{Texts};
 ghost use Rattle.inputs.specs.declared.refusal.Fault.TheVariants as fault;
 ghost use Rattle.installable.specs.Answers.{IsPackageAnswer, IsRefusedAmong, IsSaidOfPackages, beside_in, names_beside};
 
-use crate::answer::PackageAnswer;
+use crate::answer::{PackageAnswer, Surveyed};
 use crate::asked::{Stanza, stanzas_asked};
 use crate::essential::essential_names;
-use crate::over::answer_to;
+use crate::named::check_names;
+use crate::over::{answer_to, installability_of};
 use crate::request_text::lines_beside;
 use crate::shard::{Shard, part_of};
 use index::Index;
@@ -22,9 +23,10 @@ use universe_build::Listing;
 
 /// Asks of each package of the indices whether it can be installed, in the order of names and versions, of those of one version the
 /// earliest stanza alone: whether the request `install NAME (= VERSION)`, beside an installation of every name that a stanza marks as
-/// essential, has an acceptable selection. A package that hasn't is answered with a refutation. The request of the texts isn't read: the
-/// first refusal is one in the order status, sources, indices, preferences, and then that of the request for a package. That packages
-/// conflict at the start changes no answer. What is admitted is listed once; each package costs what `inputs::requested_in` and
+/// essential, has an acceptable selection. A package that hasn't is answered with a refutation. The same is asked of what stands beside each
+/// package by itself. The request of the texts isn't read: the first refusal is one in the order status, sources, indices, preferences,
+/// then E17 of a name that no stanza has, with its number among the names, and then that of the request by itself or for a package. That
+/// packages conflict at the start changes no answer. What is admitted is listed once; each package costs what `inputs::requested_in` and
 /// `solver::decide` cost.
 #[derive(Clone, Copy)]
 pub struct Installable<'n> {
@@ -91,7 +93,7 @@ impl<'n> Installable<'n> {
 }
 
 impl<'n> Question for Installable<'n> {
-    type Answer = Items<PackageAnswer>;
+    type Answer = Surveyed;
 
     type Beside = ();
 
@@ -105,11 +107,13 @@ impl<'n> Question for Installable<'n> {
         _shelf: &mut S,
         before: &Before<'_, '_, '_, '_, '_, '_, '_, '_>,
         _beside: &mut (),
-    ) -> Result<Items<PackageAnswer>, Refusal> {
+    ) -> Result<Surveyed, Refusal> {
+        check_names(before.indices, self.names)?;
         let beside = self.beside(alloc, before.indices)?;
         let ordered = stanzas_asked(alloc, before.indices, self.names)?;
         let asked = part_of(alloc, ordered.as_slice(), self.shard)?;
         let listing = listed_in(alloc, before, self.asks_all_versions)?;
+        let base = installability_of(alloc, before, &listing, beside.as_slice(), self.limit)?;
         let answers = answers_to(
             alloc,
             before,
@@ -118,7 +122,10 @@ impl<'n> Question for Installable<'n> {
             beside.as_slice(),
             self.limit,
         )?;
-        Ok(Items::new(answers))
+        Ok(Surveyed {
+            base,
+            packages: Items::new(answers),
+        })
     }
 
     ghost refuses = { λ _ _ _ _ _ is. inl is };

@@ -1,3 +1,4 @@
 pub mod Answer
 pub mod Exit
 pub mod Outcome
+pub mod Survey

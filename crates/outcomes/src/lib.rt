@@ -1,5 +1,5 @@
 //! What is printed of each answer, and with which status the program ends. It stands on the crates of the answers (`cli_engine`,
-//! `apply`) and on `documents` for answers as JSON. The main type is `Outcome`, the main call `print`; begin with
+//! `installable`, `apply`) and on `documents` for answers as JSON. The main type is `Outcome`, the main call `print`; begin with
 //! `specs/Outcome.antt`.
 #![tactic(auto)]
 
@@ -7,6 +7,7 @@ mod answer;
 mod exit;
 mod outcome;
 mod printing;
+mod survey;
 
 pub use answer::{
     applied_line, candidate_line, candidate_lines, comparison_line, refutation_line, solved_text,
@@ -23,3 +24,6 @@ pub use outcome::{
     outcome_of_unwritten, outcome_of_unwritten_request, outcome_of_usage, outcome_of_verdict,
 };
 pub use printing::{print, refuse_for_memory};
+pub use survey::{
+    exit_of_survey, outcome_of_survey, outcome_of_surveyed, outcome_of_unwritten_file, survey_text,
+};

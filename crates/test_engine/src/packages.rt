@@ -1,6 +1,6 @@
 //! Which packages of a small archive can be installed. What is wanted is worked by hand from Policy 7.2, 7.4 and 3.8.
 use inputs::{Inputs, Settings, ask_bytes};
-use installable::{Installability, Installable, PackageAnswer, Shard};
+use installable::{Installability, Installable, PackageAnswer, Shard, Surveyed};
 use std::alloc::{AllocError, Global};
 use std::test::Fail;
 
@@ -25,16 +25,23 @@ fn word_of(installability: &Installability) -> &'static str {
     }
 }
 
-// A line for each package: its name, its version and what is answered.
-fn lines_of(alloc: Global, answers: &[PackageAnswer]) -> Result<String, AllocError> {
+// Writes the line of a package: its name, its version and what is answered.
+fn push_answer(text: &mut Vec<u8>, answer: &PackageAnswer) -> Result<(), AllocError> {
+    text.extend_from_slice(answer.name.as_bytes())?;
+    text.push(b' ')?;
+    text.extend_from_slice(answer.version.as_bytes())?;
+    text.push(b' ')?;
+    text.extend_from_slice(word_of(&answer.installability).as_bytes())?;
+    text.push(b'\n')
+}
+
+// What is answered by itself of what stands beside each package, and a line for each package.
+fn lines_of(alloc: Global, surveyed: &Surveyed) -> Result<String, AllocError> {
     let mut text = Vec::new(alloc);
-    for answer in answers {
-        text.extend_from_slice(answer.name.as_bytes())?;
-        text.push(b' ')?;
-        text.extend_from_slice(answer.version.as_bytes())?;
-        text.push(b' ')?;
-        text.extend_from_slice(word_of(&answer.installability).as_bytes())?;
-        text.push(b'\n')?;
+    text.extend_from_slice(word_of(&surveyed.base).as_bytes())?;
+    text.push(b'\n')?;
+    for answer in surveyed.packages.as_slice() {
+        push_answer(&mut text, answer)?;
     }
     match String::from_utf8(text) {
         Ok(text) => Ok(text),
@@ -69,7 +76,7 @@ fn shown(
         limit: 1000,
     };
     match ask_bytes(alloc, &inputs, None, &settings, &question, &mut ()) {
-        Ok(answers) => lines_of(alloc, answers.as_slice()),
+        Ok(surveyed) => lines_of(alloc, &surveyed),
         Err(refused) => format!(in alloc; "{refused}"),
     }
 }
@@ -79,10 +86,10 @@ fn a_package_that_conflicts_with_an_essential_one_is_broken(rt: HostRuntime) -> 
     let lines = shown(rt.alloc(), &[], false, WHOLE)?;
     assert_eq!(rt;
         lines.as_str(),
-        "base 1.0 installable\nclash 1.0 broken\nshell 1.0 installable\ntool 2.0 installable\n"
+        "installable\nbase 1.0 installable\nclash 1.0 broken\nshell 1.0 installable\ntool 2.0 installable\n"
     );
     let alone = shown(rt.alloc(), &["clash"], true, WHOLE)?;
-    assert_eq!(rt; alone.as_str(), "clash 1.0 installable\n");
+    assert_eq!(rt; alone.as_str(), "installable\nclash 1.0 installable\n");
     Ok(())
 }
 
@@ -91,12 +98,20 @@ fn packages_of_some_names_and_of_a_shard_are_asked_about_in_their_order(
     rt: HostRuntime,
 ) -> Result<(), Fail> {
     let named = shown(rt.alloc(), &["tool", "clash"], false, WHOLE)?;
-    assert_eq!(rt; named.as_str(), "clash 1.0 broken\ntool 2.0 installable\n");
+    assert_eq!(rt;
+        named.as_str(),
+        "installable\nclash 1.0 broken\ntool 2.0 installable\n"
+    );
     let second = Shard {
         before: 1,
         between: 1,
     };
     let part = shown(rt.alloc(), &[], false, second)?;
-    assert_eq!(rt; part.as_str(), "clash 1.0 broken\ntool 2.0 installable\n");
+    assert_eq!(rt;
+        part.as_str(),
+        "installable\nclash 1.0 broken\ntool 2.0 installable\n"
+    );
+    let unknown = shown(rt.alloc(), &["tool", "gone"], false, WHOLE)?;
+    assert_eq!(rt; unknown.as_str(), "request: E17 UnknownName 2");
     Ok(())
 }

@@ -1,13 +1,14 @@
 -- What is printed and left of each call is what is said in answer to it.
-use Rattle.std.proofs.Common.{[], IfOk, List, ap, map, refl, rules, subst, ◌∙◌}
+use Rattle.std.proofs.Common.{[], Bor, IfOk, List, ap, map, option_map, refl, rules, subst, ◌∙◌}
 use Rattle.cli.proofs.CallLemmas.{exchanged}
 use Rattle.cli.proofs.LeavingLemmas.{none_left, nothing_left}
 use Rattle.cli.proofs.program.outcome_of_call.Goals as goal
 use Rattle.cli.specs.Calls.{IsOutcomeOfLines, IsOutcomeOfNames, IsOutcomeOfPlanJudged, texts_at}
 use Rattle.cli.specs.Applied.{IsOutcomeOfPlanTaken}
 use Rattle.cli.specs.Leaving.{IsLeftOfAsked, IsLeftOfExtent, IsLeftOfPlanTaken, IsLeftWith}
+use Rattle.cli.specs.Packages.{IsLeftOfPackages, IsOutcomeOfPackages}
 use Rattle.cli.specs.Places.{paths_for, paths_read, texts_for}
-use Rattle.command_line.specs.Asked.{asked_by, extent_by, given_by, goals, request_by, texts_by}
+use Rattle.command_line.specs.Asked.{asked_by, extent_by, given_by, goals, request_by, survey_by, texts_by}
 use Rattle.command_line.specs.Joined.{Text}
 
 pub returns-in-Compare-clause-printed : goal.returns-in-Compare-clause-printed
@@ -34,6 +35,13 @@ returns-in-CheckRefutation-clause-printed g c at known =
     rw c.in-CheckRefutation.is (exchanged (λ texts lines written. IfOk c.outcome_of_lines.result (IsOutcomeOfLines texts (at lines) written)) _ _ _ _ _ _
     (made.ensures.texts at (request_by c.in-CheckRefutation.request) (c.place_of-place-in-CheckRefutation.ensures.text at)) made.ensures.judged made.ensures.format
     (c.outcome_of_lines.ensures.printed at known))
+
+pub returns-in-Installable-clause-printed : goal.returns-in-Installable-clause-printed
+returns-in-Installable-clause-printed g c at known =
+    let made = c.arguments_by-arguments-in-Installable in
+    let folder = option_map (λ (path : Bor Text). path.now) c.in-Installable.refutations in
+    rw c.in-Installable.is (exchanged (λ texts word written. IfOk c.outcome_of_packages.result (IsOutcomeOfPackages texts (survey_by c.in-Installable.survey) folder))
+    _ _ [] [] _ _ (made.ensures.texts at (goals []) refl) refl made.ensures.format (c.outcome_of_packages.ensures.printed at known))
 
 pub returns-clause-printed : goal.returns-clause-printed
 returns-clause-printed g c at known =
@@ -75,6 +83,16 @@ pub returns-in-CheckRefutation-clause-left : goal.returns-in-CheckRefutation-cla
 returns-in-CheckRefutation-clause-left g c at was f k =
     nothing_left at was _ _ g.H.Journal.Disk.honest g.H.Journal.Disk.facts (asked_by c.args.call.now) (rw c.in-CheckRefutation.is tt) c.outcome_of_lines.result
     (returns-in-CheckRefutation-clause-printed g c at f) (c.outcome_of_lines.ensures.same ∙ f, c.outcome_of_lines.ensures.keeps ∙ k)
+
+pub returns-in-Installable-clause-left : goal.returns-in-Installable-clause-left
+returns-in-Installable-clause-left g c at was f k =
+    let made = c.arguments_by-arguments-in-Installable in
+    let folder = option_map (λ (path : Bor Text). path.now) c.in-Installable.refutations in
+    let r = c.outcome_of_packages.result in
+    let files = g.H.Host.files c.outcome_of_packages.new.host in
+    let kept = g.H.Host.kept c.outcome_of_packages.new.host in
+    rw c.in-Installable.is (exchanged (λ texts word written. IsLeftWith (IsLeftOfPackages texts (survey_by c.in-Installable.survey) folder at was) at was r files kept)
+    _ _ [] [] _ _ (made.ensures.texts at (goals []) refl) refl made.ensures.format (c.outcome_of_packages.ensures.left at was f k))
 
 pub returns-clause-left : goal.returns-clause-left
 returns-clause-left g c at was f k =

@@ -5,5 +5,5 @@ use Rattle.installable.proofs.over.installability_over.Goals as goal
 pub decide-requires : goal.decide-requires
 decide-requires c = over_is_decidable c.args.before.now c.args.universe.now c.requires
 
-pub returns : goal.returns
-returns c = c.told.ensures c.args.universe.now c.args.limit c.in_ok-decided.ensures
+pub returns-clause-said : goal.returns-clause-said
+returns-clause-said c = c.told.ensures.said c.args.universe.now c.args.limit c.in_ok-decided.ensures

@@ -1,0 +1,8 @@
+-- The files of the packages so far.
+use Rattle.std.proofs.Common.{◌≡◌, ◌++◌, take}
+use Rattle.std.specs.List.{flat_map}
+use Rattle.cli.specs.Packages.{files_of_package}
+use Rattle.cli.proofs.refutations.push_packages.Given as goal
+
+abbrev pub invariant-loop-found : goal.invariant-loop-found
+invariant-loop-found l = l.files.items ≡ l.fn.files.items ++ flat_map (files_of_package l.folder) (take l.found-index l.answers)

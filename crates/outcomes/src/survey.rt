@@ -1,0 +1,198 @@
+//! What is printed of packages that are asked about, and how the program ends then.
+ghost use Rattle.std.specs.Prelude.{◌≡◌, ◌++◌, IfOk, OnOk, codes, length, string_bytes};
+ghost use Rattle.std.specs.List.{flat_map, list_any};
+ghost use Rattle.outcomes.specs.Survey as Spec;
+ghost use Rattle.outcomes.specs.declared.outcome.Outcome.TheVariants as printed;
+
+use crate::exit::Exit;
+use crate::outcome::{Outcome, outcome_of_refusal};
+use inputs::Refusal;
+use installable::{Installability, PackageAnswer, Surveyed};
+use rules::Items;
+use std::alloc::{AllocError, Global};
+
+// Whether the request has no acceptable selection.
+fn is_broken(found: &Installability) -> bool
+    ensures { result ≡ Spec.is_broken found.now }
+{
+    matches!(found, Installability::Broken(_))
+}
+
+// Whether it isn't known that the request has one.
+fn is_undecided(found: &Installability) -> bool
+    ensures { result ≡ Spec.is_undecided found.now }
+{
+    matches!(found, Installability::Limit(_) | Installability::Unchecked)
+}
+
+// Writes the word, the subject and the end of a line.
+fn push_line(text: &mut Vec<u8>, word: &[u8], subject: &[u8]) -> Result<(), AllocError>
+    ensures { OnOk result (text.new.items ≡ text.old.items ++ (word.now ++ (subject.now ++ codes "\n"))) }
+{
+    text.extend_from_slice(word)?;
+    text.extend_from_slice(subject)?;
+    text.extend_from_slice(b"\n")
+}
+
+// Writes the line of a request of this subject, if there is one.
+fn push_found(text: &mut Vec<u8>, subject: &[u8], found: &Installability) -> Result<(), AllocError>
+    ensures { OnOk result (text.new.items ≡ text.old.items ++ Spec.line_of subject.now found.now) }
+{
+    match found {
+        Installability::Installable => Ok(()),
+        Installability::Broken(_) => push_line(text, b"broken ", subject),
+        Installability::Limit(_) | Installability::Unchecked => {
+            push_line(text, b"undecided ", subject)
+        }
+    }
+}
+
+// The package, as it is named in its line.
+fn named(alloc: Global, found: &PackageAnswer) -> Result<Vec<u8>, AllocError>
+    ensures { IfOk result (λ text. text.items ≡ Spec.named found.now) }
+{
+    let mut text = found.name.as_bytes().to_vec(alloc)?;
+    text.extend_from_slice(b" ")?;
+    text.extend_from_slice(found.version.as_bytes())?;
+    Ok(text)
+}
+
+// Writes the line of a package, if there is one.
+fn push_package(alloc: Global, text: &mut Vec<u8>, found: &PackageAnswer) -> Result<(), AllocError>
+    ensures { OnOk result (text.new.items ≡ text.old.items ++ Spec.package_line found.now) }
+{
+    let subject = named(alloc, found)?;
+    push_found(text, subject.as_slice(), &found.installability)
+}
+
+// Writes the lines of packages.
+fn push_packages(
+    alloc: Global,
+    text: &mut Vec<u8>,
+    answers: &[PackageAnswer],
+) -> Result<(), AllocError>
+    ensures { OnOk result (text.new.items ≡ text.old.items ++ flat_map Spec.package_line answers.now) }
+{
+    for found in answers {
+        push_package(alloc, text, found)?;
+    }
+    Ok(())
+}
+
+// How many packages are broken.
+fn count_broken(answers: &[PackageAnswer]) -> usize
+    ensures { result ≡ length (Spec.broken_of answers.now) }
+{
+    answers
+        .iter()
+        .filter(|found| is_broken(&found.installability))
+        .count()
+}
+
+// How many packages are undecided.
+fn count_undecided(answers: &[PackageAnswer]) -> usize
+    ensures { result ≡ length (Spec.undecided_of answers.now) }
+{
+    answers
+        .iter()
+        .filter(|found| is_undecided(&found.installability))
+        .count()
+}
+
+// How many packages are undecided, in words, where some are.
+fn undecided_words(alloc: Global, number: usize) -> Result<String, AllocError>
+    ensures { IfOk result (λ words. string_bytes words ≡ Spec.undecided_words number) }
+{
+    match number {
+        0 => Ok(String::new(alloc)),
+        _ => format!(in alloc; ", undecided {number}"),
+    }
+}
+
+// The last line.
+fn counts_line(alloc: Global, answers: &[PackageAnswer]) -> Result<Vec<u8>, AllocError>
+    ensures { IfOk result (λ line. line.items ≡ Spec.counts_line answers.now) }
+{
+    let asked = answers.len();
+    let broken = count_broken(answers);
+    let undecided = undecided_words(alloc, count_undecided(answers))?;
+    let undecided = undecided.as_str();
+    Ok(format!(in alloc; "checked {asked}, broken {broken}{undecided}\n")?.into_bytes())
+}
+
+/// The text that is printed of the answers about packages: `broken base` or `undecided base` where what stands beside each package can't
+/// be had by itself or isn't decided; `broken NAME VERSION` or `undecided NAME VERSION` for each package of which that is so, in their
+/// order; and `checked NUMBER, broken NUMBER`, with `, undecided NUMBER` behind it where some are. Memory alone can fail.
+pub fn survey_text(alloc: Global, surveyed: &Surveyed) -> Result<Vec<u8>, AllocError>
+    ensures { IfOk result (λ text. text.items ≡ Spec.survey_text surveyed.now) }
+{
+    let packages = surveyed.packages.as_slice();
+    let mut text = Vec::new(alloc);
+    push_found(&mut text, b"base", &surveyed.base)?;
+    push_packages(alloc, &mut text, packages)?;
+    let counts = counts_line(alloc, packages)?;
+    text.extend_from_slice(counts.as_slice())?;
+    Ok(text)
+}
+
+// Whether one of the packages is broken.
+fn has_broken(answers: &[PackageAnswer]) -> bool
+    ensures { result ≡ list_any (λ found. Spec.is_broken found.installability) answers.now }
+{
+    answers.iter().any(|found| is_broken(&found.installability))
+}
+
+// Whether one of the packages is undecided.
+fn has_undecided(answers: &[PackageAnswer]) -> bool
+    ensures { result ≡ list_any (λ found. Spec.is_undecided found.installability) answers.now }
+{
+    answers
+        .iter()
+        .any(|found| is_undecided(&found.installability))
+}
+
+/// How the program ends with these answers about packages: undecided where one is, and else no where one is broken.
+pub fn exit_of_survey(surveyed: &Surveyed) -> Exit
+    ensures { result ≡ Spec.exit_of_survey surveyed.now }
+{
+    let packages = surveyed.packages.as_slice();
+    if is_undecided(&surveyed.base) || has_undecided(packages) {
+        Exit::Undecided
+    } else if is_broken(&surveyed.base) || has_broken(packages) {
+        Exit::No
+    } else {
+        Exit::Success
+    }
+}
+
+/// What is printed of the answers about packages: their lines on standard output, or that of a refusal on standard error. Memory alone
+/// can fail.
+pub fn outcome_of_survey(
+    alloc: Global,
+    answer: &Result<Surveyed, Refusal>,
+) -> Result<Outcome, AllocError>
+    ensures { IfOk result (λ outcome. Spec.IsOutcomeOfSurvey answer.now outcome) }
+{
+    match answer {
+        Ok(surveyed) => outcome_of_surveyed(alloc, surveyed),
+        Err(refusal) => outcome_of_refusal(alloc, refusal),
+    }
+}
+
+/// What is printed of what is answered about packages: their lines on standard output. Memory alone can fail.
+pub fn outcome_of_surveyed(alloc: Global, surveyed: &Surveyed) -> Result<Outcome, AllocError>
+    ensures { IfOk result (λ outcome. outcome ≡ printed.Answer (Spec.survey_text surveyed.now) (Spec.exit_of_survey surveyed.now)) }
+{
+    let text = Items::new(survey_text(alloc, surveyed)?);
+    Ok(Outcome::Answer(text, exit_of_survey(surveyed)))
+}
+
+/// What is printed of the file at this path where it couldn't be written. Memory alone can fail.
+pub fn outcome_of_unwritten_file(alloc: Global, path: &[u8]) -> Result<Outcome, AllocError>
+    ensures { IfOk result (Spec.IsFileUnwritten path.now) }
+{
+    let mut line = b"debplan: ".to_vec(alloc)?;
+    line.extend_from_slice(path)?;
+    line.extend_from_slice(b": E26 Write\n")?;
+    Ok(Outcome::Complaint(Items::new(line), Exit::Device))
+}

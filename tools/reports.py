@@ -1,0 +1,139 @@
+"""Refutations of broken packages: judged, explained, and put into folders that say over which indices they are. The options with which
+they are judged are those of an `Asking` of tools/archive-check."""
+import concurrent.futures
+import pathlib
+from collections import namedtuple
+
+import common
+import surveys
+from common import Failure
+
+# The files of the folder of a package: the first two are called so too behind the name and the version, as the program writes them.
+FILES = ("request", "refutation", "sentences", "indices")
+REFUSED = (3, 4, 5)
+# What check-refutation says of a refutation, and its sentences.
+Verdict = namedtuple("Verdict", "said sentences")
+# An index: the SHA256 of its file, and its release keys and its path as the sources file has them.
+Index = namedtuple("Index", "sum suite codename path")
+
+
+def each(count, function, items):
+    """Yields what a function answers of each item, of which so many are asked at once."""
+    pool = concurrent.futures.ThreadPoolExecutor(count)
+    try:
+        yield from pool.map(function, items)
+    finally:
+        pool.shutdown(cancel_futures=True)
+
+
+def read(path):
+    with open(path, encoding="utf-8", errors="surrogateescape", newline="") as file:
+        return file.read()
+
+
+# Judging
+
+
+def judged(asking, request, refutation):
+    """What check-refutation says of a refutation. What it refuses is refused."""
+    words = [common.program(), "check-refutation", *asking.judging(), "--request", str(request), "--explain", "--", str(refutation)]
+    run = common.run_of(words)
+    if run.returncode not in (0, 1):
+        raise Failure(f"{refutation}: {common.last_words(run)}", run.returncode if run.returncode in REFUSED else REFUSED[-1])
+    return Verdict(run.stdout.strip(), common.UNMATCHED.sub("", run.stderr).splitlines())
+
+
+def judged_of(asking, folder, line):
+    """The same of the refutation of a package, in a folder that `debplan installable` wrote it into."""
+    request, refutation = (pathlib.Path(folder, f"{surveys.file_name(line)}.{kind}") for kind in FILES[:2])
+    for path in (request, refutation):
+        if not path.is_file():
+            raise Failure(f"{path}: is missing, so nothing says why {surveys.written(line)} is broken")
+    return judged(asking, request, refutation)
+
+
+def reasons_of(asking, folder, line):
+    """Why a package is broken, in sentences; or why nothing says so."""
+    try:
+        verdict = judged_of(asking, folder, line)
+    except Failure as failure:
+        if failure.status in REFUSED:
+            raise
+        return [str(failure)]
+    return verdict.sentences if verdict.said == "yes" else [f"its refutation isn't accepted with these OPTIONS: {verdict.said}"]
+
+
+# The indices
+
+
+def indices_of(sources):
+    """The indices that a sources file names."""
+    found = []
+    for number, keys in enumerate(common.stanzas_in(sources), 1):
+        if "File" not in keys:
+            raise Failure(f"{sources}: stanza {number} has no File")
+        names = [" ".join(keys.get(name, "").split()) or "-" for name in ("Suite", "Codename")]
+        found.append(Index(common.sha256_of(keys["File"]), *names, keys["File"]))
+    return found
+
+
+def indices_in(path):
+    """The indices of a folder of a report."""
+    found = [line.split("\t", 3) for line in read(path).splitlines()]
+    for number, values in enumerate(found, 1):
+        if len(values) != len(Index._fields):
+            raise Failure(f"{path}: line {number} doesn't have the SHA256, the Suite, the Codename and the File of an index")
+    return [Index(*values) for values in found]
+
+
+def written(index):
+    """An index of a report, by its names."""
+    return " ".join(name for name in index[1:] if name != "-")
+
+
+# A report
+
+
+def write_report(asking, survey, folder, report, count):
+    """Writes a folder for each broken package, from the folder of all refutations. What is told stays told where that can't be done."""
+    broken = [line for line in survey.told() if line.state == "broken"]
+    try:
+        indices = "".join("\t".join(index) + "\n" for index in indices_of(asking.needed("--sources")))
+        report.mkdir(parents=True, exist_ok=True)
+        for line, verdict in zip(broken, each(count, lambda line: judged_of(asking, folder, line), broken)):
+            write_folder(report / surveys.file_name(line), pathlib.Path(folder, surveys.file_name(line)), verdict, indices)
+    except OSError as error:
+        raise Failure(f"{report}: the report isn't whole: {error.filename}: {error.strerror}", REFUSED[-1]) from None
+    except Failure as failure:
+        raise Failure(f"{report}: the report isn't whole: {failure}", REFUSED[-1]) from None
+
+
+def write_folder(folder, files, verdict, indices):
+    """Writes the folder of a package from the files of its request and its refutation."""
+    if verdict.said != "yes":
+        raise Failure(f"{files}.refutation: {verdict.said}")
+    folder.mkdir()
+    texts = [read(f"{files}.{kind}") for kind in FILES[:2]]
+    for kind, text in zip(FILES, [*texts, "".join(f"{it}\n" for it in verdict.sentences), indices]):
+        common.write_text(folder / kind, text)
+
+
+def folders_in(folder):
+    """The folders of packages that a folder of a report is: itself, or those in it; none where nothing was broken."""
+    found = [folder] if (folder / FILES[0]).is_file() else sorted(it.parent for it in folder.glob(f"*/{FILES[0]}"))
+    if not found and any(folder.iterdir()):
+        raise Failure(f"{folder}: has no {FILES[0]}, and no folder that has one")
+    return found
+
+
+def verified(asking, folder, indices):
+    """What is said of the refutation of a package: which indices are others than those that it is about, or the judge's word."""
+    known = indices_in(folder / FILES[3])
+    if len(known) != len(indices):
+        return [f"is about {len(known)} indices, and {asking.value('--sources')} names {len(indices)}"]
+    others = [f"index {number}, {new.path}, is another one than {written(old)}: its SHA256 is {new.sum} and not {old.sum}"
+              for number, (old, new) in enumerate(zip(known, indices), 1) if old.sum != new.sum]
+    if others:
+        return others
+    said = judged(asking, folder / FILES[0], folder / FILES[1]).said
+    return [said] if said == "yes" else [f"{said}, and the indices are those of the report: another input or option may be another one"]
