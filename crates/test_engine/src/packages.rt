@@ -32,7 +32,8 @@ fn push_answer(text: &mut Vec<u8>, answer: &PackageAnswer) -> Result<(), AllocEr
     text.extend_from_slice(answer.version.as_bytes())?;
     text.push(b' ')?;
     text.extend_from_slice(word_of(&answer.installability).as_bytes())?;
-    text.push(b'\n')
+    text.push(b'\n')?;
+    Ok(())
 }
 
 // What is answered by itself of what stands beside each package, and a line for each package.
