@@ -18,19 +18,36 @@ PROGRAM = """#!{python} -S
 import sys
 sys.dont_write_bytecode = True
 sys.path.insert(0, {tools!r})
-import common, exchange, surveys
+import common, exchange, json, surveys
 words = sys.argv[2:]
 def value(name, default=None):
     return words[words.index(name) + 1] if name in words else default
+def document(answer, **members):
+    print(json.dumps({{"answer": answer, **members}}))
+    sys.exit(answer in ("no", "refuted"))
+def chosen(clauses, taken):
+    for it in stanzas if clauses else ():
+        if any(common.matches(it, atom) for atom in clauses[0]):
+            more = () if it in taken else common.clauses_in(it, "Depends")
+            found = chosen([*more, *clauses[1:]], [*taken, it])
+            if found:
+                return found
+    return None if clauses else taken
 names = words[words.index("--") + 1:] if "--" in words else []
+stanzas = [it.fields for keys in common.stanzas_in(value("--sources")) for it in exchange.stanzas_in(keys["File"])]
 if sys.argv[1] == "check-refutation":
     line = open(names[0]).read()
-    fields = [it.fields for keys in common.stanzas_in(value("--sources")) for it in exchange.stanzas_in(keys["File"])]
-    is_good = any(line == f"{{it['Package']}} {{it['Version']}} needs {{it.get('Depends')}}\\n" for it in fields)
-    sys.stderr.write(line if is_good else "")
-    print("yes" if is_good else "no line 1")
-    sys.exit(not is_good)
-stanzas = [it.fields for keys in common.stanzas_in(value("--sources")) for it in exchange.stanzas_in(keys["File"])]
+    for it in stanzas:
+        if line == f"{{it['Package']}} {{it['Version']}} needs {{it.get('Depends')}}\\n":
+            pair, text = {{"name": it["Package"], "version": it["Version"]}}, it.get("Depends")
+            document("yes", text="yes\\n", reasons=[f"{{it['Package']}} {{it['Version']}} depends on {{text}}, but it isn't there."],
+                     lines=[{{"premise": "depends", "pair": pair, "text": text}}])
+    document("no", text="no line 1\\n", reasons=[], lines=[])
+if sys.argv[1] == "solve":
+    goal = words[words.index("--goal") + 1].removeprefix("install ")
+    found = chosen(list(common.clauses_of(goal)), [])
+    steps = [{{"action": "unpack", "name": it["Package"], "version": it["Version"]}} for it in found or ()]
+    document("plan" if found else "refuted", steps=steps)
 if any(name not in [it["Package"] for it in stanzas] for name in names):
     sys.stderr.write("debplan: request: E17 UnknownName 1\\n")
     sys.exit(3)
@@ -103,6 +120,24 @@ Version: 2
 Architecture: all
 Source: fork
 """
+# What a newer suite has of app, which needs lib as it is there, and one of the two packages of another source.
+APP = """Package: app
+Version: 2+b1
+Architecture: all
+Source: application (2-0)
+Depends: api-2, plug
+
+Package: plug
+Version: 3
+Architecture: all
+Source: plugin
+
+Package: plug-in
+Version: 4
+Architecture: all
+Source: plugin
+Depends: libb (>= 3)
+"""
 REST = """Package: liba
 Version: 2
 Architecture: all
@@ -143,7 +178,7 @@ TEXTS = {
     "index": INDEX, "other": f"{DATA}\n{FORK} \n\n{REST}", "sources": "# testing\nFile: index\nSuite: testing\n",
     "next-sources": "File: next\nSuite: testing\n", "both-sources": "File: index\n\nFile: other\n",
     "far": "Package: top\nVersion: 1\nArchitecture: all\nDepends: app\n", "far-sources": "File: far\n\nFile: index\n",
-    "other-sources": "File: other\n",
+    "other-sources": "File: other\n", "newer": f"{APP}\n{REST}",
     "base": "Package: dash\nVersion: 1\nArchitecture: all\nEssential: yes\nDepends: libb\n", "base-sources": "File: base\n\nFile: index\n",
     "one": "broken a 1~rc1\nbroken a 1.0-1\nchecked 3, broken 2\n", "two": "broken a 1\nchecked 2, broken 1\n",
     "first": "broken a 1\nchecked 1, broken 1\n", "second": "broken b 1\nchecked 1, broken 1\n",
@@ -201,8 +236,12 @@ CALLS = [
     ("compare clean whole --refutations kept -- --arch amd64 --sources other-sources", 1, "newly broken other 1\n  its refutation isn't "
      "accepted with these OPTIONS: no line ..\nnewly broken tool-data 1:1\n  ..still broken 0\n", ""),
     (f"{MIGRATE} fork", 0, "next: 0 taken out, 1 put in\n", "other 2 stands beside 1 of the source other\n"),
-    (f"{MIGRATE} tool -- --check {ASKING}", 1, "next: 2 taken out, 3 put in\ncame broken tool 2\n  ..libb (>= 2)..\n"
-     "gone tool-data 1:1\nstill broken 0\n", "3 names can have changed: their packages are asked about\n"),
+    (f"{MIGRATE} tool -- --check {ASKING}", 1, "next: 2 taken out, 3 put in\ncame broken tool 2\n  ..libb (>= 2)..\n  needs lib 2\n"
+     "gone tool-data 1:1\nstill broken 0\nwith lib:\nnewly broken app 1\n  ..api-1..\nwould have to come along: lib\n",
+     "3 names can have changed: their packages are asked about\narchive-check: 6 names can have changed: ..\n"),
+    (f"migrate --index index --from newer --output newer-next lib --check -- {ASKING}", 1, "newer-next: ..\nnewly broken app 1\n  ..api-1..\n"
+     "  needs application 2-0, plugin 3\nstill broken 0\nwith application plugin:\ncame broken plug-in 4\n  ..libb (>= 3)..\n"
+     "would have to come along: application plugin\n", ".."),
     (f"{MIGRATE} lib --check -- --arch amd64 --sources both-sources --all-versions", 1, "next: ..\nnewly broken app 1\n  ..api-1..\n"
      "still broken 0\n", "4 names ..\n"),
     (f"{MIGRATE} lib --check -- --arch amd64 --sources far-sources", 1, "next: ..\nnewly broken app 1\n  ..api-1..\nnewly broken top 1\n"

@@ -1,6 +1,7 @@
 """The index that would be where the binary packages of some sources are those of another index, and the names of the packages of which
 this can change whether they can be installed."""
 import collections
+import copy
 import pathlib
 import re
 
@@ -9,8 +10,9 @@ from common import Failure
 
 # What separates stanzas (docs/FORMATS.md, section 1): lines that are empty or hold nothing but spaces and tabs.
 SEPARATOR = re.compile(rb"\n(?:[ \t]*\n)+")
+NAME = re.compile(rb"^package:[ \t]*([^ \t\r\n]*)", re.IGNORECASE | re.MULTILINE)
 VERSION = re.compile(r"(?:[0-9]+:)?[A-Za-z0-9.+~:-]+")
-SOURCE = re.compile(r"([A-Za-z0-9][A-Za-z0-9+.-]*)\s*(?:\(.*\))?", re.DOTALL)
+SOURCE = re.compile(r"([A-Za-z0-9][A-Za-z0-9+.-]*)\s*(?:\(\s*(.*?)\s*\))?", re.DOTALL)
 # By which fields a package is essential (docs/FORMATS.md, section 6).
 MARKS = ("Essential", "Protected")
 # The fields of a stanza that count here.
@@ -19,11 +21,17 @@ COUNTING = ("Package", "Version", "Architecture", "Source", "Pre-Depends", "Depe
 Stanza = collections.namedtuple("Stanza", "text fields")
 
 
-def stanzas_in(path):
-    """The stanzas of an index, in their order."""
+def stanzas_in(path, names=None):
+    """The stanzas of an index, in their order; with names those of these names alone."""
     data = b"\n\n" + pathlib.Path(path).read_bytes() + b"\n\n"
     texts = [text for text in SEPARATOR.split(data) if text]
-    return [Stanza(text, fields_in(text, number, path)) for number, text in enumerate(texts, 1)]
+    return [Stanza(text, fields_in(text, number, path)) for number, text in enumerate(texts, 1) if names is None or name_in(text) in names]
+
+
+def name_in(text):
+    """The name of the package of a stanza, without reading the other fields."""
+    found = NAME.search(text)
+    return found and found.group(1).decode("utf-8", "surrogateescape")
 
 
 def fields_in(text, number, path):
@@ -48,6 +56,12 @@ def source_of(fields):
     return found.group(1) if found else fields["Package"]
 
 
+def source_version_of(fields):
+    """The name and the version of the source of a binary package: the version is its own one, where no other is named."""
+    found = SOURCE.fullmatch(fields.get("Source", ""))
+    return source_of(fields), found and found.group(2) or fields["Version"]
+
+
 # The exchange
 
 
@@ -55,15 +69,25 @@ class Exchange:
     """The stanzas of an index, with those of some sources taken out, and put in those that another index has of these sources."""
 
     def __init__(self, index, other, sources):
-        wanted = set(sources)
-        self.index = stanzas_in(index)
-        self.out = [it for it in self.index if source_of(it.fields) in wanted]
-        self.put = [it for it in stanzas_in(other) if source_of(it.fields) in wanted]
+        self.index, self.other = stanzas_in(index), stanzas_in(other)
+        self.exchange(sources)
         had = {source_of(it.fields) for it in (*self.out, *self.put)}
         missing = [source for source in sources if source not in had]
         if missing:
             raise Failure(f"{index}: has no package of the source {missing[0]}, nor has {other}")
-        self.left = [it for it in self.index if source_of(it.fields) not in wanted]
+
+    def exchange(self, sources):
+        self.sources = set(sources)
+        self.out, self.left = [], []
+        for it in self.index:
+            (self.out if source_of(it.fields) in self.sources else self.left).append(it)
+        self.put = [it for it in self.other if source_of(it.fields) in self.sources]
+
+    def also(self, sources):
+        """The exchange of these sources too."""
+        found = copy.copy(self)
+        found.exchange(self.sources | sources)
+        return found
 
     def text(self):
         """The index that would be: what is left stays in its order, and what is put in stands behind it."""

@@ -1,18 +1,25 @@
 """Refutations of broken packages: judged, explained, and put into folders that say over which indices they are. The options with which
 they are judged are those of an `Asking` of tools/archive-check."""
 import concurrent.futures
+import json
 import pathlib
+import time
 from collections import namedtuple
 
 import common
+import exchange
+import failing
 import surveys
 from common import Failure
 
 # The files of the folder of a package: the first two are called so too behind the name and the version, as the program writes them.
-FILES = ("request", "refutation", "sentences", "indices")
+FILES = ("request", "refutation", "sentences", "relations", "stanza", "indices")
+INDICES = FILES[-1]
+# The files that stand beside these folders, the last of which is written last: where it is there, the report is whole.
+SURVEY, WHEN = "survey", "when"
 REFUSED = (3, 4, 5)
-# What check-refutation says of a refutation, and its sentences.
-Verdict = namedtuple("Verdict", "said sentences")
+# What check-refutation says of a refutation, its sentences, and the relations at which the package fails.
+Verdict = namedtuple("Verdict", "said sentences relations")
 # An index: the SHA256 of its file, and its release keys and its path as the sources file has them.
 Index = namedtuple("Index", "sum suite codename path")
 
@@ -36,11 +43,18 @@ def read(path):
 
 def judged(asking, request, refutation):
     """What check-refutation says of a refutation. What it refuses is refused."""
-    words = [common.program(), "check-refutation", *asking.judging(), "--request", str(request), "--explain", "--", str(refutation)]
-    run = common.run_of(words)
-    if run.returncode not in (0, 1):
-        raise Failure(f"{refutation}: {common.last_words(run)}", run.returncode if run.returncode in REFUSED else REFUSED[-1])
-    return Verdict(run.stdout.strip(), common.UNMATCHED.sub("", run.stderr).splitlines())
+    words = ["check-refutation", *asking.judging(), "--request", str(request), "--format", "json", "--", str(refutation)]
+    document = document_of(words, refutation)
+    sentences = [it for it in document["reasons"] if not common.UNMATCHED.fullmatch(f"{it}\n")]
+    return Verdict(document["text"].strip(), sentences, failing.relations_in(document))
+
+
+def document_of(words, place):
+    """The document that the program prints to these words, where it answers. What it refuses is refused by the place that it's about."""
+    run = common.run_of([common.program(), *words])
+    if run.returncode not in (0, 1, 2):
+        raise Failure(f"{place}: {common.last_words(run)}", run.returncode if run.returncode in REFUSED else REFUSED[-1])
+    return json.loads(run.stdout)
 
 
 def judged_of(asking, folder, line):
@@ -94,41 +108,67 @@ def written(index):
 # A report
 
 
-def write_report(asking, survey, folder, report, count):
-    """Writes a folder for each broken package, from the folder of all refutations. What is told stays told where that can't be done."""
+def now():
+    """The date of a report."""
+    return time.strftime("%Y-%m-%dT%H:%M:%SZ", time.gmtime())
+
+
+def write_report(asking, survey, when, folder, report, count):
+    """Writes a folder for each broken package, from the folder of all refutations, and the survey with its date beside them. What is
+    told stays told where that can't be done."""
     broken = [line for line in survey.told() if line.state == "broken"]
     try:
-        indices = "".join("\t".join(index) + "\n" for index in indices_of(asking.needed("--sources")))
+        indices = indices_of(asking.needed("--sources"))
+        texts = {INDICES: "".join("\t".join(index) + "\n" for index in indices)}
+        stanzas = stanzas_of([index.path for index in indices], broken, asking.needed("--arch"))
         report.mkdir(parents=True, exist_ok=True)
         for line, verdict in zip(broken, each(count, lambda line: judged_of(asking, folder, line), broken)):
-            write_folder(report / surveys.file_name(line), pathlib.Path(folder, surveys.file_name(line)), verdict, indices)
+            more = {**texts, "stanza": stanzas.get(surveys.key_of(line), "")}
+            write_folder(report / surveys.file_name(line), pathlib.Path(folder, surveys.file_name(line)), verdict, more)
+        write_texts(report, {**texts, WHEN: f"{when}\n", SURVEY: survey.text()})
     except OSError as error:
         raise Failure(f"{report}: the report isn't whole: {error.filename}: {error.strerror}", REFUSED[-1]) from None
     except Failure as failure:
         raise Failure(f"{report}: the report isn't whole: {failure}", REFUSED[-1]) from None
 
 
-def write_folder(folder, files, verdict, indices):
-    """Writes the folder of a package from the files of its request and its refutation."""
+def stanzas_of(paths, lines, arch):
+    """The texts of the stanzas of these packages, by name and version key: of each the first one in the indices."""
+    wanted, found = set(map(surveys.key_of, lines)), {}
+    names = {line.name for line in lines}
+    for path in paths:
+        for it in exchange.stanzas_in(path, names):
+            if exchange.pair_of(it.fields) in wanted and it.fields["Architecture"] in ("all", arch):
+                found.setdefault(exchange.pair_of(it.fields), it.text.decode("utf-8", "surrogateescape") + "\n")
+    return found
+
+
+def write_folder(folder, files, verdict, more):
+    """Writes the folder of a package from the files of its request and its refutation, the verdict, and other texts."""
     if verdict.said != "yes":
         raise Failure(f"{files}.refutation: {verdict.said}")
     folder.mkdir()
-    texts = [read(f"{files}.{kind}") for kind in FILES[:2]]
-    for kind, text in zip(FILES, [*texts, "".join(f"{it}\n" for it in verdict.sentences), indices]):
-        common.write_text(folder / kind, text)
+    relations = "".join("\t".join(relation) + "\n" for relation in verdict.relations)
+    write_texts(folder, {**{kind: read(f"{files}.{kind}") for kind in FILES[:2]}, "relations": relations,
+                         "sentences": "".join(f"{it}\n" for it in verdict.sentences), **more})
+
+
+def write_texts(folder, texts):
+    for name, text in texts.items():
+        common.write_text(folder / name, text)
 
 
 def folders_in(folder):
     """The folders of packages that a folder of a report is: itself, or those in it; none where nothing was broken."""
     found = [folder] if (folder / FILES[0]).is_file() else sorted(it.parent for it in folder.glob(f"*/{FILES[0]}"))
-    if not found and any(folder.iterdir()):
+    if not found and not (folder / SURVEY).is_file() and any(folder.iterdir()):
         raise Failure(f"{folder}: has no {FILES[0]}, and no folder that has one")
     return found
 
 
 def verified(asking, folder, indices):
     """What is said of the refutation of a package: which indices are others than those that it is about, or the judge's word."""
-    known = indices_in(folder / FILES[3])
+    known = indices_in(folder / INDICES)
     if len(known) != len(indices):
         return [f"is about {len(known)} indices, and {asking.value('--sources')} names {len(indices)}"]
     others = [f"index {number}, {new.path}, is another one than {written(old)}: its SHA256 is {new.sum} and not {old.sum}"
