@@ -52,10 +52,11 @@ def modules():
 def connected(address):
     """The workers of the scheduler at an address."""
     cloudpickle, distributed = modules()
-    # what goes wrong is told by this tool, and not by Dask's log too
-    logging.getLogger("distributed").setLevel(logging.CRITICAL + 1)
+    # what goes wrong is told by this tool, and not by the logs of Dask too
+    logging.disable(logging.CRITICAL)
     cloudpickle.register_pickle_by_value(sys.modules[__name__])
     try:
+        distributed.comm.resolve_address(address)
         client = distributed.Client(address, timeout=REACHING, set_as_default=False)
     except (OSError, ValueError) as error:
         raise Failure(f"the scheduler {address} can't be reached: {str(error) or type(error).__name__}", 69) from None
