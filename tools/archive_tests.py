@@ -1,18 +1,19 @@
-"""The self-test of tools/archive-check, over small texts: by a program that stands for debplan, and by the one that the gate builds, where
-it is there. What is wanted is counted by hand."""
+"""The self-test of tools/archive-check, over small texts: by a program that stands for debplan, and by the one that DEBPLAN names or
+that the gate builds, where it is there. What is wanted is counted by hand."""
 import hashlib
 import itertools
 import os
 import pathlib
-import subprocess
 import sys
 import tempfile
 
+import cluster_tests
+import pages_tests
 import surveys
 from common import Failure
+from trials import ASKING, TOOL, WHOLE, differs, fails
 
-TOOL = pathlib.Path(__file__).resolve().parent / "archive-check"
-BUILT = TOOL.parent.parent / "crates" / "debplan" / "out" / "debplan"
+BUILT = pathlib.Path(os.environ.get("DEBPLAN") or TOOL.parent.parent / "crates" / "debplan" / "out" / "debplan").resolve()
 # A package is broken here where a name that it depends on is in no index, or is that of a broken package.
 PROGRAM = """#!{python} -S
 import sys
@@ -172,7 +173,6 @@ Architecture: all
 Depends: nowhere
 """
 NEXT = f"{LEFT}\n{DATA}\n{REST}\n"
-WHOLE = "broken other 1\nbroken tool-data 1:1\nchecked 6, broken 2\n"
 INDICES = f"{hashlib.sha256(INDEX.encode()).hexdigest()}\ttesting\t-\tindex\n"
 TEXTS = {
     "index": INDEX, "other": f"{DATA}\n{FORK} \n\n{REST}", "sources": "# testing\nFile: index\nSuite: testing\n",
@@ -193,7 +193,6 @@ TEXTS = {
     "bad/request": "install other\n", "bad/refutation": "refutation 1\ngoal 1\n", "bad/indices": INDICES,
     "broken/request": "install other\n", "broken/refutation": "refutation 1\n", "broken/indices": "testing index\n",
 }
-ASKING = "--arch amd64 --sources sources"
 MIGRATE = "migrate --index index --from other --output next"
 DISORDERED = "they aren't all shards of one list, in order"
 # The words, the exit status, what is printed and what is said on standard error, in which .. stands for anything. They run in their
@@ -209,6 +208,9 @@ CALLS = [
     (f"PROGRAM=changed run {ASKING} --processors 2", 5, "", "shard 1/2: asked about 3 packages, ..; has a file changed meanwhile?\n"),
     (f"PROGRAM=refused run {ASKING} --processors 3", 5, "", "debplan: index 1: E5 Read\n"),
     (f"run {ASKING} --shard 1/2", 64, "", "..--shard .."),
+    (f"run {ASKING} --shards 2", 64, "", "run: --shards counts ..\n"),
+    (f"run {ASKING} --scheduler tcp://127.0.0.1:1", 69, "", "--scheduler needs Dask, ..: install Debian's python3-distributed\n"),
+    ("pages report --output pages", 69, "", "pages needs jinja2, ..: install Debian's python3-jinja2\n"),
     (f"run {ASKING} --processors none", 64, "", "..none.."),
     ("merge one two", 0, "broken a 1~rc1\nbroken a 1\nbroken a 1.0-1\nchecked 5, broken 3\n", ""),
     ("merge two one", 1, "", f"two: asked about 2 packages, and shard 1/2 of all these has 3: {DISORDERED}\n"),
@@ -272,36 +274,10 @@ CALLS = [
 ]
 # What these calls leave.
 WRITTEN = {"next": NEXT, "kept/other_1.request": "install other (= 1)\n", "report/other_1/request": "install other (= 1)\n",
-           "report/other_1/refutation": "..", "report/other_1/sentences": "..nowhere..", "report/other_1/indices": INDICES}
-
-
-def is_as(wanted, text):
-    """Whether a text is the wanted one, in which .. stands for anything."""
-    first, *others = wanted.split("..")
-    if not text.startswith(first):
-        return False
-    at = len(first)
-    for part in others:
-        at = text.find(part, at)
-        if at < 0:
-            return False
-        at += len(part)
-    return at == len(text) or wanted.endswith("..")
-
-
-def fails(room, call):
-    """Why a call isn't as it is wanted; nothing where it is."""
-    words, status, printed, said = call
-    first, *rest = words.split()
-    name = first.partition("=")[2] if first.startswith("PROGRAM=") else None
-    if (room / "once").exists():
-        (room / "once").rmdir()
-    run = subprocess.run([sys.executable, "-S", str(TOOL), *(rest if name else [first, *rest])], cwd=room, stdin=subprocess.DEVNULL,
-                         capture_output=True, encoding="utf-8", env={**os.environ, "DEBPLAN": str(room / (name or "debplan"))}, check=False)
-    found = (run.returncode, run.stdout, run.stderr.removeprefix("archive-check: "))
-    if run.returncode == status and is_as(printed, run.stdout) and is_as(said, found[2]):
-        return None
-    return f"`{words}` ends so, and not {(status, printed, said)}:\n{found}"
+           "report/other_1/refutation": "..", "report/other_1/sentences": "..nowhere..", "report/other_1/indices": INDICES,
+           "report/other_1/relations": "depends\tnowhere\tother 1\n", "report/indices": INDICES, "report/when": "2..Z\n",
+           "report/survey": WHOLE, "none/survey": "checked 1, broken 0\n",
+           "report/tool-data_1:1/stanza": "Package: tool-data\nVersion: 1:1\nArchitecture: all\nSource: tool (1:1)\nDepends: data\n"}
 
 
 # The merging of all small lists
@@ -345,19 +321,15 @@ def write_files(room, program):
         (room / name).chmod(0o755)
 
 
-def differs(room, name):
-    """Why a file isn't as it is wanted; nothing where it is."""
-    text = (room / name).read_text(encoding="utf-8") if (room / name).is_file() else None
-    return None if text is not None and is_as(WRITTEN[name], text) else f"{name} is to be\n{WRITTEN[name]}and is\n{text}"
-
-
 def tried_by(program):
     """Yields of each call, and of each file that the calls leave, why it isn't as it is wanted, or None."""
     with tempfile.TemporaryDirectory(prefix="debplan-archive-") as folder:
         room = pathlib.Path(folder)
         write_files(room, program)
         yield from (fails(room, call) for call in CALLS)
-        yield from (differs(room, name) for name in WRITTEN)
+        yield from (differs(room, *it) for it in WRITTEN.items())
+        yield from cluster_tests.tried_in(room)
+        yield from pages_tests.tried_in(room)
 
 
 def main():
@@ -366,6 +338,8 @@ def main():
     found = [next(merged_lists(), None), *(why for program in programs for why in tried_by(program))]
     for why in filter(None, found):
         print(why)
+    for left_out in (*cluster_tests.left_out(), *pages_tests.left_out()):
+        print(f"not tried: {left_out}")
     failed = sum(why is not None for why in found)
     print(f"{len(found) - failed} passed, {failed} failed")
     return 1 if failed else 0

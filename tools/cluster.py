@@ -24,14 +24,14 @@ REACHING, WAITING = 10, 60
 LOOKING, COMING = 1, 120
 
 
-def run_program(words, folder, has_refutations):
+def run_program(head, options, folder, has_refutations):
     """What a worker does: runs the program in a folder, and returns its exit status, its two outputs, the files of refutations by name,
     and which worker this is. Without an exit status the program couldn't be run, and the second output says why."""
     worker = f"{socket.gethostname()}, process {os.getpid()}"
     try:
         with tempfile.TemporaryDirectory(prefix="debplan-refutations-") as room:
             more = ["--refutations", room] if has_refutations else []
-            run = subprocess.run([*words[:2], *more, *words[2:]], cwd=folder, stdin=subprocess.DEVNULL, capture_output=True, check=False)
+            run = subprocess.run([*head, *more, *options], cwd=folder, stdin=subprocess.DEVNULL, capture_output=True, check=False)
             files = {path.name: path.read_bytes() for path in pathlib.Path(room).iterdir()}
     except OSError as error:
         return None, b"", f"{error.filename}: {error.strerror}".encode("utf-8", "surrogateescape"), {}, worker
@@ -108,7 +108,8 @@ class Task:
 
     def __init__(self, workers, words, folder):
         self.workers, self.folder = workers, folder
-        self.future = workers.client.submit(run_program, words, os.getcwd(), bool(folder), pure=False)
+        head, options = words[:shards.HEAD], words[shards.HEAD:]
+        self.future = workers.client.submit(run_program, head, options, os.getcwd(), bool(folder), pure=False)
 
     def has_ended(self):
         return self.future.done()
@@ -120,9 +121,16 @@ class Task:
             raise Failure(f"the worker {worker}: {said}", shards.LAST)
         if shards.REFUSED <= status <= shards.LAST:
             said += f"{common.tool_name()}: so says the worker {worker}\n"
-        for name, data in files.items():
-            pathlib.Path(self.folder, name).write_bytes(data)
+        self.keep(files)
         return shards.Ended(status, shards.text_of(printed), said)
+
+    def keep(self, files):
+        """Writes the files of refutations."""
+        try:
+            for name, data in files.items():
+                pathlib.Path(self.folder, name).write_bytes(data)
+        except OSError as error:
+            raise Failure(f"{error.filename}: {error.strerror}", shards.LAST) from None
 
     def answer(self):
         """What the worker has returned."""

@@ -49,8 +49,9 @@ def names_in(relation):
     return " and ".join(dict.fromkeys(sorted(it.split(" ")[0] for it in (relation.owner, relation.text))))
 
 
-def written(relation):
-    """A relation as a text: whose it is, and what it asks for or is against."""
+def written(relation, package):
+    """A relation as a text: whose it is, where that isn't this package, and what it asks for or is against."""
     if relation.kind == "goal":
         return relation.text
-    return f"{relation.owner} {'and' if relation.kind == 'same' else SAYS[relation.kind]} {relation.text}"
+    owner = "" if relation.owner == package else f"{relation.owner} "
+    return f"{owner}{'and' if relation.kind == 'same' else SAYS[relation.kind]} {relation.text}"

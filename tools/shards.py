@@ -15,6 +15,8 @@ from common import Failure
 # program that ended.
 REFUSED, LAST = 3, 5
 SECONDS = 0.05
+# How many words of a run are the program, the command and the shard: behind them stand options.
+HEAD = 4
 # How a run of the program ended: its status, and the texts of its two outputs.
 Ended = namedtuple("Ended", "status printed said")
 
@@ -30,7 +32,7 @@ def processors():
 
 def words_of(words, folder):
     """The words of the program, with those that have the refutations written into a folder, where there is one."""
-    return [*words[:2], *(["--refutations", folder] if folder else []), *words[2:]]
+    return [*words[:HEAD], *(["--refutations", folder] if folder else []), *words[HEAD:]]
 
 
 class Process:

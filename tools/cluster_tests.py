@@ -1,0 +1,98 @@
+"""The part of the self-test of tools/archive-check that needs Dask: a scheduler on this machine, with four workers, of which one dies.
+It goes on in the folder of the other part, and wants the same outputs."""
+import contextlib
+import importlib.util
+import json
+import subprocess
+import sys
+import time
+
+from trials import ASKING, WHOLE, fails
+
+COMMANDS = {
+    "scheduler": ("distributed.cli.dask_scheduler", "--host", "127.0.0.1", "--port", "0", "--no-dashboard"),
+    "worker": ("distributed.cli.dask_worker", "--nthreads", "1", "--no-nanny", "--no-dashboard"),
+}
+WORKERS, SECONDS = 4, 60
+RUN = f"run {ASKING} --scheduler ADDRESS"
+# Programs of sh: of eight shards the output of the second is cut short once; the worker that takes it is killed, once; the interpreter is
+# missing.
+WRONG = {
+    "cut-once-of-eight": '#!/bin/sh\nif [ "$3" = 2/8 ] && mkdir once; then echo broken b 1; exit 1; fi; exec ./debplan "$@"\n',
+    "worker-killed": '#!/bin/sh\nif [ "$3" = 2/8 ] && mkdir once; then kill -9 $PPID; fi; exec ./debplan "$@"\n',
+    "unfit": "#!/nowhere\n",
+}
+# As those of archive_tests, with ADDRESS for the address of the scheduler.
+CALLS = [
+    (RUN, 1, WHOLE, ""),
+    (f"{RUN} --shards 5 -- tool app", 0, "checked 2, broken 0\n", ""),
+    (f"{RUN} --shards 3 --report cluster-report", 1, WHOLE, ""),
+    (f"verify cluster-report -- {ASKING}", 0, "cluster-report/other_1: yes\ncluster-report/tool-data_1:1: yes\n", ""),
+    (f"PROGRAM=cut-once-of-eight {RUN} --shards 8", 1, WHOLE, "shard 2/8: is cut short: .., and it is run again\n"),
+    (f"PROGRAM=unfit {RUN} --shards 3", 5, "", "the worker ..: ..unfit: No such file or directory\n"),
+    (f"{RUN} --shards 3 nobody", 3, "", "debplan: request: E17 UnknownName 1\narchive-check: so says the worker ..\n"),
+    (f"{RUN} --shards 3 --refutations nowhere", 5, "", "nowhere/..: No such file or directory\n"),
+    (f"run {ASKING} --scheduler 127.0.0.1", 69, "", "the scheduler 127.0.0.1 can't be reached: ..port..\n"),
+    (f"run {ASKING} --scheduler tcp://127.0.0.1:1", 69, "", "the scheduler tcp://127.0.0.1:1 can't be reached: ..\n"),
+    (f"PROGRAM=worker-killed {RUN} --shards 8 --refutations killed", 1, WHOLE, ".."),
+]
+
+
+def is_there():
+    return importlib.util.find_spec("distributed") is not None
+
+
+def left_out():
+    """What isn't tried."""
+    return [] if is_there() else ["run --scheduler with workers, for python3-distributed is missing"]
+
+
+def tried_in(room):
+    """Yields of each call, and of what is to be left by the last one, why it isn't as it is wanted, or None."""
+    if not is_there():
+        return
+    (room / "killed").mkdir()
+    for name, text in WRONG.items():
+        (room / name).write_text(text, encoding="utf-8")
+        (room / name).chmod(0o755)
+    with cluster_in(room) as (address, workers):
+        for words, *wanted in CALLS:
+            yield fails(room, (words.replace("ADDRESS", address), *wanted), options=())
+        dead = sum(worker.poll() is not None for worker in workers)
+        yield None if dead == 1 else f"{dead} workers are dead, and not one"
+    yield next((f"{name} of killed isn't that of kept" for name in ("other_1.request", "other_1.refutation") if not is_same(room, name)), None)
+
+
+def is_same(room, name):
+    """Whether a file that workers wrote is that of a process of this machine."""
+    return (room / "killed" / name).read_bytes() == (room / "kept" / name).read_bytes()
+
+
+@contextlib.contextmanager
+def cluster_in(room):
+    """The address of a scheduler, and the processes of its workers."""
+    started = []
+    try:
+        started.append(begun(room, "scheduler"))
+        address = address_in(room / "address")
+        started += [begun(room, "worker") for _ in range(WORKERS)]
+        yield address, started[1:]
+    finally:
+        for process in started:
+            process.kill()
+            process.wait()
+
+
+def begun(room, name):
+    words = [sys.executable, "-m", *COMMANDS[name], "--scheduler-file", "address"]
+    return subprocess.Popen(words, cwd=room, stdin=subprocess.DEVNULL, stdout=subprocess.DEVNULL, stderr=subprocess.DEVNULL)
+
+
+def address_in(path):
+    """The address that the scheduler writes once it can be reached."""
+    end = time.monotonic() + SECONDS
+    while time.monotonic() < end:
+        with contextlib.suppress(OSError, ValueError):
+            return json.loads(path.read_text(encoding="utf-8"))["address"]
+        time.sleep(0.1)
+    raise TimeoutError(f"no scheduler of Dask in {SECONDS} seconds")
