@@ -81,7 +81,7 @@ class Workers:
 
     def present(self):
         """The addresses of the workers that there are."""
-        return set(self.client.scheduler_info()["workers"])
+        return set(self.client.scheduler_info().get("workers", ()))
 
     def count(self):
         """How many shards there are to be."""

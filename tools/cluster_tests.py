@@ -60,7 +60,8 @@ def tried_in(room):
             yield fails(room, (words.replace("ADDRESS", address), *wanted), options=())
         dead = sum(worker.poll() is not None for worker in workers)
         yield None if dead == 1 else f"{dead} workers are dead, and not one"
-    yield next((f"{name} of killed isn't that of kept" for name in ("other_1.request", "other_1.refutation") if not is_same(room, name)), None)
+    others = [name for name in ("other_1.request", "other_1.refutation") if not is_same(room, name)]
+    yield f"of killed {others[0]} isn't that of kept" if others else None
 
 
 def is_same(room, name):

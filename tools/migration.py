@@ -122,19 +122,25 @@ class Along:
 
     def sentences(self, line):
         """What would have to come along for a package in this version, or else in another one, as a sentence; none where nothing helps."""
-        request = pathlib.Path(self.folder, f"{surveys.file_name(line)}.request")
-        first, *rest = reports.read(request).splitlines() if request.is_file() else [""]
-        for goal in dict.fromkeys([first, f"install {line.name}" if line.version else first]):
-            document = self.solved([goal, *rest, "all-versions"], request) if first else {"answer": "refuted"}
+        for request in self.requests(line):
+            document = self.solved(request, surveys.written(line))
             if document["answer"] == "undecided":
                 return [f"what would have to come along is undecided ({document['why']})"]
             if document["answer"] == "plan":
                 return self.needed(document["steps"])
         return []
 
+    def requests(self, line):
+        """The lines of the request that was refuted, and of the same one for any version of the package."""
+        path = pathlib.Path(self.folder, f"{surveys.file_name(line)}.request")
+        if not path.is_file():
+            return []
+        first, *rest = reports.read(path).splitlines()
+        return [[first, *rest], [f"install {line.name}", *rest]] if line.version else [[first, *rest]]
+
     def solved(self, lines, place):
         """The answer to the request of these lines."""
-        goals = [word for line in lines for word in ("--goal", line)]
+        goals = [word for line in (*lines, "all-versions") for word in ("--goal", line)]
         return reports.document_of(["solve", *self.asking.judging(), "--format", "json", *goals], place)
 
     def needed(self, steps):
@@ -150,11 +156,11 @@ def tell(check):
     again, until nothing more would have to. Returns the exit status of the exchange that was asked for."""
     with tempfile.TemporaryDirectory(prefix="debplan-exchange-") as folder:
         room = pathlib.Path(folder)
-        difference, reasons, along = check.answer(room)
-        status = differences.tell(difference, reasons)
+        difference, told, along = check.answer(room)
+        status = differences.tell(difference, told)
         more, rounds = along, 0
         while more and rounds < ROUNDS:
-            more, rounds = tell_with(check, along, room) - along, rounds + 1
+            more, rounds = tell_with(check, along, told, room) - along, rounds + 1
             along = along | more
     if along:
         print(f"would have to come along: {' '.join(sorted(along))}")
@@ -163,13 +169,15 @@ def tell(check):
     return status
 
 
-def tell_with(check, along, room):
-    """Prints what is newly broken where these sources are exchanged too. Returns which others would have to come along then."""
+def tell_with(check, along, told, room):
+    """Prints what is newly broken where these sources are exchanged too, but for what was told already, with the same reasons. Returns
+    which sources would have to come along then."""
     changed, output = check.changed.also(along), room / "index"
     common.write_text(output, changed.text().decode("utf-8", "surrogateescape"))
     (found, _), reasons, more = Check(check.options, changed, output).answer(room)
-    broken = {kind: found[kind] for kind in ("newly broken", "came broken")}
+    broken = {kind: [line for line in found[kind] if reasons.get(line) != told.get(line)] for kind in ("newly broken", "came broken")}
     if any(broken.values()):
         print(f"with {' '.join(sorted(along))}:")
         differences.tell_kinds(broken, reasons)
+    told.update(reasons)
     return more

@@ -77,8 +77,7 @@ class Package:
         self.sentences = read(folder / "sentences").splitlines()
         self.failing = [failing.Relation(*it.split("\t")) for it in read(folder / "relations").splitlines() if it.count("\t") == 2]
         self.relations = [failing.written(it, surveys.written(line)) for it in self.failing]
-        fields = {name.title(): value for name, value in common.fields_of((folder / "stanza").read_bytes()).items()}
-        fields = {name: value.encode("utf-8", "surrogateescape").decode("utf-8", "replace") for name, value in fields.items()}
+        fields = {name.title(): value for name, value in common.fields_of(read(folder / "stanza").encode()).items()}
         self.maintainer, self.source = fields.get("Maintainer"), " ".join(exchange.source_version_of(fields)) if fields else None
         self.files = [File(name, what) for name, what in WHAT.items() if (folder / name).is_file()]
 

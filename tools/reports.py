@@ -123,8 +123,8 @@ def write_report(asking, survey, when, folder, report, count):
         stanzas = stanzas_of([index.path for index in indices], broken, asking.needed("--arch"))
         report.mkdir(parents=True, exist_ok=True)
         for line, verdict in zip(broken, each(count, lambda line: judged_of(asking, folder, line), broken)):
-            more = {**texts, "stanza": stanzas.get(surveys.key_of(line), "")}
-            write_folder(report / surveys.file_name(line), pathlib.Path(folder, surveys.file_name(line)), verdict, more)
+            stanza = {"stanza": stanzas[surveys.key_of(line)]} if line.version else {}
+            write_folder(report / surveys.file_name(line), pathlib.Path(folder, surveys.file_name(line)), verdict, {**texts, **stanza})
         write_texts(report, {**texts, WHEN: f"{when}\n", SURVEY: survey.text()})
     except OSError as error:
         raise Failure(f"{report}: the report isn't whole: {error.filename}: {error.strerror}", REFUSED[-1]) from None
@@ -134,12 +134,15 @@ def write_report(asking, survey, when, folder, report, count):
 
 def stanzas_of(paths, lines, arch):
     """The texts of the stanzas of these packages, by name and version key: of each the first one in the indices."""
-    wanted, found = set(map(surveys.key_of, lines)), {}
+    wanted, found = {surveys.key_of(line) for line in lines}, {}
     names = {line.name for line in lines}
     for path in paths:
         for it in exchange.stanzas_in(path, names):
             if exchange.pair_of(it.fields) in wanted and it.fields["Architecture"] in ("all", arch):
                 found.setdefault(exchange.pair_of(it.fields), it.text.decode("utf-8", "surrogateescape") + "\n")
+    missing = [line for line in lines if surveys.key_of(line) not in found and line.version]
+    if missing:
+        raise Failure(f"no index has {surveys.written(missing[0])}; has a file changed meanwhile?")
     return found
 
 
