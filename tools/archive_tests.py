@@ -242,8 +242,8 @@ CALLS = [
      "gone tool-data 1:1\nstill broken 0\nwith lib:\nnewly broken app 1\n  ..api-1..\nwould have to come along: lib\n",
      "3 names can have changed: their packages are asked about\narchive-check: 6 names can have changed: ..\n"),
     (f"migrate --index index --from newer --output newer-next lib --check -- {ASKING}", 1, "newer-next: ..\n"
-     "newly broken app 1\n  ..api-1..\n  needs app 2-0, plugin 3\nstill broken 0\nwith app plugin:\ncame broken plug-in 4\n  ..libb (>= 3)..\n"
-     "would have to come along: app plugin\n", ".."),
+     "newly broken app 1\n  ..api-1..\n  needs app 2-0, plugin 3\nstill broken 0\nwith app plugin:\ncame broken plug-in 4\n"
+     "  ..libb (>= 3)..\nwould have to come along: app plugin\n", ".."),
     (f"{MIGRATE} lib --check -- --arch amd64 --sources both-sources --all-versions", 1, "next: ..\nnewly broken app 1\n  ..api-1..\n"
      "still broken 0\n", "4 names ..\n"),
     (f"{MIGRATE} lib --check -- --arch amd64 --sources far-sources", 1, "next: ..\nnewly broken app 1\n  ..api-1..\nnewly broken top 1\n"

@@ -3,6 +3,7 @@ import contextlib
 import os
 import tempfile
 
+import common
 from common import Failure
 
 # The options of `debplan installable` that take a value, and those with which a request is judged or solved.
@@ -50,6 +51,13 @@ class Asking:
     def judging(self):
         """The options with which a refutation is judged."""
         return flat([("--status", NO_STATUS)] * (not self.has("--status")) + [it for it in self.options if it[0] in JUDGING])
+
+    def inputs(self):
+        """The files that are read: those that the options name, and the indices."""
+        named = [value for name, value in self.options if name in ("--status", "--sources", "--preferences")]
+        sources = self.value("--sources")
+        places = [keys["File"] for keys in common.stanzas_in(sources) if "File" in keys] if sources and os.path.isfile(sources) else []
+        return [*named, *places]
 
     def without_refutations(self):
         """The same words, which write no refutations."""

@@ -3,6 +3,7 @@ inputs at the same path as this machine, and Debian's python3-distributed, but n
 with the answer, so the folder that they are written into is one of this machine."""
 import concurrent.futures
 import contextlib
+import hashlib
 import logging
 import os
 import pathlib
@@ -24,9 +25,9 @@ REACHING, WAITING = 10, 60
 LOOKING, COMING = 1, 120
 
 
-def run_program(head, options, folder, has_refutations):
+def run_program(head, options, folder, has_refutations, inputs):
     """What a worker does: runs the program in a folder, and returns its exit status, its two outputs, the files of refutations by name,
-    and which worker this is. Without an exit status the program couldn't be run, and the second output says why."""
+    the sums of the inputs, and which worker this is. Without an exit status the program couldn't be run, and the second output says why."""
     worker = f"{socket.gethostname()}, process {os.getpid()}"
     try:
         with tempfile.TemporaryDirectory(prefix="debplan-refutations-") as room:
@@ -34,8 +35,19 @@ def run_program(head, options, folder, has_refutations):
             run = subprocess.run([*head, *more, *options], cwd=folder, stdin=subprocess.DEVNULL, capture_output=True, check=False)
             files = {path.name: path.read_bytes() for path in pathlib.Path(room).iterdir()}
     except OSError as error:
-        return None, b"", f"{error.filename}: {error.strerror}".encode("utf-8", "surrogateescape"), {}, worker
-    return run.returncode, run.stdout, run.stderr, files, worker
+        return None, b"", f"{error.filename}: {error.strerror}".encode("utf-8", "surrogateescape"), {}, {}, worker
+    return run.returncode, run.stdout, run.stderr, files, sums_of(inputs, folder), worker
+
+
+def sums_of(inputs, folder):
+    """The SHA256 of each of these files; None of one that can't be read, which the program says itself."""
+    found = {}
+    for path in inputs:
+        try:
+            found[path] = hashlib.sha256(pathlib.Path(folder, path).read_bytes()).hexdigest()
+        except OSError:
+            found[path] = None
+    return found
 
 
 def modules():
@@ -49,8 +61,8 @@ def modules():
 
 
 @contextlib.contextmanager
-def connected(address):
-    """The workers of the scheduler at an address."""
+def connected(address, inputs):
+    """The workers of the scheduler at an address, which read these files."""
     cloudpickle, distributed = modules()
     # what goes wrong is told by this tool, and not by the logs of Dask too
     logging.disable(logging.CRITICAL)
@@ -61,16 +73,16 @@ def connected(address):
     except (OSError, ValueError) as error:
         raise Failure(f"the scheduler {address} can't be reached: {str(error) or type(error).__name__}", 69) from None
     try:
-        yield Workers(client, address)
+        yield Workers(client, address, sums_of(inputs, os.getcwd()))
     finally:
         client.close(timeout=REACHING)
 
 
 class Workers:
-    """The workers of a scheduler."""
+    """The workers of a scheduler, whose inputs have to have the sums of those here."""
 
-    def __init__(self, client, address):
-        self.client, self.address = client, address
+    def __init__(self, client, address, sums):
+        self.client, self.address, self.sums = client, address, sums
         self.seen = self.looked = time.monotonic()
         self.known = self.present()
         while not self.known:
@@ -109,18 +121,21 @@ class Task:
     def __init__(self, workers, words, folder):
         self.workers, self.folder = workers, folder
         head, options = words[:shards.HEAD], words[shards.HEAD:]
-        self.future = workers.client.submit(run_program, head, options, os.getcwd(), bool(folder), pure=False)
+        self.future = workers.client.submit(run_program, head, options, os.getcwd(), bool(folder), list(workers.sums), pure=False)
 
     def has_ended(self):
         return self.future.done()
 
     def ended(self):
-        status, printed, said, files, worker = self.answer()
+        status, printed, said, files, sums, worker = self.answer()
         said = shards.text_of(said)
         if status is None:
             raise Failure(f"the worker {worker}: {said}", shards.LAST)
         if shards.REFUSED <= status <= shards.LAST:
-            said += f"{common.tool_name()}: so says the worker {worker}\n"
+            return shards.Ended(status, "", f"{said}{common.tool_name()}: so says the worker {worker}\n")
+        others = [path for path, known in self.workers.sums.items() if sums[path] != known]
+        if others:
+            raise Failure(f"the worker {worker}: {others[0]} is another file than here", shards.LAST)
         self.keep(files)
         return shards.Ended(status, shards.text_of(printed), said)
 

@@ -16,11 +16,12 @@ COMMANDS = {
 WORKERS, SECONDS = 4, 60
 RUN = f"run {ASKING} --scheduler ADDRESS"
 # Programs of sh: of eight shards the output of the second is cut short once; the worker that takes it is killed, once; the interpreter is
-# missing.
+# missing; the index is another one than it was here.
 WRONG = {
     "cut-once-of-eight": '#!/bin/sh\nif [ "$3" = 2/8 ] && mkdir once; then echo broken b 1; exit 1; fi; exec ./debplan "$@"\n',
     "worker-killed": '#!/bin/sh\nif [ "$3" = 2/8 ] && mkdir once; then kill -9 $PPID; fi; exec ./debplan "$@"\n',
     "unfit": "#!/nowhere\n",
+    "changing": '#!/bin/sh\necho >> changing-index\nexec ./debplan "$@"\n',
 }
 # As those of archive_tests, with ADDRESS for the address of the scheduler.
 CALLS = [
@@ -30,6 +31,8 @@ CALLS = [
     (f"verify cluster-report -- {ASKING}", 0, "cluster-report/other_1: yes\ncluster-report/tool-data_1:1: yes\n", ""),
     (f"PROGRAM=cut-once-of-eight {RUN} --shards 8", 1, WHOLE, "shard 2/8: is cut short: .., and it is run again\n"),
     (f"PROGRAM=unfit {RUN} --shards 3", 5, "", "the worker ..: ..unfit: No such file or directory\n"),
+    ("PROGRAM=changing run --arch amd64 --sources changing-sources --scheduler ADDRESS --shards 3", 5, "",
+     "the worker ..: changing-index is another file than here\n"),
     (f"{RUN} --shards 3 nobody", 3, "", "debplan: request: E17 UnknownName 1\narchive-check: so says the worker ..\n"),
     (f"{RUN} --shards 3 --refutations nowhere", 5, "", "nowhere/..: No such file or directory\n"),
     (f"run {ASKING} --scheduler 127.0.0.1", 69, "", "the scheduler 127.0.0.1 can't be reached: ..port..\n"),
@@ -52,7 +55,8 @@ def tried_in(room):
     if not is_there():
         return
     (room / "killed").mkdir()
-    for name, text in WRONG.items():
+    texts = {"changing-sources": "File: changing-index\n", "changing-index": (room / "index").read_text(encoding="utf-8")}
+    for name, text in {**WRONG, **texts}.items():
         (room / name).write_text(text, encoding="utf-8")
         (room / name).chmod(0o755)
     with cluster_in(room) as (address, workers):
