@@ -16,17 +16,23 @@ def step_line(step):
     return " ".join([step["action"], *(step["names"] if step["action"] == "configure" else [step["name"]])])
 
 
-def number_of(value):
-    """The number of a pair, or what stands for itself."""
-    return str(value["number"] if isinstance(value, dict) else value)
+def number_of(pair):
+    """A pair as version 1 of a refutation has it."""
+    return str(pair["number"])
 
 
-def refutation_line(line):
-    """The line of a refutation that an object stands for."""
+def name_of(pair):
+    """A pair as version 2 has it."""
+    return f"{pair['name']} {pair['version']}"
+
+
+def refutation_line(line, word_of):
+    """The line of a refutation that an object stands for, with this word for each pair."""
     if "premise" in line:
         kind = line["premise"]
-        return " ".join([kind, *(number_of(line[key]) for key in NUMBERS[kind] if key in line)])
-    literals = [("" if literal["selected"] else "-") + str(literal["number"]) for literal in line["literals"]]
+        values = [line[key] for key in NUMBERS[kind] if key in line]
+        return " ".join([kind, *(word_of(value) if isinstance(value, dict) else str(value) for value in values)])
+    literals = [("" if literal["selected"] else "-") + word_of(literal) for literal in line["literals"]]
     return " ".join(["derive", *literals, ":", *map(str, line["hints"])])
 
 
@@ -47,8 +53,8 @@ def candidate_line(found):
 
 
 def lines_of(text):
-    """The lines of a plan or a refutation behind its first one, but for the last of a plan of version 2, which counts its steps."""
-    return [line for line in text.decode("utf-8", "replace").splitlines()[1:] if not line.startswith("end ")]
+    """The lines of a plan or a refutation behind its first one, but for the last of version 2, which counts them, and for indices."""
+    return [line for line in text.decode("utf-8", "replace").splitlines()[1:] if not line.startswith(("end ", "index "))]
 
 
 def of_steps(found, plan):
@@ -62,8 +68,10 @@ def of_steps(found, plan):
 
 
 def of_lines(found, refutation):
-    """What is wrong with the lines of this refutation, and with their counts."""
-    if [refutation_line(line) for line in found["lines"]] != lines_of(refutation):
+    """What is wrong with the lines of this refutation, and with their counts. Lines are missing where one names a pair that isn't admitted."""
+    word_of = name_of if refutation.startswith(b"refutation 2\n") else number_of
+    lines, told = lines_of(refutation), [refutation_line(line, word_of) for line in found["lines"]]
+    if told != lines and (word_of is number_of or found["answer"] != "no" or told != lines[:len(told)]):
         yield "the lines aren't those of the refutation"
     if [line["line"] for line in found["lines"]] != list(range(1, len(found["lines"]) + 1)):
         yield "the lines aren't numbered"

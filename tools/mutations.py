@@ -18,7 +18,7 @@ VALUES = ["", "yes", "no", "all", "amd64", "i386", "*", "x", "install ok install
           ", ,", "v (= 1), v", "release a=stable", "release a=x, n=y", "release l=", "version 1*", "version *", "origin \"\"",
           "origin h", "1001", "-1", "32768", "/dev/null", "index1", ".", "/", "nowhere", "\xe9"]
 WORDS = ["install", "remove", "purge", "upgrade", "upgrade-all", "no-remove", "all-versions", "unpack", "configure", "deconfigure",
-         "plan 1", "plan 2", "end 1", "refutation 1", "same", "predepends", "depends", "conflicts", "breaks", "goal", "hold", "essential", "keep",
+         "plan 1", "plan 2", "end 1", "refutation 1", "refutation 2", "same", "predepends", "depends", "conflicts", "breaks", "goal", "hold", "essential", "keep",
          "derive :", "-1", ":"]
 MOST_BYTES = 1 << 20
 

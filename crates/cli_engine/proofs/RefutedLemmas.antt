@@ -3,10 +3,8 @@ use Rattle.std.proofs.Common.{◌≡◌, List, Ok, Err, refl, ap, subst}
 use Rattle.candidates.specs.Inputs.{inputs_of}
 use Rattle.plain.specs.Counted.{IsCounted}
 use Rattle.refutation.specs.Laws.{HasAscendingPairs, HasNeededPairs}
-use Rattle.refutation.specs.declared.line.Line.{Line}
 use Rattle.rules.specs.Database.{Record}
 use Rattle.rules.specs.Universe.{Universe}
-use Rattle.refutecheck.specs.Answer.{IsVerdict}
 use Rattle.refutecheck.specs.declared.verdict.Verdict.{Verdict}
 use Rattle.refutecheck.specs.declared.verdict.Verdict.TheVariants as verdict
 use Rattle.inputs.specs.Meaning.{Denotes, asked_of}
@@ -16,9 +14,11 @@ use Rattle.inputs.specs.declared.refusal.Refusal.{Refusal}
 use Rattle.inputs.proofs.DistinctLemmas.{distinct_start}
 use Rattle.inputs.proofs.MeaningLemmas.{meaning_is_not_refused, not-both, ok-same, one_meaning}
 use Rattle.plain.proofs.MemberLemmas.{universe_is_counted}
-use Rattle.refutation.proofs.LineLemmas.{one_answer as one_bad_line}
 use Rattle.refutation.proofs.NeededLemmas.{universe_has_needed_pairs}
 use Rattle.refutation.proofs.PremiseLemmas.{none_is_acceptable}
+use Rattle.written_refutation.proofs.VerdictLemmas.{has_one_verdict}
+use Rattle.written_refutation.specs.Judged.{IsWrittenAccepted, IsWrittenVerdict, lines_of}
+use Rattle.written_refutation.specs.declared.written.WrittenRefutation.{WrittenRefutation}
 use Rattle.cli_engine.specs.Refuted.{AcceptedRefutationIsAnswered, IsFirstRefutationRefusal, RefutationHasOneAnswer, YesRefutes, refutation_of}
 use Rattle.cli_engine.specs.Solution.{MeaningIsAnswered}
 use mathlib.Core.Logic.{inl, inr}
@@ -39,46 +39,38 @@ yes-refutes texts refutation answer = record {
   start = answer.start;
   denoted = answer.denoted;
   only = λ u begin also. (one_meaning texts answer.universe u answer.start begin answer.denoted also).0;
-  none = none_is_acceptable answer.universe answer.lines
-      (needed-pairs texts answer.universe answer.start answer.denoted).0 answer.holds;
+  none = none_is_acceptable answer.universe (lines_of answer.universe.pairs answer.written).lines
+      (needed-pairs texts answer.universe answer.start answer.denoted).0 answer.holds.accepted;
 }
 
--- lines have one verdict
-one_line_verdict : (u : Universe) (lines : List Line) (first second : Verdict) → IsVerdict u lines first → IsVerdict u lines second
-    → first ≡ second
-one_line_verdict u lines verdict.Yes verdict.Yes is also = refl
-one_line_verdict u lines verdict.Yes (verdict.No number) is also = absurd ((one_bad_line u lines number also).0 is)
-one_line_verdict u lines (verdict.No number) verdict.Yes is also = absurd ((one_bad_line u lines number is).0 also)
-one_line_verdict u lines (verdict.No number) (verdict.No other) is also = ap verdict.No ((one_bad_line u lines number is).1 other also)
-
 pub one-answer : RefutationHasOneAnswer
-one-answer texts refutation first second answer other = one_line_verdict other.universe other.lines first second
-    (subst (λ (ls : List Line). IsVerdict other.universe ls first) lines
-    (subst (λ (u : Universe). IsVerdict u answer.lines first) one.0 answer.holds)) other.holds
+one-answer texts refutation first second answer other = has_one_verdict other.universe other.written first second
+    (subst (λ (w : WrittenRefutation). IsWrittenVerdict other.universe w first) same
+    (subst (λ (u : Universe). IsWrittenVerdict u answer.written first) one.0 answer.holds)) other.holds
   where
     one : (answer.universe ≡ other.universe) × (answer.start ≡ other.start)
     one = one_meaning texts answer.universe other.universe answer.start other.start answer.denoted other.denoted
 
-    lines : answer.lines ≡ other.lines
-    lines = ok-same answer.lines other.lines (refutation_of refutation) answer.read other.read
+    same : answer.written ≡ other.written
+    same = ok-same answer.written other.written (refutation_of refutation) answer.read other.read
 
 -- a refutation that is read isn't refused, so that a refusal beside a meaning is want of memory
-wanting : (texts : Texts) (refutation : Found) (u : Universe) (start : List Record) (lines : List Line) (refused : Refusal)
-    → Denotes texts u start → refutation_of refutation ≡ Ok lines → IsFirstRefutationRefusal texts refutation refused
+wanting : (texts : Texts) (refutation : Found) (u : Universe) (start : List Record) (written : WrittenRefutation) (refused : Refusal)
+    → Denotes texts u start → refutation_of refutation ≡ Ok written → IsFirstRefutationRefusal texts refutation refused
     → refused ≡ out_of_memory
-wanting texts refutation u start lines refused is read (inl first) = meaning_is_not_refused texts u start refused is first
-wanting texts refutation u start lines refused is read (inr fails) =
-    absurd (not-both lines refused.fault (refutation_of refutation) read fails.fault)
+wanting texts refutation u start written refused is read (inl first) = meaning_is_not_refused texts u start refused is first
+wanting texts refutation u start written refused is read (inr fails) =
+    absurd (not-both written refused.fault (refutation_of refutation) read fails.fault)
 
 pub accepted-is-answered : AcceptedRefutationIsAnswered
-accepted-is-answered texts refutation u start lines (Ok judged) is read accepted said = inl (
+accepted-is-answered texts refutation u start written (Ok judged) is read accepted said = inl (
   judged,
   refl,
   one-answer texts refutation judged.verdict verdict.Yes said.answer
-      (record { universe = u; start = start; lines = lines; denoted = is; read = read; holds = accepted }),
+      (record { universe = u; start = start; written = written; denoted = is; read = read; holds = accepted }),
 )
-accepted-is-answered texts refutation u start lines (Err refused) is read accepted first =
-    inr (ap Err (wanting texts refutation u start lines refused is read first))
+accepted-is-answered texts refutation u start written (Err refused) is read accepted first =
+    inr (ap Err (wanting texts refutation u start written refused is read first))
 
 pub meaning-is-answered : MeaningIsAnswered
 meaning-is-answered texts u start limit (Ok found) is answer = inl (found, refl)

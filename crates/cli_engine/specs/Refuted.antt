@@ -8,20 +8,19 @@ use Rattle.inputs.specs.declared.refusal.Fault.{Fault}
 use Rattle.inputs.specs.declared.refusal.Fault.TheVariants as fault
 use Rattle.inputs.specs.declared.refusal.Input.TheVariants as place
 use Rattle.inputs.specs.declared.refusal.Refusal.{Refusal}
-use Rattle.refutation.specs.Refutation.{IsAccepted}
-use Rattle.refutation.specs.declared.line.Line.{Line}
-use Rattle.refutation_text.specs.Text.{read_refutation}
-use Rattle.refutecheck.specs.Answer.{IsVerdict}
 use Rattle.refutecheck.specs.declared.verdict.Verdict.{Verdict}
 use Rattle.refutecheck.specs.declared.verdict.Verdict.TheVariants as verdict
 use Rattle.rules.specs.Database.{Record}
 use Rattle.rules.specs.Sound.{IsAcceptable}
 use Rattle.rules.specs.Universe.{Universe}
+use Rattle.written_refutation.specs.Judged.{IsWrittenAccepted, IsWrittenVerdict}
+use Rattle.written_refutation.specs.Written.{read_written}
+use Rattle.written_refutation.specs.declared.written.WrittenRefutation.{WrittenRefutation}
 use Rattle.cli_engine.specs.declared.check_refutation.JudgedRefutation.{JudgedRefutation}
 
--- what a refutation is read as
-abbrev pub refutation_of : Found → Result (List Line) Fault
-refutation_of found = read_found (λ text. with_fault fault.Refutation (read_refutation text)) found
+-- what a refutation is read as, whose pairs have numbers or are named
+abbrev pub refutation_of : Found → Result WrittenRefutation Fault
+refutation_of found = read_found (λ text. with_fault fault.Refutation (read_written text)) found
 
 -- the texts have a meaning, and the refutation is refused so
 pub record IsRefutationRefusal (texts : Texts) (refutation : Found) (refused : Refusal) : Type 0 where
@@ -39,10 +38,10 @@ IsFirstRefutationRefusal texts refutation refused = IsRefusal texts refused ⊎ 
 pub record IsRefutationAnswer (texts : Texts) (refutation : Found) (found : Verdict) : Type 0 where
   pub universe : Universe
   pub start : List Record
-  pub lines : List Line
+  pub written : WrittenRefutation
   pub denoted : Denotes texts universe start
-  pub read : refutation_of refutation ≡ Ok lines
-  pub holds : IsVerdict universe lines found
+  pub read : refutation_of refutation ≡ Ok written
+  pub holds : IsWrittenVerdict universe written found
 
 -- no set of admitted pairs is acceptable, over the universe that the texts denote, which is the only one
 pub record AreRefuted (texts : Texts) : Type 0 where
@@ -77,6 +76,6 @@ IsYes said = (judged : JudgedRefutation) × (said ≡ Ok judged) × (judged.verd
 
 -- of a refutation that is read and accepted, over what the texts denote, yes is said, or that memory was wanting
 abbrev pub AcceptedRefutationIsAnswered : Type 0
-AcceptedRefutationIsAnswered = (texts : Texts) (refutation : Found) (u : Universe) (start : List Record) (lines : List Line)
-    (said : Result JudgedRefutation Refusal) → Denotes texts u start → refutation_of refutation ≡ Ok lines → IsAccepted u lines
-    → IsSaidOf texts refutation said → IsYes said ⊎ (said ≡ Err out_of_memory)
+AcceptedRefutationIsAnswered = (texts : Texts) (refutation : Found) (u : Universe) (start : List Record) (written : WrittenRefutation)
+    (said : Result JudgedRefutation Refusal) → Denotes texts u start → refutation_of refutation ≡ Ok written
+    → IsWrittenAccepted u written → IsSaidOf texts refutation said → IsYes said ⊎ (said ≡ Err out_of_memory)

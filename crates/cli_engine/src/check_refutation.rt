@@ -19,10 +19,10 @@ use documents::Members;
 use inputs::{
     Before, Fault, Input, Part, Question, Refusal, Requested, Shelf, read_part, refused_at,
 };
-use refutation::Refutation;
-use refutation_text::{RefutationError, read_refutation};
-use refutecheck::{Verdict, check_refutation};
+use refutation_text::RefutationError;
+use refutecheck::Verdict;
 use std::alloc::Global;
+use written_refutation::{JudgedLines, WrittenRefutation, check_written, read_written};
 
 /// What is answered of a refutation.
 #[derive(Drop)]
@@ -33,38 +33,39 @@ pub struct JudgedRefutation {
     pub members: Option<Members>,
 }
 
-/// Judges the refutation: yes exactly where it is accepted over the universe that the texts denote, and then no set of admitted pairs is
-/// acceptable; else the number of its first bad line; or the first refusal in the order status, sources, indices, preferences, request,
-/// refutation. Judging costs what `refutecheck::check_refutation` says. Sentences on the answer are told, where they are wanted.
+/// Judges the refutation, whose pairs have numbers or are named: yes exactly where it is accepted over the universe that the texts denote,
+/// and then no set of admitted pairs is acceptable; else the number of its first line that is bad or names a pair which isn't admitted; or
+/// the first refusal in the order status, sources, indices, preferences, request, refutation. Judging costs what
+/// `written_refutation::check_written` says. Sentences on the answer are told, where they are wanted.
 #[derive(Clone, Copy)]
 pub struct CheckRefutation {
     /// Whether there is to be a document of the answer, which has the lines of the refutation.
     pub has_document: bool,
 }
 
-// The lines of the refutation with this text.
-fn lines_in(alloc: Global, text: &[u8]) -> Result<Refutation, Fault>
-    ensures ok { IfOk result (λ lines. refutation_of (Some text.now) ≡ Ok lines) }
+// The refutation with this text.
+fn refutation_in(alloc: Global, text: &[u8]) -> Result<WrittenRefutation, Fault>
+    ensures ok { IfOk result (λ written. refutation_of (Some text.now) ≡ Ok written) }
     ensures err { IfErr result (λ f. IsFaultOf (refutation_of (Some text.now)) f) }
     ensures known { IfErr result (λ f. f ≢ fault.Read) }
 {
-    match read_refutation(alloc, text) {
-        Ok(lines) => Ok(lines),
+    match read_written(alloc, text) {
+        Ok(written) => Ok(written),
         Err(RefutationError::Refused(refused)) => Err(Fault::Refutation(refused)),
         Err(RefutationError::OutOfMemory) => Err(Fault::OutOfMemory),
     }
 }
 
-// The lines of the refutation.
-fn read_lines<S: Shelf>(alloc: Global, shelf: &mut S) -> Result<Refutation, Refusal>
-    ensures ok { (at : Shelved) → S.found shelf.old ≡ Some at → IfOk result (λ lines. refutation_of at.judged ≡ Ok lines) }
+// The refutation of the shelf.
+fn read_judged<S: Shelf>(alloc: Global, shelf: &mut S) -> Result<WrittenRefutation, Refusal>
+    ensures ok { (at : Shelved) → S.found shelf.old ≡ Some at → IfOk result (λ written. refutation_of at.judged ≡ Ok written) }
     ensures refused { (at : Shelved) (texts : Texts) (u : UniverseOf) (start : List Record) → S.found shelf.old ≡ Some at
         → Denotes texts u start → IfErr result (λ refused. IsFirstRefutationRefusal texts at.judged refused) }
     ensures read { IsReadBy S.Shelf shelf.old result shelf.new }
 {
     let text = read_part(alloc, shelf, Part::Judged, Input::Refutation)?;
-    match lines_in(alloc, text.as_slice()) {
-        Ok(lines) => Ok(lines),
+    match refutation_in(alloc, text.as_slice()) {
+        Ok(written) => Ok(written),
         Err(fault) => Err(refused_at(Input::Refutation, fault)),
     }
 }
@@ -90,14 +91,14 @@ impl Question for CheckRefutation {
             universe,
             asks_all_versions,
         } = read_asked(alloc, shelf, before, notes)?;
-        let refutation = read_lines(alloc, shelf)?;
-        let verdict = check_refutation(alloc, &universe, &refutation)?;
-        let members = members_of(alloc, &universe, &refutation, self.has_document)?;
+        let written = read_judged(alloc, shelf)?;
+        let JudgedLines { verdict, numbered } = check_written(alloc, &universe, written)?;
+        let members = members_of(alloc, &universe, &numbered.lines, self.has_document)?;
         tell_accepted(
             alloc,
             &universe,
             before.indices,
-            &refutation,
+            &numbered,
             verdict,
             asks_all_versions,
             notes,

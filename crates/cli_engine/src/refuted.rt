@@ -16,6 +16,35 @@ use rules::Verdict;
 use solver::Solved;
 use std::alloc::{AllocError, Global};
 use universe::Universe;
+use written_refutation::{Missing, NumberedLines};
+
+// The sentence on a line that names a pair which isn't admitted.
+fn missing_sentence(alloc: Global, missing: &Missing) -> Result<Vec<u8>, AllocError> {
+    let line = missing.line;
+    let mut text = format!(in alloc; "Line {line} names ")?.into_bytes();
+    text.extend_from_slice(missing.pair.name.as_bytes())?;
+    text.extend_from_slice(b" ")?;
+    text.extend_from_slice(missing.pair.version.as_bytes())?;
+    text.extend_from_slice(b", which isn't admitted.\n")?;
+    Ok(text)
+}
+
+// Tells which pair that a refutation names isn't admitted, where that is wanted. Memory alone can fail.
+fn tell_missing(
+    alloc: Global,
+    missing: Option<&Missing>,
+    notes: &mut Notes,
+) -> Result<(), AllocError>
+    ensures unasked { notes.old.wanted ≡ false → notes.new ≡ notes.old }
+{
+    match missing {
+        Some(missing) if notes.wanted => {
+            let text = missing_sentence(alloc, missing)?;
+            notes.add(text.as_slice())
+        }
+        _ => Ok(()),
+    }
+}
 
 // Tells a sentence for each premise of a core of the refutation, where that is wanted. Memory alone can fail.
 fn tell_refuted(
@@ -39,12 +68,13 @@ fn tell_refuted(
     notes.add(text.as_slice())
 }
 
-/// Tells the reasons of a refutation with this verdict, if it is accepted, where that is wanted. Memory alone can fail.
+/// Tells the reasons of a refutation with this verdict, if it is accepted, and else which pair it names that isn't admitted, where that is
+/// wanted. Memory alone can fail.
 pub(crate) fn tell_accepted(
     alloc: Global,
     universe: &Universe<'_, '_>,
     indices: &[Index<'_>],
-    refutation: &Refutation,
+    numbered: &NumberedLines,
     verdict: RefutationVerdict,
     asks_all_versions: bool,
     notes: &mut Notes,
@@ -58,11 +88,11 @@ pub(crate) fn tell_accepted(
             alloc,
             universe,
             indices,
-            refutation,
+            &numbered.lines,
             asks_all_versions,
             notes,
         ),
-        RefutationVerdict::No(_) => Ok(()),
+        RefutationVerdict::No(_) => tell_missing(alloc, numbered.missing.as_ref(), notes),
     }
 }
 

@@ -9,13 +9,13 @@ use Rattle.inputs.specs.Texts.{Texts}
 use Rattle.inputs.specs.declared.refusal.Refusal.{Refusal}
 use Rattle.part.specs.Premises.{LeavesChoice}
 use Rattle.refutation.specs.declared.line.Line.{Line}
-use Rattle.refutation_text.specs.Text.{refutation_text}
 use Rattle.rules.specs.Available.{Index}
 use Rattle.rules.specs.Database.{Record}
 use Rattle.rules.specs.Sound.{IsAcceptable}
 use Rattle.rules.specs.Step.{IndexPackage}
 use Rattle.rules.specs.Universe.{Universe}
 use Rattle.solver.specs.Solved.{IsShownBy}
+use Rattle.written_refutation.specs.Written.{naming_text}
 use Rattle.installable.specs.Asked.{AreAsked, first_missing, unknown_name}
 use Rattle.installable.specs.Essential.{essential_names}
 use Rattle.installable.specs.RequestText.{lines_beside, request_of}
@@ -25,10 +25,10 @@ use Rattle.installable.specs.declared.answer.PackageAnswer.{PackageAnswer}
 use Rattle.installable.specs.declared.answer.Surveyed.{Surveyed}
 use Rattle.installable.specs.declared.question.Installable.{Installable}
 
--- it is the text of lines that are accepted and can be written, and no selection is acceptable
+-- it is the text of lines that are accepted and can be written, with the pairs of the universe named, and no selection is acceptable
 pub record IsBroken (u : Universe) (text : List ℕ) : Type 0 where
   pub lines : List Line
-  pub text_is : text ≡ refutation_text lines
+  pub text_is : text ≡ naming_text u.pairs lines
   pub shown : IsShownBy u lines
   pub none : (selection : ℕ → Bool) → ¬ IsAcceptable u selection
 

@@ -6,7 +6,7 @@ use rules::{Items, Text};
 pub struct Refuted {
     /// The request.
     pub request: Items<u8>,
-    /// The refutation, which is accepted.
+    /// The refutation, which is accepted: its pairs are named.
     pub refutation: Items<u8>,
 }
 

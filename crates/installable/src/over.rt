@@ -4,7 +4,6 @@ ghost use Rattle.inputs.specs.ReadAs.{AreReadAs, IsListed, IsOver, asking};
 ghost use Rattle.inputs.specs.Refused.{IsRefusal};
 ghost use Rattle.inputs.specs.Texts.{Texts};
 ghost use Rattle.inputs.specs.declared.refusal.Fault.TheVariants as fault;
-ghost use Rattle.rules.specs.Universe.{Universe as UniverseOf};
 ghost use Rattle.solver.specs.Decided.{IsDecided};
 ghost use Rattle.installable.specs.Answers.{HasRequest, IsAnsweredBy, IsInstallability, IsPackageAnswer};
 ghost use Rattle.installable.specs.RequestText.{request_of};
@@ -13,22 +12,27 @@ use crate::answer::{Installability, PackageAnswer, Refuted};
 use crate::asked::Stanza;
 use crate::request_text::request_of;
 use inputs::{Before, Refusal, requested_in};
-use refutation_text::write_refutation;
 use rules::{Items, Text};
 use solver::{Decided, decide};
 use std::alloc::{AllocError, Global};
 use universe::Universe;
 use universe_build::Listing;
+use written_refutation::write_naming;
 
-// What is answered to the request with this text where it is decided so.
-fn told(alloc: Global, request: &[u8], decided: Decided) -> Result<Installability, AllocError>
-    ensures said { (u : UniverseOf) (limit : ℕ) → IsDecided u limit decided → IfOk result (IsInstallability u limit) }
+// What is answered to the request of the universe where it is decided so and this is its text. Memory alone can fail.
+fn told(
+    alloc: Global,
+    universe: &Universe<'_, '_>,
+    request: &[u8],
+    decided: Decided,
+) -> Result<Installability, AllocError>
+    ensures said { (limit : ℕ) → IsDecided universe.now limit decided → IfOk result (IsInstallability universe.now limit) }
     ensures kept { IfOk result (HasRequest request.now) }
 {
     match decided {
         Decided::Selection(_) => Ok(Installability::Installable),
         Decided::Refuted(refutation) => {
-            let text = write_refutation(alloc, &refutation)?;
+            let text = write_naming(alloc, universe, &refutation)?;
             Ok(Installability::Broken(Refuted {
                 request: Items::new(request.to_vec(alloc)?),
                 refutation: Items::new(text),
@@ -53,7 +57,7 @@ fn installability_over(
 {
     let _before = before;
     let decided = decide(alloc, universe, limit)?;
-    told(alloc, request, decided)
+    told(alloc, universe, request, decided)
 }
 
 /// Whether the request with this text can be met, over what is read before it. It costs what `inputs::requested_in` and `solver::decide`

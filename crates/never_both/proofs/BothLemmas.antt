@@ -7,7 +7,6 @@ use Rattle.std.proofs.lemmas.List.Elements.{All-contains}
 use Rattle.std.proofs.lemmas.Option.{same_Some}
 use Rattle.candidates.specs.Inputs.{inputs_of}
 use Rattle.plain.proofs.MemberLemmas.{universe_is_counted}
-use Rattle.refutation.specs.Refutation.{IsAccepted}
 use Rattle.rules.specs.Available.{Inputs, all_listed, counting_package, index_package, is_of, same_version, standing_record}
 use Rattle.rules.specs.Database.{Record, Stands, pkg_of, stands}
 use Rattle.rules.specs.ElementLaws.{All-intro, Contains-head, Contains-rest}
@@ -18,6 +17,7 @@ use Rattle.rules.proofs.VerdictLemmas.{universe_is_built}
 use Rattle.inputs.specs.Meaning.{asked_of}
 use Rattle.inputs.proofs.DistinctLemmas.{distinct_start}
 use Rattle.inputs.proofs.MeaningLemmas.{one_meaning}
+use Rattle.written_refutation.specs.Judged.{IsWrittenAccepted, lines_of}
 use Rattle.never_both.proofs.SelectionLemmas.{good_plan_is_not_refuted, is_of-true}
 use Rattle.never_both.specs.Both.{HasNoOtherRelations, HasOneRelationsEach, NeverBothYes}
 
@@ -95,8 +95,8 @@ never_both texts plan refutation agree answer refuted =
     let is : IsUniverse inputs answer.universe = answer.denoted.requested.built.universe in
     let distinct = distinct_start texts answer.start answer.denoted.read.listed.started in
     let one = one_meaning texts refuted.universe answer.universe refuted.start answer.start refuted.denoted answer.denoted in
-    let accepted : IsAccepted answer.universe refuted.lines = subst (λ (v : Universe). IsAccepted v refuted.lines) one.0 refuted.holds in
-    good_plan_is_not_refuted answer.universe answer.start answer.steps refuted.lines
+    let accepted = subst (λ (v : Universe). IsWrittenAccepted v refuted.written) one.0 refuted.holds in
+    good_plan_is_not_refuted answer.universe answer.start answer.steps (lines_of answer.universe.pairs refuted.written).lines
     (universe_is_built inputs answer.universe distinct is) (universe_is_counted inputs answer.universe distinct is)
     (stanzas_agree inputs answer.universe is (agree answer.start answer.denoted.indices answer.denoted.read.listed))
-    answer.holds accepted
+    answer.holds accepted.accepted

@@ -6,4 +6,4 @@ pub decide-requires : goal.decide-requires
 decide-requires c = over_is_decidable c.args.before.now c.args.universe.now c.requires
 
 pub returns-clause-said : goal.returns-clause-said
-returns-clause-said c = c.told.ensures.said c.args.universe.now c.args.limit c.in_ok-decided.ensures
+returns-clause-said c = c.told.ensures.said c.args.limit c.in_ok-decided.ensures
