@@ -18,6 +18,8 @@ INDICES = FILES[-1]
 # The files that stand beside these folders, the last of which is written last: where it is there, the report is whole.
 SURVEY, WHEN = "survey", "when"
 REFUSED = (3, 4, 5)
+# The first line of a refutation whose pairs are named, which may have lines for indices behind it.
+NAMED = "refutation 2"
 # What check-refutation says of a refutation, its sentences, and the relations at which the package fails.
 Verdict = namedtuple("Verdict", "said sentences relations")
 # An index: the SHA256 of its file, and its release keys and its path as the sources file has them.
@@ -124,7 +126,9 @@ def write_report(asking, survey, when, folder, report, count):
         report.mkdir(parents=True, exist_ok=True)
         for line, verdict in zip(broken, each(count, lambda line: judged_of(asking, folder, line), broken)):
             stanza = {"stanza": stanzas[surveys.key_of(line)]} if line.version else {}
-            write_folder(report / surveys.file_name(line), pathlib.Path(folder, surveys.file_name(line)), verdict, {**texts, **stanza})
+            files = pathlib.Path(folder, surveys.file_name(line))
+            refutation = with_indices(read(f"{files}.{FILES[1]}"), indices)
+            write_folder(report / files.name, files, verdict, {FILES[1]: refutation, **texts, **stanza})
         write_texts(report, {**texts, WHEN: f"{when}\n", SURVEY: survey.text()})
     except OSError as error:
         raise Failure(f"{report}: the report isn't whole: {error.filename}: {error.strerror}", REFUSED[-1]) from None
@@ -146,13 +150,19 @@ def stanzas_of(paths, lines, arch):
     return found
 
 
+def with_indices(refutation, indices):
+    """A refutation with lines for the indices that it is about (docs/FORMATS.md, section 10)."""
+    head, _, lines = refutation.partition("\n")
+    return f"{head}\n" + "".join(f"index {index.sum} {index.path}\n" for index in indices) + lines if head == NAMED else refutation
+
+
 def write_folder(folder, files, verdict, more):
-    """Writes the folder of a package from the files of its request and its refutation, the verdict, and other texts."""
+    """Writes the folder of a package from the file of its request, the verdict, and other texts."""
     if verdict.said != "yes":
         raise Failure(f"{files}.refutation: {verdict.said}")
     folder.mkdir()
     relations = "".join("\t".join(relation) + "\n" for relation in verdict.relations)
-    write_texts(folder, {**{kind: read(f"{files}.{kind}") for kind in FILES[:2]}, "relations": relations,
+    write_texts(folder, {FILES[0]: read(f"{files}.{FILES[0]}"), "relations": relations,
                          "sentences": "".join(f"{it}\n" for it in verdict.sentences), **more})
 
 
