@@ -16,14 +16,14 @@ def simulation(folder, name):
     return ["apt-get", "-s", "-o", f"Dir::State::status={status}", "--no-install-recommends", "install", name]
 
 
-def measured(command):
-    """The wall time of a process in milliseconds, its peak memory in MiB, and what it prints."""
+def measured(command, statuses=(0,)):
+    """The wall time of a process in milliseconds, its peak memory in MiB, and what it prints. It has to end with one of these statuses."""
     start = time.perf_counter()
     process = subprocess.Popen(command, stdout=subprocess.PIPE)
     printed = process.stdout.read().decode()
     _, status, usage = os.wait4(process.pid, 0)
     wall = time.perf_counter() - start
-    if status != 0:
+    if os.waitstatus_to_exitcode(status) not in statuses:
         sys.exit(f"{sys.argv[0]}: {command[0]} ended with status {os.waitstatus_to_exitcode(status)}: {printed}")
     return wall * 1000, usage.ru_maxrss / 1024, printed
 
