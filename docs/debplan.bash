@@ -18,7 +18,7 @@ _debplan()
             COMPREPLY=($(compgen -f -- "$word"))
             return
             ;;
-        --arch | --goal | --limit | --shard | --target)
+        --arch | --goal | --limit | --refutation-format | --shard | --target)
             return
             ;;
         --format)
@@ -34,7 +34,7 @@ _debplan()
             COMPREPLY=($(compgen -W "--arch --status --sources --preferences --target --explain --format --help" -- "$word"))
             ;;
         solve)
-            COMPREPLY=($(compgen -W "--arch --status --sources --preferences --target --request --goal --limit --keep-back --request-out --explain --format --help" -- "$word"))
+            COMPREPLY=($(compgen -W "--arch --status --sources --preferences --target --request --goal --limit --keep-back --request-out --refutation-format --explain --format --help" -- "$word"))
             ;;
         check-plan)
             COMPREPLY=($(compgen -W "--arch --status --sources --preferences --target --request --goal --explain --format --help" -- "$word"))
@@ -49,7 +49,7 @@ _debplan()
             COMPREPLY+=($(compgen -f -- "$word"))
             ;;
         installable)
-            COMPREPLY=($(compgen -W "--arch --status --sources --preferences --target --all-versions --without-essential --shard --limit --refutations --help" -- "$word"))
+            COMPREPLY=($(compgen -W "--arch --status --sources --preferences --target --all-versions --without-essential --shard --limit --refutations --explain --format --help" -- "$word"))
             ;;
         help)
             COMPREPLY=($(compgen -W "compare candidate solve check-plan check-refutation apply installable" -- "$word"))

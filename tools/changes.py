@@ -6,7 +6,7 @@ import re
 import common
 
 # A list among the sentences on a plan, and a package in it with the reason behind it.
-LIST = re.compile(r"(New|Upgraded|Downgraded|Removed|Purged|Deconfigured|Broken before, mended|Broken before, removed): (.*)")
+LIST = re.compile(r"(New|Upgraded|Downgraded|Removed|Purged|Deconfigured|Older than the candidate|Broken before, mended|Broken before, removed): (.*)")
 PACKAGE = re.compile(r"(\S+) \S+ \((.*)\)")
 ASKED = re.compile(r"asked for by goal \d+")
 UNITS = ("", "k", "M", "G", "T")

@@ -100,6 +100,46 @@ def of_answer(kind, judged, text, found):
         yield from of_steps(found, text) if found["answer"] == "plan" else of_lines(found, text)
 
 
+def survey_line(found):
+    """The line of `installable` that the object of a package, of the base or of the counts stands for."""
+    if "counts" in found:
+        counts = found["counts"]
+        undecided = f", undecided {counts['undecided']}" if counts["undecided"] else ""
+        return f"checked {counts['checked']}, broken {counts['broken']}{undecided}\n"
+    return " ".join([found["answer"], *(["base"] if found["name"] is None else [found["name"], found["version"]])]) + "\n"
+
+
+def of_survey_line(line):
+    """What is wrong with a line of `installable` as JSON, and its object, if it is one."""
+    found, wrong = read(line)
+    if found is not None:
+        if survey_line(found) != found.get("text"):
+            wrong.append("the members aren't those of the line")
+        if found["answer"] == "broken" and not ("request" in found and found["refutation"].startswith("refutation 2\n")):
+            wrong.append("a refutation or its request is missing")
+    return found, wrong
+
+
+def survey_faults(plain, document):
+    """What is wrong with the lines of `installable` as JSON texts, beside those that it printed."""
+    told = [of_survey_line(line) for line in document.splitlines(keepends=True)]
+    for _, wrong in told:
+        yield from wrong
+    if "".join(found.get("text", "") for found, _ in told if found) != plain.decode("utf-8", "replace"):
+        yield "its texts aren't what is printed in lines"
+
+
+def read(line):
+    """The object of a document, if it is JSON, and what is wrong with how it is written."""
+    try:
+        found = json.loads(line)
+    except ValueError as error:
+        return None, [f"it is no JSON: {error}"]
+    if (json.dumps(found, ensure_ascii=False, separators=(",", ":"), sort_keys=True) + "\n").encode() != line:
+        return found, ["it isn't one line, has spaces or another order of members, or a member twice"]
+    return found, []
+
+
 def faults(kind, judged, plain, document):
     """What is wrong with what a command of this kind printed as a document, by its exit status, standard output and standard error,
     beside what it printed in lines. What it judges is this text."""
@@ -109,13 +149,13 @@ def faults(kind, judged, plain, document):
         if document[1]:
             yield "a document stands beside no answer"
         return
-    try:
-        found = json.loads(document[1])
-    except ValueError as error:
-        yield f"it is no JSON: {error}"
+    if kind == "installable":
+        yield from survey_faults(plain[1], document[1])
         return
-    if (json.dumps(found, ensure_ascii=False, separators=(",", ":"), sort_keys=True) + "\n").encode() != document[1]:
-        yield "it isn't one line, has spaces or another order of members, or a member twice"
+    found, wrong = read(document[1])
+    yield from wrong
+    if found is None:
+        return
     if found.get("text") != plain[1].decode("utf-8", "replace"):
         yield "its text isn't what is printed in lines"
     try:

@@ -42,7 +42,7 @@ stored_records (Recorded entry ∷ slots) = ap (λ later. entry.found ∷ later)
 -- an unpacking takes the package of a stanza, and whether it is essential
 unpack_alike : (listed other : IndexPackage) (db : List Record) → listed.pkg ≡ other.pkg → listed.is_essential ≡ other.is_essential
     → after_unpack listed db ≡ after_unpack other db
-unpack_alike listed other db pkg essential = λ i. after_unpack (record { pkg = pkg i; is_essential = essential i; place = other.place }) db
+unpack_alike listed other db pkg essential = λ i. after_unpack (record { pkg = pkg i; is_essential = essential i; says_essential = other.says_essential; place = other.place }) db
 
 -- what is handed in leaves what the rules' stanza leaves
 left_alike : (listed : Option IndexPackage) (indexed : Option IndexStanza) (taken : Step) (db : List Record) → IsStanzaOf listed indexed

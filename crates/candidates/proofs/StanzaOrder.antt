@@ -61,7 +61,7 @@ ties_is_of sought place =
 
 -- a stanza of the version, where nothing else counts
 abbrev pub bare : Pkg → IndexPackage
-bare pkg = record { pkg = pkg; is_essential = true; place = record { index = 1; stanza = 1 } }
+bare pkg = record { pkg = pkg; is_essential = true; says_essential = true; place = record { index = 1; stanza = 1 } }
 
 -- a stable sort keeps the places of a version as they were
 pub AreSorted-from_sort : (places sorted : List Place) → IsSorted place_cmp sorted → IsStable place_cmp places sorted

@@ -23,7 +23,7 @@ IsUnready said = ⊤
 abbrev pub WritesNothing : Asked → Type 0
 WritesNothing (ask.solve given request limit extent explains written) = ⊥
 WritesNothing (ask.apply given request plan journal output) = ⊥
-WritesNothing (ask.installable given survey folder) = ⊥
+WritesNothing (ask.installable given survey folder explains written) = ⊥
 WritesNothing asked = ⊤
 
 module _ {J E : Type 0} (at : Files) (was : Kept J) (files : Option Files) (kept : Option (Kept J)) where
@@ -74,7 +74,7 @@ module _ {J E : Type 0} (at : Files) (was : Kept J) (files : Option Files) (kept
       all_left (IsOutcomeOfAsked at (ask.check_refutation given request refutation explains written))
       (IsLeftOfAsked honest facts (ask.check_refutation given request refutation explains written) at was) (λ found is still. (is, still)) r says same
   nothing_left honest facts (ask.apply given request plan journal output) quiet r says same = absurd quiet
-  nothing_left honest facts (ask.installable given survey folder) quiet r says same = absurd quiet
+  nothing_left honest facts (ask.installable given survey folder explains written) quiet r says same = absurd quiet
 
   -- behind a plan that isn't good nothing is changed
   pub unready_left : (honest : J → Type 0) (facts : J → DiskFacts) (said : Result Prepared Refusal) (journal output : List ℕ) → IsUnready said

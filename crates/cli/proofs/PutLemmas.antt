@@ -5,6 +5,7 @@ use Rattle.cli.specs.Kept.{Kept, NotesPut, Untouched}
 use Rattle.cli.specs.Leaving.{IsLeftWith}
 use Rattle.cli.specs.Packages.{ArePut, IsLeftOfFile, IsLeftOfFiles, IsLeftOfSurveyIn, IsPutOutcome, IsStopped, IsToldOfFile, IsToldOfFiles, IsUnwritten, files_of_survey}
 use Rattle.cli.specs.declared.refutations.Placed.{Placed}
+use Rattle.command_line.specs.declared.call.Format.{Format}
 use Rattle.installable.specs.declared.answer.Surveyed.{Surveyed}
 use Rattle.outcomes.specs.Survey.{IsFileUnwritten}
 use Rattle.outcomes.specs.declared.exit.Exit.TheVariants as exit
@@ -85,11 +86,11 @@ module _ {J : Type 0} where
       (let e : Some other ≡ Some found = is in cc) left
 
   -- where memory was wanting for a file, as much is left as where it couldn't be written
-  pub stopped_left : {E : Type 0} (folder : List ℕ) (surveyed : Surveyed) (at : Files) (was : Kept J) (files : Option Files)
+  pub stopped_left : {E : Type 0} (folder : List ℕ) (written : Format) (surveyed : Surveyed) (at : Files) (was : Kept J) (files : Option Files)
       (kept : Option (Kept J)) (r : Result Outcome E) → IsErr r → IsStopped (files_of_survey folder surveyed) at was files kept
-      → IsLeftWith (IsLeftOfSurveyIn (Some folder) (Ok surveyed) at was) at was r files kept
-  stopped_left {E} folder surveyed at was files kept (Ok found) is stopped = absurd (let e : IsErr {E = E} (Ok found) = is in cc)
-  stopped_left folder surveyed at was files kept (Err e) is stopped =
+      → IsLeftWith (IsLeftOfSurveyIn (Some folder) written (Ok surveyed) at was) at was r files kept
+  stopped_left {E} folder written surveyed at was files kept (Ok found) is stopped = absurd (let e : IsErr {E = E} (Ok found) = is in cc)
+  stopped_left folder written surveyed at was files kept (Err e) is stopped =
       inr (outcome.Complaint (codes "debplan: " ++ (stopped.file.path ++ codes ": E26 Write\n")) exit.Device, inr (stopped, refl))
 
 -- what is printed of one file, by what its host answers

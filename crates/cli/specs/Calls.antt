@@ -48,8 +48,8 @@ abbrev pub IsOutcomeOfNames : Texts → List Text → Format → Outcome → Typ
 IsOutcomeOfNames texts names = IsPrintedOf {A = List (Option Offer)} (IsSaidOfNames texts names) (IsOutcomeOfCandidates names)
 
 -- the outcome is that of what is said of the request by the texts
-abbrev pub IsOutcomeOfRequest : Texts → ℕ → Format → Outcome → Type 0
-IsOutcomeOfRequest texts limit = IsPrintedOf {A = Answered} (IsSaidOfRequest texts limit) IsOutcomeOfSolved
+abbrev pub IsOutcomeOfRequest : Texts → ℕ → Bool → Format → Outcome → Type 0
+IsOutcomeOfRequest texts limit names_pairs = IsPrintedOf {A = Answered} (IsSaidOfRequest texts limit names_pairs) IsOutcomeOfSolved
 
 -- the outcome is that of what is said of the plan by the texts
 abbrev pub IsOutcomeOfPlanJudged : Texts → Found → Format → Outcome → Type 0
@@ -66,7 +66,7 @@ IsOutcomeOfVersions version relation other found =
 
 -- the outcome is that of what is said of all of the request, or of as much of it as can be
 abbrev pub IsOutcomeOfExtent : Texts → ℕ → Extent → Format → Outcome → Type 0
-IsOutcomeOfExtent texts limit ask.whole written found = IsOutcomeOfRequest texts limit written found
+IsOutcomeOfExtent texts limit (ask.whole names_pairs) written found = IsOutcomeOfRequest texts limit names_pairs written found
 IsOutcomeOfExtent texts limit (ask.possible output) written found = IsOutcomeOfPossible texts limit output written found
 
 -- the outcome is that of what is said in answer to what is asked for
@@ -82,5 +82,5 @@ IsOutcomeOfAsked files (ask.check_refutation given request refutation explains w
     IsOutcomeOfLines (texts_for files given request) (files refutation) written found
 IsOutcomeOfAsked files (ask.apply given request plan journal output) found =
     IsOutcomeOfPlanTaken (texts_for files given request) (files plan) found
-IsOutcomeOfAsked files (ask.installable given survey folder) found =
-    IsOutcomeOfPackages (texts_for files given (ask.goals [])) survey folder found
+IsOutcomeOfAsked files (ask.installable given survey folder explains written) found =
+    IsOutcomeOfPackages (texts_for files given (ask.goals [])) survey folder written found

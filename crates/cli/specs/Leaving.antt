@@ -121,7 +121,8 @@ IsLeftOfPossible texts limit output written at was found files kept =
 
 -- all of the request changes nothing; as much of it as can be leaves its request
 abbrev pub IsLeftOfExtent : {J : Type 0} → Texts → ℕ → Extent → Format → Files → Kept J → Leaving J
-IsLeftOfExtent texts limit ask.whole written at was found files kept = IsOutcomeOfRequest texts limit written found × Untouched at was files kept
+IsLeftOfExtent texts limit (ask.whole names_pairs) written at was found files kept =
+    IsOutcomeOfRequest texts limit names_pairs written found × Untouched at was files kept
 IsLeftOfExtent texts limit (ask.possible output) written at was found files kept =
     IsLeftOfPossible texts limit output written at was found files kept
 
@@ -132,6 +133,6 @@ IsLeftOfAsked honest facts (ask.solve given request limit extent explains writte
     IsLeftOfExtent (texts_for at given request) limit extent written at was found files kept
 IsLeftOfAsked honest facts (ask.apply given request plan journal output) at was found files kept =
     IsLeftOfPlanTaken honest facts (texts_for at given request) (at plan) (paths_for given request plan) journal output at was found files kept
-IsLeftOfAsked honest facts (ask.installable given survey folder) at was found files kept =
-    IsLeftOfPackages (texts_for at given (ask.goals [])) survey folder at was found files kept
+IsLeftOfAsked honest facts (ask.installable given survey folder explains written) at was found files kept =
+    IsLeftOfPackages (texts_for at given (ask.goals [])) survey folder written at was found files kept
 IsLeftOfAsked honest facts asked at was found files kept = IsOutcomeOfAsked at asked found × Untouched at was files kept

@@ -5,6 +5,7 @@ use Rattle.cli.specs.Files.{Files, HasPut}
 use Rattle.cli.specs.Kept.{IsNoted, Kept, Untouched}
 use Rattle.cli.specs.declared.refutations.Placed.{Placed}
 use Rattle.command_line.specs.Asked.{Survey}
+use Rattle.command_line.specs.declared.call.Format.{Format}
 use Rattle.command_line.specs.declared.call.Shard.{Shard as ShardWords}
 use Rattle.inputs.specs.Texts.{Texts}
 use Rattle.inputs.specs.declared.refusal.Refusal.{Refusal}
@@ -110,24 +111,27 @@ IsLeftOfFiles all at was (Err e) files kept = IsStopped all at was files kept
 -- What is printed and left
 
 -- the outcome is that of what is said, or that a file in the folder couldn't be written
-abbrev pub IsOutcomeOfSurveyIn : Option (List ℕ) → Result Surveyed Refusal → Outcome → Type 0
-IsOutcomeOfSurveyIn None said found = IsOutcomeOfSurvey said found
-IsOutcomeOfSurveyIn (Some folder) said found = IsOutcomeOfSurvey said found ⊎ ((path : List ℕ) × IsFileUnwritten path found)
+abbrev pub IsOutcomeOfSurveyIn : Option (List ℕ) → Format → Result Surveyed Refusal → Outcome → Type 0
+IsOutcomeOfSurveyIn None written said found = IsOutcomeOfSurvey written said found
+IsOutcomeOfSurveyIn (Some folder) written said found = IsOutcomeOfSurvey written said found ⊎ ((path : List ℕ) × IsFileUnwritten path found)
 
--- the outcome is that of what is said of the packages that the words ask about, by the texts
-abbrev pub IsOutcomeOfPackages : Texts → Survey → Option (List ℕ) → Outcome → Type 0
-IsOutcomeOfPackages texts survey folder found = (said : Result Surveyed Refusal) × IsSaidOfSurvey texts survey said × IsOutcomeOfSurveyIn folder said found
+-- the outcome is that of what is said of the packages that the words ask about, by the texts, in this format
+abbrev pub IsOutcomeOfPackages : Texts → Survey → Option (List ℕ) → Format → Outcome → Type 0
+IsOutcomeOfPackages texts survey folder written found =
+    (said : Result Surveyed Refusal) × IsSaidOfSurvey texts survey said × IsOutcomeOfSurveyIn folder written said found
 
 -- where there is a folder, the files of what is said were put and it is printed; or one of them couldn't be written, which is printed, and
 -- those before it were put; else nothing is changed
-abbrev pub IsLeftOfSurveyIn : {J : Type 0} → Option (List ℕ) → Result Surveyed Refusal → Files → Kept J → Outcome → Option Files → Option (Kept J) → Type 0
-IsLeftOfSurveyIn None said at was found files kept = IsOutcomeOfSurvey said found × Untouched at was files kept
-IsLeftOfSurveyIn (Some folder) (Err refused) at was found files kept = IsOutcomeOfRefusal refused found × Untouched at was files kept
-IsLeftOfSurveyIn (Some folder) (Ok surveyed) at was found files kept =
-    (IsOutcomeOfSurvey (Ok surveyed) found × ArePut (files_of_survey folder surveyed) at was files kept)
+abbrev pub IsLeftOfSurveyIn : {J : Type 0} → Option (List ℕ) → Format → Result Surveyed Refusal → Files → Kept J
+    → Outcome → Option Files → Option (Kept J) → Type 0
+IsLeftOfSurveyIn None written said at was found files kept = IsOutcomeOfSurvey written said found × Untouched at was files kept
+IsLeftOfSurveyIn (Some folder) written (Err refused) at was found files kept = IsOutcomeOfRefusal refused found × Untouched at was files kept
+IsLeftOfSurveyIn (Some folder) written (Ok surveyed) at was found files kept =
+    (IsOutcomeOfSurvey written (Ok surveyed) found × ArePut (files_of_survey folder surveyed) at was files kept)
     ⊎ ((stopped : IsStopped (files_of_survey folder surveyed) at was files kept) × IsFileUnwritten stopped.file.path found)
 
 -- what is left is that of what is said of the packages that the words ask about, by the texts
-abbrev pub IsLeftOfPackages : {J : Type 0} → Texts → Survey → Option (List ℕ) → Files → Kept J → Outcome → Option Files → Option (Kept J) → Type 0
-IsLeftOfPackages texts survey folder at was found files kept =
-    (said : Result Surveyed Refusal) × IsSaidOfSurvey texts survey said × IsLeftOfSurveyIn folder said at was found files kept
+abbrev pub IsLeftOfPackages : {J : Type 0} → Texts → Survey → Option (List ℕ) → Format → Files → Kept J
+    → Outcome → Option Files → Option (Kept J) → Type 0
+IsLeftOfPackages texts survey folder written at was found files kept =
+    (said : Result Surveyed Refusal) × IsSaidOfSurvey texts survey said × IsLeftOfSurveyIn folder written said at was found files kept

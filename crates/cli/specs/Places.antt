@@ -42,7 +42,7 @@ goals_by (ask.solve given request limit extent explains written) = goal_lines re
 goals_by (ask.check_plan given request plan explains written) = goal_lines request
 goals_by (ask.check_refutation given request refutation explains written) = goal_lines request
 goals_by (ask.apply given request plan journal output) = goal_lines request
-goals_by (ask.installable given survey folder) = []
+goals_by (ask.installable given survey folder explains written) = []
 
 -- the path of a file that isn't standard input: of `-` the file of that name
 abbrev pub file_path : Text → Text

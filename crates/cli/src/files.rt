@@ -8,7 +8,7 @@ ghost use Rattle.inputs.specs.Texts.{part_of, texts_of};
 ghost use Rattle.inputs.specs.declared.shelf.ReadError.TheVariants as ReadError;
 
 use crate::host::{Host, Turn};
-use inputs::{Part, Question, ReadError, Refusal, Settings, Shelf, ask};
+use inputs::{Part, Progress, Question, ReadError, Refusal, Settings, Shelf, ask};
 use std::alloc::{AllocError, Global};
 
 /// Where a text is.
@@ -217,6 +217,10 @@ impl<'h, 's, 'a, H: Host> Shelf for HostShelf<'h, 's, 'a, H> {
 
     fn close(&mut self, text: H::Text) {
         self.host.close(text)
+    }
+
+    fn show(&mut self, progress: Progress) {
+        self.host.show(progress)
     }
 
     ghost holds_still = { λ _. (refl, refl, refl) };

@@ -5,7 +5,7 @@ ghost use Rattle.cli.specs.Kept.{Finishes, GivesBack, Kept, Lends, NotesPut};
 ghost use Rattle.inputs.specs.Counting.{Counts};
 
 use disk::Disk;
-use inputs::{ReadError, Source};
+use inputs::{Progress, ReadError, Source};
 use std::alloc::{AllocError, Global};
 
 /// Why a text wasn't put in a file's place.
@@ -110,6 +110,13 @@ pub trait Host {
     /// Whether the paths lead to one file.
     fn is_same_file(&self, left: &[u8], right: &[u8]) -> bool
         ensures { (at : Files) → files self.now ≡ Some at → IsTrue result ↔ left.now ≡ right.now };
+
+    /// Shows a person on standard error how far an answer is, where one looks on. Nothing is promised of what is shown.
+    fn show(&mut self, _progress: Progress)
+        ensures same { files self.new ≡ files self.old }
+        ensures keeps { kept self.new ≡ kept self.old }
+        ensures count { faults self.new ≡ faults self.old }
+    {}
 
     /// Why the file at the path can't be read, in the words of the system, or nothing where it can be or that isn't known. It is for a
     /// person to read, and nothing is promised of it.

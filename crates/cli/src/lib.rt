@@ -23,6 +23,6 @@ mod versions;
 
 pub use files::{HostShelf, Openings, Paths, Seen, TextAt, ask_files};
 pub use host::{Host, PutError, Turn};
-pub use inputs::{ReadError, ReadFailed, Settings, Source};
+pub use inputs::{Progress, ReadError, ReadFailed, Settings, Source};
 pub use outcomes::refuse_for_memory;
 pub use program::run;

@@ -9,12 +9,15 @@ ghost use Rattle.command_line.specs.Asked.{survey_by};
 ghost use Rattle.installable.specs.Answers.{IsSaidOfPackages};
 
 use crate::arguments::Arguments;
+use crate::asking::{is_document, seen_if};
 use crate::files::{HostShelf, Openings, ask_files};
 use crate::host::Host;
 use crate::refutations::{files_of_survey, put_files};
-use command_line::{Shard as ShardWords, Survey};
+use crate::told::tell_refusal;
+use cli_engine::Notes;
+use command_line::{Format, Shard as ShardWords, Survey};
 use inputs::Refusal;
-use installable::{Installable, Shard, Surveyed};
+use installable::{Installability, Installable, PackageAnswer, Shard, Surveyed};
 use outcomes::{Outcome, outcome_of_refusal, outcome_of_survey, outcome_of_surveyed};
 use std::alloc::{AllocError, Global};
 
@@ -28,8 +31,8 @@ fn shard_of(words: ShardWords) -> Shard
     }
 }
 
-// The question that the words ask.
-fn question_of<'n>(survey: &'n Survey<'n>) -> Installable<'n>
+// The question that the words ask; reasons are wanted where it is explained or its answer is a document.
+fn question_of<'n>(survey: &'n Survey<'n>, arguments: &Arguments<'_>) -> Installable<'n>
     ensures { IsQuestionOf (survey_by survey.now) result }
 {
     Installable {
@@ -38,29 +41,77 @@ fn question_of<'n>(survey: &'n Survey<'n>) -> Installable<'n>
         without_essential: survey.without_essential,
         shard: shard_of(survey.shard),
         limit: survey.limit,
+        explains: arguments.explains || is_document(arguments.format),
     }
 }
 
-// What is said of the packages by the files of the host.
+// What is said of the packages by the files of the host; a refusal is told where sentences are wanted.
 fn said_of_packages<H: Host>(
     alloc: Global,
     host: &mut H,
     arguments: &Arguments<'_>,
     question: &Installable<'_>,
-) -> Result<Surveyed, Refusal>
-    ensures said { (at : Files) → H.files host.old ≡ Some at → IsSaidOfPackages (texts_at at arguments.now) question.now result }
+    notes: &mut Notes,
+) -> Result<Result<Surveyed, Refusal>, AllocError>
+    ensures said { (at : Files) → H.files host.old ≡ Some at
+        → IfOk result (IsSaidOfPackages (texts_at at arguments.now) question.now) }
     ensures same { H.files host.new ≡ H.files host.old }
     ensures keeps { H.kept host.new ≡ H.kept host.old }
 {
-    let Arguments { settings, .. } = *arguments;
-    let mut seen = None;
+    let Arguments {
+        settings,
+        explains,
+        ..
+    } = *arguments;
+    let mut seen = seen_if(alloc, explains);
     let mut shelf = HostShelf {
         host,
         paths: &arguments.paths,
         seen: &mut seen,
         openings: Openings::none(),
     };
-    ask_files(alloc, &mut shelf, &settings, question, &mut ())
+    let said = ask_files(alloc, &mut shelf, &settings, question, &mut ());
+    tell_refusal(alloc, &said, &shelf, notes)?;
+    Ok(said)
+}
+
+// Tells the reasons of a request of this subject, if it is refuted, below a line with the subject.
+fn tell_reasons(
+    subject: &[u8],
+    found: &Installability,
+    notes: &mut Notes,
+) -> Result<(), AllocError> {
+    match found {
+        Installability::Broken(refuted) => {
+            notes.add(subject)?;
+            notes.add(b":\n")?;
+            notes.add(refuted.reasons.as_slice())
+        }
+        _ => Ok(()),
+    }
+}
+
+// Tells the reasons of a package that can't be installed.
+fn tell_package(alloc: Global, found: &PackageAnswer, notes: &mut Notes) -> Result<(), AllocError> {
+    let mut subject = found.name.as_bytes().to_vec(alloc)?;
+    subject.extend_from_slice(b" ")?;
+    subject.extend_from_slice(found.version.as_bytes())?;
+    tell_reasons(subject.as_slice(), &found.installability, notes)
+}
+
+// Tells the reasons of each answer that is a no, in the order of the answers.
+fn tell_survey(
+    alloc: Global,
+    said: &Result<Surveyed, Refusal>,
+    notes: &mut Notes,
+) -> Result<(), AllocError> {
+    if let Ok(surveyed) = said {
+        tell_reasons(b"base", &surveyed.base, notes)?;
+        for found in surveyed.packages.as_slice() {
+            tell_package(alloc, found, notes)?;
+        }
+    }
+    Ok(())
 }
 
 // What is printed of these answers, whose files are put in the folder.
@@ -68,13 +119,14 @@ fn outcome_of_answers<H: Host>(
     alloc: Global,
     host: &mut H,
     folder: &str,
+    format: Format,
     surveyed: &Surveyed,
 ) -> Result<Outcome, AllocError>
-    ensures printed { IfOk result (IsOutcomeOfSurveyIn (Some folder.now) (Ok surveyed.now)) }
+    ensures printed { IfOk result (IsOutcomeOfSurveyIn (Some folder.now) format (Ok surveyed.now)) }
     ensures left { (at : Files) (was : Kept H.Journal) → H.files host.old ≡ Some at → H.kept host.old ≡ Some was → IsLeftWith
-        (IsLeftOfSurveyIn (Some folder.now) (Ok surveyed.now) at was) at was result (H.files host.new) (H.kept host.new) }
+        (IsLeftOfSurveyIn (Some folder.now) format (Ok surveyed.now) at was) at was result (H.files host.new) (H.kept host.new) }
 {
-    let printed = outcome_of_surveyed(alloc, surveyed)?;
+    let printed = outcome_of_surveyed(alloc, format, surveyed)?;
     let files = files_of_survey(alloc, folder, surveyed)?;
     match put_files(alloc, host, files.as_slice())? {
         None => Ok(printed),
@@ -87,14 +139,15 @@ fn outcome_in_folder<H: Host>(
     alloc: Global,
     host: &mut H,
     folder: &str,
+    format: Format,
     said: &Result<Surveyed, Refusal>,
 ) -> Result<Outcome, AllocError>
-    ensures printed { IfOk result (IsOutcomeOfSurveyIn (Some folder.now) said.now) }
+    ensures printed { IfOk result (IsOutcomeOfSurveyIn (Some folder.now) format said.now) }
     ensures left { (at : Files) (was : Kept H.Journal) → H.files host.old ≡ Some at → H.kept host.old ≡ Some was → IsLeftWith
-        (IsLeftOfSurveyIn (Some folder.now) said.now at was) at was result (H.files host.new) (H.kept host.new) }
+        (IsLeftOfSurveyIn (Some folder.now) format said.now at was) at was result (H.files host.new) (H.kept host.new) }
 {
     match said {
-        Ok(surveyed) => outcome_of_answers(alloc, host, folder, surveyed),
+        Ok(surveyed) => outcome_of_answers(alloc, host, folder, format, surveyed),
         Err(refusal) => outcome_of_refusal(alloc, refusal),
     }
 }
@@ -104,16 +157,17 @@ fn outcome_of_said<H: Host>(
     alloc: Global,
     host: &mut H,
     folder: Option<&str>,
+    format: Format,
     said: &Result<Surveyed, Refusal>,
 ) -> Result<Outcome, AllocError>
-    ensures printed { IfOk result (IsOutcomeOfSurveyIn (option_map (λ path. path.now) folder.entry) said.now) }
+    ensures printed { IfOk result (IsOutcomeOfSurveyIn (option_map (λ path. path.now) folder.entry) format said.now) }
     ensures left { (at : Files) (was : Kept H.Journal) → H.files host.old ≡ Some at → H.kept host.old ≡ Some was → IsLeftWith
-        (IsLeftOfSurveyIn (option_map (λ path. path.now) folder.entry) said.now at was)
+        (IsLeftOfSurveyIn (option_map (λ path. path.now) folder.entry) format said.now at was)
         at was result (H.files host.new) (H.kept host.new) }
 {
     match folder {
-        None => outcome_of_survey(alloc, said),
-        Some(folder) => outcome_in_folder(alloc, host, folder, said),
+        None => outcome_of_survey(alloc, format, said),
+        Some(folder) => outcome_in_folder(alloc, host, folder, format, said),
     }
 }
 
@@ -125,14 +179,18 @@ pub(crate) fn outcome_of_packages<H: Host>(
     arguments: &Arguments<'_>,
     survey: &Survey<'_>,
     folder: Option<&str>,
+    notes: &mut Notes,
 ) -> Result<Outcome, AllocError>
     ensures printed { (at : Files) → H.files host.old ≡ Some at → IfOk result (IsOutcomeOfPackages (texts_at at arguments.now)
-        (survey_by survey.now) (option_map (λ path. path.now) folder.entry)) }
+        (survey_by survey.now) (option_map (λ path. path.now) folder.entry) arguments.now.format) }
     ensures left { (at : Files) (was : Kept H.Journal) → H.files host.old ≡ Some at → H.kept host.old ≡ Some was → IsLeftWith
-        (IsLeftOfPackages (texts_at at arguments.now) (survey_by survey.now) (option_map (λ path. path.now) folder.entry) at was)
+        (IsLeftOfPackages (texts_at at arguments.now) (survey_by survey.now) (option_map (λ path. path.now) folder.entry)
+        arguments.now.format at was)
         at was result (H.files host.new) (H.kept host.new) }
 {
-    let question = question_of(survey);
-    let said = said_of_packages(alloc, host, arguments, &question);
-    outcome_of_said(alloc, host, folder, &said)
+    notes.wanted = arguments.explains;
+    let question = question_of(survey, arguments);
+    let said = said_of_packages(alloc, host, arguments, &question, notes)?;
+    tell_survey(alloc, &said, notes)?;
+    outcome_of_said(alloc, host, folder, arguments.format, &said)
 }

@@ -29,7 +29,7 @@ use std::io::Write;
 /// Runs the program on the words of its command line, of which the first is its own name, and gives its exit status.
 /// It opens each file once, at its turn, and none behind a refusal; the sources and the indices of a plan that is written as JSON a
 /// second time, behind the answer, and the indices of a plan that is carried out. It writes nothing but its answer or one refusal, and
-/// where the words ask for them, sentences behind that on standard error; of files nothing but what the words name for it: the journal
+/// where the words ask for them, sentences behind that on standard error, where the host may show how far an answer is; of files nothing but what the words name for it: the journal
 /// and the output of a plan that is carried out, the request that is left of one that is kept back, and in the folder of refutations those
 /// of broken packages and their requests.
 pub fn run<H: Host, W: Write, E: Write>(
@@ -141,9 +141,11 @@ fn outcome_of_call<H: Host>(
             options,
             survey,
             refutations,
+            explains,
+            format,
         } => {
-            let arguments = arguments_by(options, TextAt::Given(&[]), "", false, Format::Text);
-            outcome_of_packages(alloc, host, &arguments, survey, *refutations)
+            let arguments = arguments_by(options, TextAt::Given(&[]), "", *explains, *format);
+            outcome_of_packages(alloc, host, &arguments, survey, *refutations, notes)
         }
         Call::Apply {
             options,
@@ -179,7 +181,9 @@ fn outcome_of_extent<H: Host>(
         at was result (H.files host.new) (H.kept host.new) }
 {
     match extent {
-        Extent::Whole => outcome_of_request(alloc, host, arguments, limit, notes),
+        Extent::Whole { names_pairs } => {
+            outcome_of_request(alloc, host, arguments, limit, *names_pairs, notes)
+        }
         Extent::Possible(output) => {
             outcome_of_possible(alloc, host, arguments, limit, *output, notes)
         }

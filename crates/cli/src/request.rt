@@ -49,10 +49,11 @@ pub(crate) fn outcome_of_request<H: Host>(
     host: &mut H,
     arguments: &Arguments<'_>,
     limit: u32,
+    names_pairs: bool,
     notes: &mut Notes,
 ) -> Result<Outcome, AllocError>
     ensures printed { (at : Files) → H.files host.old ≡ Some at → IfOk result (λ outcome.
-        IsOutcomeOfRequest (texts_at at arguments.now) limit arguments.now.format outcome) }
+        IsOutcomeOfRequest (texts_at at arguments.now) limit names_pairs arguments.now.format outcome) }
     ensures same { H.files host.new ≡ H.files host.old }
     ensures keeps { H.kept host.new ≡ H.kept host.old }
 {
@@ -72,6 +73,7 @@ pub(crate) fn outcome_of_request<H: Host>(
     };
     let question = Solve {
         limit,
+        names_pairs,
         has_document: is_document(format),
     };
     let answer = ask_files(alloc, &mut shelf, &settings, &question, notes);

@@ -4,7 +4,7 @@ ghost use Rattle.std.specs.Prelude.{◌≡◌};
 use crate::files::{HostShelf, Paths, Seen, TextAt};
 use crate::host::Host;
 use cli_engine::{Fault, Input, JudgedPlan, Notes, Refusal, Solved, Undecided};
-use index::IndexFault;
+use index::{IndexFault, SourcesFault};
 use inputs::StatusRefusal;
 use rules::{Reason, Verdict};
 use stanza::StanzaError;
@@ -94,7 +94,9 @@ fn tell_place(
 
 // Tells the path of a file.
 fn tell_file(alloc: Global, name: &str, path: &str, notes: &mut Notes) -> Result<(), AllocError> {
-    notes.add(format!(in alloc; "{name} is {path}.\n")?.as_bytes())
+    notes.add(format!(in alloc; "{name} is ")?.as_bytes())?;
+    tell_printed(alloc, path.as_bytes(), notes)?;
+    notes.add(b".\n")
 }
 
 // Tells the path of a text, which may be that of standard input.
@@ -142,6 +144,7 @@ fn tell_fault(
             notes.add(UNKNOWN_NAME)
         }
         Fault::Status(StatusRefusal::ForeignArchitecture(_)) => notes.add(ONE_ARCHITECTURE),
+        Fault::Sources(SourcesFault::MissingFile(_)) => notes.add(OWN_SOURCES),
         Fault::Index(IndexFault::Stanza(error)) => tell_compressed(*error, seen, notes),
         _ => Ok(()),
     }
@@ -156,7 +159,12 @@ or all-versions. REL is <<, <=, =, >= or >>.
 const UNKNOWN_NAME: &[u8] = b"The package that it names is in no index, and isn't installed.\n";
 
 const ONE_ARCHITECTURE: &[u8] =
-    b"What can be asked about is a status file whose packages are of one architecture and all alone.\n";
+    b"The package is of another architecture than --arch says; dpkg --print-architecture prints that of the machine.
+What can be asked about is a status file whose packages are of one architecture and all alone.
+";
+
+const OWN_SOURCES: &[u8] =
+    b"Each stanza of the sources has a field File, the path of an uncompressed Packages file. apt's own sources are other files.\n";
 
 // The text of the request, as far as it was read.
 fn text_of<'a>(paths: &Paths<'a>, seen: &'a Seen) -> &'a [u8] {

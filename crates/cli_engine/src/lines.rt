@@ -1,12 +1,15 @@
 //! The lines of a refutation, as a document of an answer has them.
 ghost use Rattle.std.specs.Prelude.{◌≡◌, IfOk, is_some};
+ghost use Rattle.cli_engine.specs.Solution.{naming_for};
 
 use crate::solve::Answered;
 use documents::{Members, put_lines};
 use refutation::Refutation;
+use rules::Items;
 use solver::Solved;
 use std::alloc::{AllocError, Global};
 use universe::Universe;
+use written_refutation::write_naming;
 
 /// What a document has of the lines of a refutation, where there is to be one. Costs what `documents::put_lines` costs. Memory alone
 /// can fail.
@@ -26,18 +29,43 @@ pub(crate) fn members_of(
     Ok(Some(members))
 }
 
-/// What is answered where the request of the universe is solved so, with what a document has of the lines of a refutation, where there
-/// is to be one. Memory alone can fail.
+// The text of a refutation with its pairs named, where that is asked for and the answer is one. Memory alone can fail.
+fn naming_of(
+    alloc: Global,
+    universe: &Universe<'_, '_>,
+    solved: &Solved,
+    names_pairs: bool,
+) -> Result<Option<Items<u8>>, AllocError>
+    ensures { IfOk result (λ naming. naming ≡ naming_for names_pairs universe.now.pairs solved.now) }
+{
+    if !names_pairs {
+        return Ok(None);
+    }
+    match solved {
+        Solved::Refuted(refutation) => {
+            let text = write_naming(alloc, universe, refutation)?;
+            Ok(Some(Items::new(text)))
+        }
+        Solved::Plan(_) => Ok(None),
+        Solved::Undecided(_) => Ok(None),
+    }
+}
+
+/// What is answered where the request of the universe is solved so, with the text of a refutation whose pairs are named, where that is
+/// asked for, and what a document has of its lines, where there is to be one. Memory alone can fail.
 pub fn answered(
     alloc: Global,
     universe: &Universe<'_, '_>,
     solved: Solved,
     asks_all_versions: bool,
+    names_pairs: bool,
     has_document: bool,
 ) -> Result<Answered, AllocError>
     ensures solved { IfOk result (λ answered. answered.solved ≡ solved) }
     ensures asks { IfOk result (λ answered. answered.asks_all_versions ≡ asks_all_versions) }
+    ensures naming { IfOk result (λ answered. answered.naming ≡ naming_for names_pairs universe.now.pairs solved) }
 {
+    let naming = naming_of(alloc, universe, &solved, names_pairs)?;
     let members = match &solved {
         Solved::Refuted(refutation) => members_of(alloc, universe, refutation, has_document)?,
         Solved::Plan(_) | Solved::Undecided(_) => None,
@@ -45,6 +73,7 @@ pub fn answered(
     Ok(Answered {
         solved,
         asks_all_versions,
+        naming,
         members,
     })
 }

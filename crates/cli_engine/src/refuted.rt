@@ -10,7 +10,7 @@ use crate::solve::Answered;
 use index::Index;
 use inputs::Before;
 use reasons::{core, sentences};
-use refutation::Refutation;
+use refutation::{Line, Refutation};
 use refutecheck::{Premises, Verdict as RefutationVerdict};
 use rules::Verdict;
 use solver::Solved;
@@ -30,19 +30,52 @@ fn missing_sentence(alloc: Global, missing: &Missing) -> Result<Vec<u8>, AllocEr
 }
 
 // Tells which pair that a refutation names isn't admitted, where that is wanted. Memory alone can fail.
-fn tell_missing(
+fn tell_missing(alloc: Global, missing: &Missing, notes: &mut Notes) -> Result<(), AllocError>
+    ensures unasked { notes.old.wanted ≡ false → notes.new ≡ notes.old }
+{
+    if !notes.wanted {
+        return Ok(());
+    }
+    let text = missing_sentence(alloc, missing)?;
+    notes.add(text.as_slice())
+}
+
+// The sentence on the first bad line of a refutation, of this number: what is wrong with it, by what it is.
+fn bad_line_sentence(
     alloc: Global,
-    missing: Option<&Missing>,
+    refutation: &Refutation,
+    number: usize,
+) -> Result<String, AllocError> {
+    match refutation.as_slice().get(number.saturating_sub(1)) {
+        Some(Line::Premise(_)) => {
+            format!(in alloc; "Line {number} isn't a premise of this request over these inputs.\n")
+        }
+        Some(Line::Derived(_, _)) => {
+            format!(in alloc; "Line {number} doesn't follow from the lines that it names.\n")
+        }
+        None => format!(in alloc; "Each line is right, but the last one leaves a choice.\n"),
+    }
+}
+
+// Tells what is wrong with a refutation that isn't accepted, of which this is the first bad line, where that is wanted. Memory alone can
+// fail.
+fn tell_bad_line(
+    alloc: Global,
+    numbered: &NumberedLines,
+    number: usize,
     notes: &mut Notes,
 ) -> Result<(), AllocError>
     ensures unasked { notes.old.wanted ≡ false → notes.new ≡ notes.old }
 {
-    match missing {
-        Some(missing) if notes.wanted => {
-            let text = missing_sentence(alloc, missing)?;
-            notes.add(text.as_slice())
+    if !notes.wanted {
+        return Ok(());
+    }
+    match &numbered.missing {
+        Some(missing) => tell_missing(alloc, missing, notes),
+        None => {
+            let text = bad_line_sentence(alloc, &numbered.lines, number)?;
+            notes.add(text.as_bytes())
         }
-        _ => Ok(()),
     }
 }
 
@@ -68,8 +101,8 @@ fn tell_refuted(
     notes.add(text.as_slice())
 }
 
-/// Tells the reasons of a refutation with this verdict, if it is accepted, and else which pair it names that isn't admitted, where that is
-/// wanted. Memory alone can fail.
+/// Tells the reasons of a refutation with this verdict, if it is accepted, and else which pair it names that isn't admitted, or what is
+/// wrong with its first bad line, where that is wanted. Memory alone can fail.
 pub(crate) fn tell_accepted(
     alloc: Global,
     universe: &Universe<'_, '_>,
@@ -92,7 +125,7 @@ pub(crate) fn tell_accepted(
             asks_all_versions,
             notes,
         ),
-        RefutationVerdict::No(_) => tell_missing(alloc, numbered.missing.as_ref(), notes),
+        RefutationVerdict::No(number) => tell_bad_line(alloc, numbered, number, notes),
     }
 }
 

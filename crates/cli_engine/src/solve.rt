@@ -12,6 +12,7 @@ use crate::requested::read_asked;
 use documents::Members;
 use inputs::{Before, OverRequest, Question, Refusal, Requested, Shelf};
 use plancheck_state::{parse_packages, view};
+use rules::Items;
 use solver::{Solved, solve};
 use std::alloc::{AllocError, Global};
 use universe::Universe;
@@ -23,6 +24,8 @@ pub struct Answered {
     pub solved: Solved,
     /// Whether the request asks for all versions.
     pub asks_all_versions: bool,
+    /// The text of a refutation with its pairs named, where that is asked for.
+    pub naming: Option<Items<u8>>,
     /// What a document has of the lines of a refutation, where there is to be one.
     pub members: Option<Members>,
 }
@@ -35,6 +38,8 @@ pub struct Answered {
 pub struct Solve {
     /// How many conflicts the search may have.
     pub limit: u32,
+    /// Whether a refutation is written with its pairs named too.
+    pub names_pairs: bool,
     /// Whether there is to be a document of the answer, which has the lines of a refutation.
     pub has_document: bool,
 }
@@ -61,7 +66,7 @@ impl OverRequest for Solve {
 
     type Beside = Notes;
 
-    ghost says = { λ it texts _ result _. IsSaidOfRequest texts it.limit result };
+    ghost says = { λ it texts _ result _. IsSaidOfRequest texts it.limit it.names_pairs result };
 
     ghost keeps = { λ _ old _ new. old.wanted ≡ false → new ≡ old };
 
@@ -80,6 +85,7 @@ impl OverRequest for Solve {
             universe,
             solved,
             asks_all_versions,
+            self.names_pairs,
             self.has_document,
         )?;
         tell_solved(alloc, before, universe, &answer, notes)?;
@@ -96,7 +102,7 @@ impl Question for Solve {
 
     type Beside = Notes;
 
-    ghost says = { λ it texts _ _ result _. IsSaidOfRequest texts it.limit result };
+    ghost says = { λ it texts _ _ result _. IsSaidOfRequest texts it.limit it.names_pairs result };
 
     ghost keeps = { λ _ _ old _ new. old.wanted ≡ false → new ≡ old };
 

@@ -1,7 +1,10 @@
 -- What is left of a list of words behind one more of them, and what one more makes of those before it.
-use Rattle.std.proofs.Common.{◌≡◌, ◌∙◌, ◌++◌, ◌<◌, ◌+◌, ℕ, suc, Bool, true, false, cond, List, [], ◌∷◌, Option, None, Some, MatchOption, ap, append_assoc, arith, drop, drop-cons, get_or, length, map, refl, sym}
+use Rattle.std.proofs.Common.{◌≡◌, ◌∙◌, ◌++◌, ◌<◌, ◌+◌, ℕ, suc, Bool, true, false, cond, List, [], ◌∷◌, Option, None, Some, MatchOption, ap, append_assoc, arith, drop, drop-cons, get_or, inl, inr, length, map, refl, sym}
+use Rattle.std.proofs.lemmas.Bool.{cases_Bool}
 use Rattle.std.proofs.lemmas.List.{map-append}
+use Rattle.std.proofs.lemmas.Slice.Eq.{bytes_eq-Decides}
 use Rattle.std.specs.Borrow.{Bor}
+use Rattle.std.specs.Str.{bytes_eq}
 use Rattle.command_line.specs.Joined.{Text, ends_options, joined_behind, takes_value}
 use Rattle.command_line.specs.Place.{left, place_behind}
 use Rattle.command_line.specs.declared.join.Place.{Place}
@@ -48,3 +51,10 @@ own_put f before after word next rest takes e is =
 pub where_none : {X : Type 0} (N : Type 0) (P : X → Type 0) (found : Option X) → ((x : X) → found ≡ Some x → ⊥) → MatchOption found N P → N
 where_none N P None not_some known = known
 where_none N P (Some x) not_some known = absurd (not_some x refl)
+
+-- a word that isn't an option doesn't equal it
+pub unlike : (option word : Text) → ¬ (word ≡ option) → bytes_eq option word ≡ false
+unlike option word differs = elim (cases_Bool (bytes_eq option word)) [
+  | inl same ↦ absurd (differs (sym ((bytes_eq-Decides option word).0 same)))
+  | inr other ↦ other
+]

@@ -31,8 +31,8 @@ pub data Request : Type 0 where
 
 -- how much of a request has to be fulfilled
 pub data Extent : Type 0 where
-  -- all of it
-  whole : Extent
+  -- all of it, and whether the pairs of a refutation are named
+  whole : Bool → Extent
   -- as much as can be, with the path of what is left of it, if there is one
   possible : Option Text → Extent
 
@@ -59,7 +59,7 @@ pub data Asked : Type 0 where
   -- the request, the plan, the journal, and the output
   apply : Given → Request → Text → Text → Text → Asked
   -- which packages, and the folder of refutations, if there is one
-  installable : Given → Survey → Option Text → Asked
+  installable : Given → Survey → Option Text → Bool → Format → Asked
 
 -- words, in their texts
 abbrev pub texts_by : List (Bor Text) → List Text
@@ -72,7 +72,7 @@ request_by (held.Goals words) = goals (texts_by words.items)
 
 -- how much of a request has to be fulfilled, in texts
 abbrev pub extent_by : ExtentHeld → Extent
-extent_by reach.Whole = whole
+extent_by (reach.Whole names_pairs) = whole names_pairs
 extent_by (reach.Possible path) = possible (option_map (λ word. word.now) path)
 
 -- the options, in texts
@@ -106,5 +106,5 @@ asked_by (call.CheckRefutation options request refutation explains format) =
     check_refutation (given_by options) (request_by request) refutation.now explains format
 asked_by (call.Apply options request plan journal output) =
     apply (given_by options) (request_by request) plan.now journal.now output.now
-asked_by (call.Installable options survey refutations) =
-    installable (given_by options) (survey_by survey) (option_map (λ word. word.now) refutations)
+asked_by (call.Installable options survey refutations explains format) =
+    installable (given_by options) (survey_by survey) (option_map (λ word. word.now) refutations) explains format

@@ -20,9 +20,9 @@ optional_options = codes "--preferences" ∷ codes "--target" ∷ []
 abbrev pub request_options : List Text
 request_options = codes "--request" ∷ codes "--goal" ∷ []
 
--- the options that say where what is left of a request is written, and how the answer is
+-- the options that say where what is left of a request is written, and how the answer and a refutation are
 abbrev pub answer_options : List Text
-answer_options = codes "--request-out" ∷ codes "--format" ∷ []
+answer_options = codes "--request-out" ∷ codes "--format" ∷ codes "--refutation-format" ∷ []
 
 -- the options that some of these commands have beside them
 abbrev pub own_options : List Text

@@ -59,7 +59,7 @@ request_options = optional (option (codes "request")) ∷ repeated (optional (op
 
 -- the options that say how much of a request has to be fulfilled
 abbrev pub extent_options : List Rule
-extent_options = flag (codes "keep-back") ∷ optional (option (codes "request-out")) ∷ []
+extent_options = flag (codes "keep-back") ∷ optional (option (codes "request-out")) ∷ optional (option (codes "refutation-format")) ∷ []
 
 -- the options that say how an answer is told
 abbrev pub telling_options : List Rule
@@ -69,8 +69,8 @@ telling_options = flag (codes "explain") ∷ optional (option (codes "format")) 
 abbrev pub candidate_command : Shape
 candidate_command = command (codes "candidate") (options ++ telling_options ++ repeated (word (codes "name")) ∷ [])
 
--- debplan solve OPTIONS REQUEST [--limit N] [--keep-back [--request-out FILE]] [--explain] [--format FORMAT], where REQUEST is
--- --request FILE, or --goal TEXT once or more
+-- debplan solve OPTIONS REQUEST [--limit N] [--keep-back [--request-out FILE] | --refutation-format N] [--explain] [--format FORMAT],
+-- where REQUEST is --request FILE, or --goal TEXT once or more
 abbrev pub solve_command : Shape
 solve_command = command (codes "solve")
     (options ++ request_options ++ number (optional (option (codes "limit"))) ∷ extent_options ++ telling_options)
@@ -94,10 +94,11 @@ abbrev pub survey_options : List Rule
 survey_options = flag (codes "all-versions") ∷ flag (codes "without-essential") ∷ optional (option (codes "shard"))
     ∷ number (optional (option (codes "limit"))) ∷ []
 
--- debplan installable ARCHIVES [--all-versions] [--without-essential] [--shard K/N] [--limit N] [--refutations DIR] [NAME..]
+-- debplan installable ARCHIVES [--all-versions] [--without-essential] [--shard K/N] [--limit N] [--refutations DIR] [--explain]
+-- [--format FORMAT] [NAME..]
 abbrev pub installable_command : Shape
 installable_command = command (codes "installable") (archive_options ++ survey_options ++ optional (option (codes "refutations"))
-    ∷ optional (repeated (word (codes "name"))) ∷ [])
+    ∷ telling_options ++ optional (repeated (word (codes "name"))) ∷ [])
 
 -- the program, which has a version, and of which a command has to be named
 unfoldable pub debplan_app : App

@@ -64,9 +64,9 @@ apply_of (Some given) (Some request) plan journal output = taken_of given reques
 apply_of _ _ _ _ _ = None
 
 -- the question which packages can be installed, with the path of the folder of refutations, if there is one
-abbrev pub installable_of : Option Given → Option Survey → Option Text → Option Asked
-installable_of (Some given) (Some survey) refutations = Some (ask.installable given survey refutations)
-installable_of _ _ refutations = None
+abbrev pub installable_of : Option Given → Option Survey → Option Text → Bool → Option Format → Option Asked
+installable_of (Some given) (Some survey) refutations explains (Some format) = Some (ask.installable given survey refutations explains format)
+installable_of _ _ refutations explains _ = None
 
 -- what the command of this name asks for by these values, where no word is missing
 abbrev pub asked_in : Text → List Row → Option Asked
@@ -87,7 +87,7 @@ asked_in name rows =
     then apply_of (given_in rows) (request_in rows) (first_of (codes "plan") rows) (first_of (codes "journal") rows)
     (first_of (codes "output") rows)
     else if bytes_eq name (codes "installable")
-    then installable_of (archive_given_in rows) (survey_in rows) (first_of (codes "refutations") rows)
+    then installable_of (archive_given_in rows) (survey_in rows) (first_of (codes "refutations") rows) (explains_in rows) (format_in rows)
     else None
 
 -- what a command is asked for, with the values that `clap` gives it by the words

@@ -1,5 +1,5 @@
 -- What the values of a command's words say, each for itself.
-use Rattle.std.specs.Prelude.{ℕ, Bool, true, false, List, [], Option, Some, None, codes, if◌then◌else◌}
+use Rattle.std.specs.Prelude.{ℕ, Bool, true, false, List, [], Option, Some, None, codes, option_map, if◌then◌else◌}
 use Rattle.std.specs.Option.{unwrap_or}
 use Rattle.std.specs.Str.{bytes_eq}
 use Rattle.clap.specs.Walk.{Row, all_of, first_of}
@@ -84,15 +84,29 @@ format_of (Some word) = format_named word
 abbrev pub format_in : List Row → Option Format
 format_in rows = format_of (first_of (codes "format") rows)
 
--- how much of a request has to be fulfilled, where goals may be kept back or not; a path for what is left is given only where they may
-abbrev pub extent_of : Bool → Option Text → Option Extent
-extent_of true path = Some (possible path)
-extent_of false None = Some whole
-extent_of false (Some path) = None
+-- the version of the text of a refutation that a word names, if it does: whether it names pairs
+abbrev pub naming_of : Text → Option Bool
+naming_of word = if bytes_eq word (codes "1") then Some false
+    else if bytes_eq word (codes "2") then Some true
+    else None
+
+-- all of the request, where the value of `--refutation-format` names a version, or there is none
+abbrev pub whole_of : Option Text → Option Extent
+whole_of None = Some (whole false)
+whole_of (Some word) = option_map whole (naming_of word)
+
+-- how much of a request has to be fulfilled, where goals may be kept back or not: a path for what is left is given only where they may,
+-- and a version of the text of a refutation only where they may not
+abbrev pub extent_of : Bool → Option Text → Option Text → Option Extent
+extent_of true path None = Some (possible path)
+extent_of true path (Some version) = None
+extent_of false None version = whole_of version
+extent_of false (Some path) version = None
 
 -- how much of the request has to be fulfilled, by the values of a command
 abbrev pub extent_in : List Row → Option Extent
 extent_in rows = extent_of (is_set (first_of (codes "keep-back") rows)) (first_of (codes "request-out") rows)
+    (first_of (codes "refutation-format") rows)
 
 -- which packages are asked about: those of these names, or all without names, and of them those of the shard
 abbrev pub survey_of : Option (List Text) → Bool → Bool → Option Shard → Option ℕ → Option Survey

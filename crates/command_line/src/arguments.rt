@@ -93,7 +93,7 @@ fn mistake_of_values(values: &ArgMatches<'_>) -> &'static str {
         return "FORMAT is text or json";
     }
     if extent_in(values).is_none() {
-        return "--request-out FILE is given without --keep-back";
+        return mistake_of_extent(values);
     }
     if shard_of(text_in(values, "shard")).is_none() {
         return "--shard K/N wants two numbers, the first from 1 to the second";
@@ -102,6 +102,18 @@ fn mistake_of_values(values: &ArgMatches<'_>) -> &'static str {
         return "N is a number without a sign or a leading zero";
     }
     mistake_of_request(values)
+}
+
+// What is wrong with how much of the request has to be fulfilled.
+fn mistake_of_extent(values: &ArgMatches<'_>) -> &'static str {
+    match (
+        is_set(values, "keep-back"),
+        values.contains_id("request-out"),
+    ) {
+        (true, _) => "--refutation-format N is given beside --keep-back",
+        (false, true) => "--request-out FILE is given without --keep-back",
+        (false, false) => "--refutation-format N is 1 or 2",
+    }
 }
 
 // What is wrong with these values of a command with a request.
@@ -179,20 +191,55 @@ fn format_named(word: &str) -> Option<Format>
     }
 }
 
-// How much of the request has to be fulfilled, unless a path is given for what is left where all of it has to be.
+// How much of the request has to be fulfilled, unless a path is given for what is left where all of it has to be, or a version of the
+// text of a refutation where not all of it has to be.
 fn extent_in<'a>(values: &ArgMatches<'a>) -> Option<Extent<'a>>
     ensures { option_map extent_by result ≡ value.extent_in (rows_of (found_of values.now)) }
 {
-    extent_of(is_set(values, "keep-back"), text_in(values, "request-out"))
+    extent_of(
+        is_set(values, "keep-back"),
+        text_in(values, "request-out"),
+        text_in(values, "refutation-format"),
+    )
 }
 
-fn extent_of<'a>(keeps_back: bool, path: Option<&'a str>) -> Option<Extent<'a>>
-    ensures { option_map extent_by result ≡ value.extent_of keeps_back (option_map (λ word. word.now) path.entry) }
+fn extent_of<'a>(
+    keeps_back: bool,
+    path: Option<&'a str>,
+    version: Option<&'a str>,
+) -> Option<Extent<'a>>
+    ensures { option_map extent_by result ≡ value.extent_of keeps_back (option_map (λ word. word.now) path.entry)
+        (option_map (λ word. word.now) version.entry) }
 {
-    match (keeps_back, path) {
-        (true, path) => Some(Extent::Possible(path)),
-        (false, None) => Some(Extent::Whole),
-        (false, Some(_)) => None,
+    match (keeps_back, path, version) {
+        (true, path, None) => Some(Extent::Possible(path)),
+        (true, _, Some(_)) => None,
+        (false, None, version) => whole_of(version),
+        (false, Some(_), _) => None,
+    }
+}
+
+// All of the request, unless the word for the version of the text of a refutation is none of one.
+fn whole_of<'a>(version: Option<&str>) -> Option<Extent<'a>>
+    ensures { option_map extent_by result ≡ value.whole_of (option_map (λ word. word.now) version.entry) }
+{
+    match version {
+        None => Some(Extent::Whole { names_pairs: false }),
+        Some(word) => {
+            let names_pairs = naming_of(word)?;
+            Some(Extent::Whole { names_pairs })
+        }
+    }
+}
+
+// Whether the version of the text of a refutation that the word names names pairs.
+fn naming_of(word: &str) -> Option<bool>
+    ensures { result ≡ value.naming_of word.now }
+{
+    match word {
+        "1" => Some(false),
+        "2" => Some(true),
+        _ => None,
     }
 }
 
@@ -402,15 +449,19 @@ fn installable_in<'a>(
 ) -> Option<Call<'a>>
     ensures { let rows = rows_of (found_of values.now) in option_map asked_by result ≡ spell.installable_of
         (value.archive_given_in rows) (value.survey_with (option_map (λ names. texts_by names.items) names.entry) rows)
-        (first_of (codes "refutations") rows) }
+        (first_of (codes "refutations") rows) (value.explains_in rows) (value.format_in rows) }
 {
     let options = archive_options_in(values)?;
     let survey = survey_in(alloc, values, names)?;
     let refutations = text_in(values, "refutations");
+    let format = format_in(values)?;
+    let explains = explains_in(values);
     Some(Call::Installable {
         options,
         survey,
         refutations,
+        explains,
+        format,
     })
 }
 

@@ -45,7 +45,10 @@ pub enum Request<'a> {
 #[derive(Clone, Copy)]
 pub enum Extent<'a> {
     /// All of it.
-    Whole,
+    Whole {
+        /// Whether the pairs of a refutation are named, so that its text is of version 2.
+        names_pairs: bool,
+    },
     /// As much as can be; what is left of the request is written at this path, if there is one.
     Possible(Option<&'a str>),
 }
@@ -169,5 +172,9 @@ pub enum Call<'a> {
         survey: Survey<'a>,
         /// The path of the folder of refutations, if there is one.
         refutations: Option<&'a str>,
+        /// Whether the call explains.
+        explains: bool,
+        /// How the answer is written: as JSON, a line is a text of its own.
+        format: Format,
     },
 }

@@ -6,8 +6,8 @@ ghost use Rattle.command_line.specs.Program as app;
 
 use crate::help::{
     ANSWERS, APPLY_USAGE, ARCHIVE_STATUS_HELP, CHECK_PLAN_USAGE, CHECK_REFUTATION_USAGE, GUIDE,
-    KEEP_BACK_HELP, REFUTATIONS_HELP, RELATION_HELP, SHARD_HELP, SOLVE_USAGE, VERSION,
-    VERSION_AND_TOOLCHAIN, WITHOUT_ESSENTIAL_HELP,
+    KEEP_BACK_HELP, REFUTATION_FORMAT_HELP, REFUTATIONS_HELP, RELATION_HELP, SHARD_HELP,
+    SOLVE_USAGE, VERSION, VERSION_AND_TOOLCHAIN, WITHOUT_ESSENTIAL_HELP,
 };
 use clap::{Arg, ArgAction, Command, value_parser};
 use std::alloc::{AllocError, Global};
@@ -175,7 +175,8 @@ fn installable<'a>(alloc: Global) -> Result<Command<'a>, AllocError>
     let optioned = with_archive_options(alloc, start)?;
     let with_survey = with_survey(alloc, optioned)?;
     let with_refutations = with_survey.arg(refutations)?;
-    let whole = with_refutations.arg(names)?;
+    let told = with_telling(alloc, with_refutations)?;
+    let whole = told.arg(names)?;
     Ok(whole)
 }
 
@@ -234,8 +235,10 @@ fn with_extent<'a>(alloc: Global, start: Command<'a>) -> Result<Command<'a>, All
         "FILE",
         "With --keep-back, where the request that is left is written",
     );
+    let version = optional(alloc, "refutation-format", "N", REFUTATION_FORMAT_HELP);
     let with_flag = start.arg(keep_back)?;
-    let whole = with_flag.arg(output)?;
+    let with_output = with_flag.arg(output)?;
+    let whole = with_output.arg(version)?;
     Ok(whole)
 }
 

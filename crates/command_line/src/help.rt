@@ -89,6 +89,10 @@ pub(crate) const WITHOUT_ESSENTIAL_HELP: &str =
 pub(crate) const SHARD_HELP: &str =
     "Ask of the K-th of every N packages alone, in their order, so that N runs ask of all";
 
+/// What `--refutation-format` does.
+pub(crate) const REFUTATION_FORMAT_HELP: &str =
+    "The version of the text of a refutation, 1 if not given: 1 has the numbers of pairs, 2 their names and versions";
+
 /// What `--refutations` does.
 pub(crate) const REFUTATIONS_HELP: &str =
     "The folder in which a refutation is written for each package that can't be installed";

@@ -202,6 +202,7 @@ fn is_of_answer(word: &str) -> bool
     match word {
         "--request-out" => true,
         "--format" => true,
+        "--refutation-format" => true,
         _ => false,
     }
 }

@@ -6,7 +6,8 @@ ghost use Rattle.inputs.specs.declared.shelf.ReadError.TheVariants as ReadError;
 use crate::journal_file::JournalFile;
 use crate::output::put_text;
 use crate::places::{is_plain, is_same_file};
-use cli::{Host, PutError, ReadError, ReadFailed, Source, Turn};
+use crate::watch::Watch;
+use cli::{Host, Progress, PutError, ReadError, ReadFailed, Source, Turn};
 use rules::TEXT_BYTES;
 use std::alloc::{AllocError, Global};
 use std::fs::File;
@@ -52,17 +53,23 @@ fn read_some<R: Read>(reader: &mut R, block: &mut [u8]) -> Result<usize, ReadFai
     Err(ReadFailed)
 }
 
-/// The files of the machine, of which that at `-` is its standard input, and how many couldn't be read.
+/// The files of the machine, of which that at `-` is its standard input, how many couldn't be read, and who is shown how far an answer
+/// is.
 #[derive(Drop)]
 pub(crate) struct Machine<'a> {
     rt: &'a HostRuntime,
     failures: u64,
+    watch: Watch,
 }
 
 impl<'a> Machine<'a> {
     /// The files of the machine.
     pub(crate) fn new(rt: &'a HostRuntime) -> Machine<'a> {
-        Machine { rt, failures: 0 }
+        Machine {
+            rt,
+            failures: 0,
+            watch: Watch::new(),
+        }
     }
 
     // Counts a file that can't be read.
@@ -155,6 +162,10 @@ impl<'a> Host for Machine<'a> {
 
     fn is_same_file(&self, left: &[u8], right: &[u8]) -> bool {
         is_same_file(self.rt, left, right)
+    }
+
+    fn show(&mut self, progress: Progress) {
+        self.watch.show(self.rt, progress);
     }
 
     fn trouble(&self, path: &[u8]) -> &'static str {

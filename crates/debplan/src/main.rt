@@ -6,6 +6,7 @@ mod journal_file;
 mod machine;
 mod output;
 mod places;
+mod watch;
 mod words;
 
 use cli::{refuse_for_memory, run};

@@ -2,7 +2,7 @@
 
 use crate::indices::push_indices;
 use crate::pinned::{has_effect, is_known, is_of_target};
-use crate::words::{push_count, push_names};
+use crate::words::{push_count, push_names, push_word};
 use index::Index;
 use pins::Prefs;
 use rules::{Name, PinnedNames, Preference};
@@ -85,7 +85,7 @@ fn push_target(text: &mut Vec<u8>, indices: &[Index<'_>], prefs: &Prefs) -> Resu
         return Ok(());
     }
     text.extend_from_slice(b"The target release ")?;
-    text.extend_from_slice(target)?;
+    push_word(text, target)?;
     text.extend_from_slice(b" is the archive, suite, codename or version of no index.\n")
 }
 

@@ -48,7 +48,9 @@ fn push_idle_index(text: &mut Vec<u8>, place: usize, index: &Index<'_>) -> Resul
     if index.packages().is_empty() {
         text.extend_from_slice(b" adds nothing: it has no package for this architecture.\n")
     } else {
-        text.extend_from_slice(b" adds no version: an index before it has each of its own.\n")
+        text.extend_from_slice(
+            b" adds no version: an index before it has each of its own. It may give one of them another priority.\n",
+        )
     }
 }
 

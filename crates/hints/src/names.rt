@@ -1,6 +1,7 @@
 // Names that have no candidate.
 
 use crate::providers::providers_of;
+use crate::words::push_word;
 use index::Index;
 use status_text::StatusRecord;
 use std::alloc::{AllocError, Global};
@@ -15,8 +16,14 @@ fn is_standing(records: &[&StatusRecord<'_>], name: &[u8]) -> bool {
         .any(|record| record.stands() && record.name() == name)
 }
 
-/// A line that tells why the name has no candidate, where it has none: no index has it and it isn't installed, and who provides it
-/// then; or no version of it may be chosen. Memory alone can fail. Linear in the records and in the stanzas, with what they provide.
+fn is_present(records: &[&StatusRecord<'_>], name: &[u8]) -> bool {
+    records
+        .iter()
+        .any(|record| record.is_present() && record.name() == name)
+}
+
+/// A line that tells why the name has no candidate, where it has none: no index has it and it isn't installed, or has to be installed
+/// again, and who provides it then; or no version of it may be chosen. Memory alone can fail. Linear in the records and in the stanzas, with what they provide.
 pub fn without_candidate(
     alloc: Global,
     records: &[&StatusRecord<'_>],
@@ -24,16 +31,24 @@ pub fn without_candidate(
     name: &[u8],
 ) -> Result<Vec<u8>, AllocError> {
     let mut text = Vec::new(alloc);
-    text.extend_from_slice(name)?;
+    push_word(&mut text, name)?;
     if is_listed(indices, name) || is_standing(records, name) {
         text.extend_from_slice(NOT_CHOSEN)?;
         return Ok(text);
     }
-    text.extend_from_slice(b" is in no index, and isn't installed.\n")?;
+    if is_present(records, name) {
+        text.extend_from_slice(TO_INSTALL_AGAIN)?;
+    } else {
+        text.extend_from_slice(b" is in no index, and isn't installed.\n")?;
+    }
     let providers = providers_of(alloc, indices, name)?;
     text.extend_from_slice(providers.as_slice())?;
     Ok(text)
 }
+
+/// What there is of a package that doesn't stand.
+const TO_INSTALL_AGAIN: &[u8] =
+    b" is in no index, and what is there of it has to be installed again.\n";
 
 /// Which versions may be chosen (apt_preferences(5)).
 const NOT_CHOSEN: &[u8] =

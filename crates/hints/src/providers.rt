@@ -1,6 +1,6 @@
 // Which packages of the indices provide a name (Policy 7.5).
 
-use crate::words::push_names;
+use crate::words::{push_names, push_word};
 use index::Index;
 use indexmap::IndexSet;
 use relation::Provided;
@@ -41,7 +41,7 @@ pub fn providers_of(
     let mut text = Vec::new(alloc);
     let names = providing(alloc, indices, name)?;
     if !names.as_slice().is_empty() {
-        text.extend_from_slice(name)?;
+        push_word(&mut text, name)?;
         text.extend_from_slice(b" is a virtual package: it is provided by ")?;
         push_names(&mut text, names.as_slice())?;
         text.extend_from_slice(b".\n")?;

@@ -12,6 +12,22 @@ pub(crate) fn push_count(text: &mut Vec<u8>, count: usize) -> Result<(), AllocEr
     text.extend_from_slice(buffer.format(count).as_bytes())
 }
 
+/// Writes a word of a command line or of a request, with a question mark in the place of each byte that controls a terminal.
+pub(crate) fn push_word(text: &mut Vec<u8>, word: &[u8]) -> Result<(), AllocError> {
+    for byte in word {
+        text.push(printed_byte(*byte))?;
+    }
+    Ok(())
+}
+
+fn printed_byte(byte: u8) -> u8 {
+    if byte < 0x20 || byte == 0x7F {
+        b'?'
+    } else {
+        byte
+    }
+}
+
 // Writes what stands before the name at a place of so many.
 fn push_joint(text: &mut Vec<u8>, place: usize, count: usize) -> Result<(), AllocError> {
     if place == 0 {

@@ -88,33 +88,34 @@ packages_named arch number arena (row ∷ rows) are = All-cons (λ (found : Inde
 abbrev pub stanzas_in : List IndexPackage → ℕ → ReadStanzas
 stanzas_in listed skipped = record { listed = listed; skipped = skipped }
 
-abbrev pub package_with : List ℕ → ℕ → PkgValues → Bool → ℕ → IndexPackage
-package_with arch number values is_essential stanza = record {
+abbrev pub package_with : List ℕ → ℕ → PkgValues → Bool → Bool → ℕ → IndexPackage
+package_with arch number values is_essential says_essential stanza = record {
   pkg = spelled arch values;
   is_essential = is_essential;
+  says_essential = says_essential;
   place = record { index = number; stanza = stanza };
 }
 
-last_package : (arch : List ℕ) (number : ℕ) (bytes : List ℕ) (row : Row) (values : PkgValues) (is_essential : Bool) (stanza : ℕ)
-    → values_at bytes row ≡ values → row.is_essential ≡ is_essential → row.stanza ≡ stanza
-    → package_at arch number bytes row ≡ package_with arch number values is_essential stanza
-last_package arch number bytes row values is_essential stanza same essential numbered =
-    ap (λ (found : PkgValues). package_of arch number found row) same ∙ rw (essential, numbered) refl
+last_package : (arch : List ℕ) (number : ℕ) (bytes : List ℕ) (row : Row) (values : PkgValues) (is_essential says_essential : Bool)
+    (stanza : ℕ) → values_at bytes row ≡ values → row.is_essential ≡ is_essential → row.says_essential ≡ says_essential → row.stanza ≡ stanza
+    → package_at arch number bytes row ≡ package_with arch number values is_essential says_essential stanza
+last_package arch number bytes row values is_essential says_essential stanza same essential said numbered =
+    ap (λ (found : PkgValues). package_of arch number found row) same ∙ rw (essential, said, numbered) refl
 
 -- what was kept, with one package more
 pub put_stanzas : (arch : List ℕ) (number : ℕ) (arena more : List ℕ) (rows : List Row) (skipped : ℕ) (row : Row) (values : PkgValues)
-    (is_essential : Bool) (stanza : ℕ) (bytes : List ℕ) (all : List Row) → bytes ≡ arena ++ more → all ≡ rows ++ row ∷ [] → AreRows arena rows
-    → values_at bytes row ≡ values → row.is_essential ≡ is_essential → row.stanza ≡ stanza
+    (is_essential says_essential : Bool) (stanza : ℕ) (bytes : List ℕ) (all : List Row) → bytes ≡ arena ++ more → all ≡ rows ++ row ∷ [] → AreRows arena rows
+    → values_at bytes row ≡ values → row.is_essential ≡ is_essential → row.says_essential ≡ says_essential → row.stanza ≡ stanza
     → stanzas_in (packages_at arch number bytes all) skipped
-    ≡ joined (stanzas_in (packages_at arch number arena rows) skipped) (stanzas_in (package_with arch number values is_essential stanza ∷ []) 0)
-put_stanzas arch number arena more rows skipped row values is_essential stanza bytes all grown put are same essential numbered =
+    ≡ joined (stanzas_in (packages_at arch number arena rows) skipped) (stanzas_in (package_with arch number values is_essential says_essential stanza ∷ []) 0)
+put_stanzas arch number arena more rows skipped row values is_essential says_essential stanza bytes all grown put are same essential said numbered =
     let none : skipped + 0 ≡ skipped = omega arith in
-    let last = last_package arch number bytes row values is_essential stanza same essential numbered in
-    let packages : packages_at arch number bytes all ≡ packages_at arch number arena rows ++ package_with arch number values is_essential stanza ∷ [] =
+    let last = last_package arch number bytes row values is_essential says_essential stanza same essential said numbered in
+    let packages : packages_at arch number bytes all ≡ packages_at arch number arena rows ++ package_with arch number values is_essential says_essential stanza ∷ [] =
     ap (λ (list : List Row). packages_at arch number bytes list) put
     ∙ ap (λ (held : List ℕ). packages_at arch number held (rows ++ row ∷ [])) grown
     ∙ put_package arch number arena more rows row are
     ∙ ap (λ (held : List ℕ). packages_at arch number arena rows ++ package_at arch number held row ∷ []) (sym grown)
     ∙ ap (λ (found : IndexPackage). packages_at arch number arena rows ++ found ∷ []) last in
     ap (λ (listed : List IndexPackage). stanzas_in listed skipped) packages
-    ∙ ap (λ (count : ℕ). stanzas_in (packages_at arch number arena rows ++ package_with arch number values is_essential stanza ∷ []) count) (sym none)
+    ∙ ap (λ (count : ℕ). stanzas_in (packages_at arch number arena rows ++ package_with arch number values is_essential says_essential stanza ∷ []) count) (sym none)

@@ -1,6 +1,6 @@
 -- What one stanza gives of an index that is read stanza by stanza.
 use Rattle.std.proofs.Common.{◌≡◌, ℕ, ◌+◌, Bool, true, false, cond, List, [], ◌∷◌, Option, None, Some, Result, Ok, Err, nat_le, refl, sym, ap, ◌∙◌, arith, append-nil, codes}
-use Rattle.relation.specs.PackageStanza.{counts_for, is_essential}
+use Rattle.relation.specs.PackageStanza.{counts_for, is_essential, says_essential}
 use Rattle.relation.specs.PkgFields.{fields_of}
 use Rattle.relation.specs.PkgText.{pkg_fault, pkg_name_fault, pkg_of, unless_fault}
 use Rattle.relation.specs.PkgValues.{PkgValues, spelled, values_of}
@@ -75,16 +75,19 @@ values_entry arch place stanza line found values on of is =
     entry_is arch place stanza
     ∙ ap (as_entry arch place stanza) (ap (λ (n : ℕ). read_values arch n (found_of stanza)) (sym on) ∙ ap (λ (f : Found). read_values arch line f) (sym of) ∙ is)
 
--- a package with this mark at the place
-abbrev pub with_package : ReadStanzas → Pkg → Bool → IndexPlace → ReadStanzas
-with_package old pkg mark place = joined old (record { listed = record { pkg = pkg; is_essential = mark; place = place } ∷ []; skipped = 0 })
+-- a package with these marks at the place
+abbrev pub with_package : ReadStanzas → Pkg → Bool → Bool → IndexPlace → ReadStanzas
+with_package old pkg mark said place =
+    joined old (record { listed = record { pkg = pkg; is_essential = mark; says_essential = said; place = place } ∷ []; skipped = 0 })
 
-pub put_entry : (old new : ReadStanzas) (count next : ℕ) (place : IndexPlace) (stanza : StanzaText) (pkg : Pkg) (mark : Bool)
+pub put_entry : (old new : ReadStanzas) (count next : ℕ) (place : IndexPlace) (stanza : StanzaText) (pkg : Pkg) (mark said : Bool)
     (later : ℕ → Result ReadStanzas IndexFault) (entry : Result (Option IndexStanza) IndexFault) → entry ≡ Ok (Some (indexed_at place stanza pkg))
-    → nat_le PACKAGES count ≡ false → mark ≡ is_essential stanza.fields → new ≡ with_package old pkg mark place → next ≡ count + 1
+    → nat_le PACKAGES count ≡ false → mark ≡ is_essential stanza.fields → said ≡ says_essential stanza.fields → new ≡ with_package old pkg mark said place → next ≡ count + 1
     → with_stanzas old (entry_then count entry later) ≡ with_stanzas new (later next)
-put_entry old new count next place stanza pkg mark later entry is few marked new_is next_is =
+put_entry old new count next place stanza pkg mark said later entry is few marked is_said new_is next_is =
     ap (λ (e : Result (Option IndexStanza) IndexFault). with_stanzas old (entry_then count e later)) is
     ∙ put_then old count (indexed_at place stanza pkg) later few
-    ∙ ap (λ (s : ReadStanzas). with_stanzas s (later (count + 1))) (sym (new_is ∙ ap (λ (m : Bool). with_package old pkg m place) marked))
+    ∙ ap (λ (s : ReadStanzas). with_stanzas s (later (count + 1))) (sym (new_is
+    ∙ ap (λ (m : Bool). with_package old pkg m said place) marked
+    ∙ ap (λ (s : Bool). with_package old pkg (is_essential stanza.fields) s place) is_said))
     ∙ ap (λ (n : ℕ). with_stanzas new (later n)) (sym next_is)

@@ -1,14 +1,16 @@
 -- What is found among some fields and one more is what is found among the first, with that one.
-use Rattle.std.proofs.Common.{◌≡◌, ℕ, Bool, true, false, cond, List, [], ◌∷◌, ◌++◌, Option, Some, None, refl, ap, ◌∙◌, codes}
+use Rattle.std.proofs.Common.{◌≡◌, ℕ, Bool, true, false, cond, List, [], ◌∷◌, ◌++◌, map, Option, Some, None, refl, ap, ◌∙◌, codes}
 use Rattle.std.specs.Prelude.{◌||◌}
+use Rattle.std.specs.Char.{to_ascii_lowercase}
 use Rattle.std.specs.Option.{option_or}
-use Rattle.relation.specs.PackageStanza.{field_of, is_essential}
+use Rattle.std.specs.Str.{bytes_eq}
+use Rattle.relation.specs.PackageStanza.{field_of, is_essential, says_essential}
 use Rattle.relation.specs.Kind.{IsOfKind}
 use Rattle.relation.specs.declared.kind.Kind.{Kind}
 use Rattle.relation.specs.declared.kind.Kind.TheVariants.{Architecture, Essential, Protected}
 use Rattle.relation.proofs.FieldsMore.{fields_more}
-use Rattle.relation.proofs.KindLemmas.{not-kind, with-none as pkg-none}
-use Rattle.rules.specs.Stanza.{marks_essential}
+use Rattle.relation.proofs.KindLemmas.{not-kind, same-folded, with-none as pkg-none}
+use Rattle.rules.specs.Stanza.{marks_essential, says_essential as field_says_essential}
 use Rattle.stanza.specs.Field.{FieldText, same_name, value_named}
 use Rattle.index.specs.Walk.{Found, found_in, value_if_named, with_field}
 
@@ -39,9 +41,21 @@ is_essential_more (first ∷ fields) field =
     ap (λ found. marks_essential (field_of first) || found) (is_essential_more fields field)
     ∙ any_first (marks_essential (field_of first)) (is_essential fields) (marks_essential (field_of field))
 
+pub says_essential_more : (fields : List FieldText) (field : FieldText)
+    → says_essential (fields ++ field ∷ []) ≡ (says_essential fields || field_says_essential (field_of field))
+says_essential_more [] field = any_alone (field_says_essential (field_of field))
+says_essential_more (first ∷ fields) field =
+    ap (λ found. field_says_essential (field_of first) || found) (says_essential_more fields field)
+    ∙ any_first (field_says_essential (field_of first)) (says_essential fields) (field_says_essential (field_of field))
+
 pub found_more : (line : ℕ) (fields : List FieldText) (field : FieldText)
     → found_in line (fields ++ field ∷ []) ≡ with_field (found_in line fields) field
-found_more line fields field = rw (fields_more line fields field, value_named_more (codes "Architecture") fields field, is_essential_more fields field) refl
+found_more line fields field = rw (
+  fields_more line fields field,
+  value_named_more (codes "Architecture") fields field,
+  is_essential_more fields field,
+  says_essential_more fields field,
+) refl
 
 -- ---- a field of a kind
 
@@ -57,3 +71,46 @@ with-none found field none =
     let essential = not-kind field.name Essential none in
     let protected = not-kind field.name Protected none in
     rw (pkg, architecture, essential, protected) (simp (or-none, any_alone))
+
+-- ---- a field of one kind
+
+-- a name that is this one is no other one
+unlike : (name this other : List ℕ) → same_name name this ≡ true → same_name this other ≡ false → same_name name other ≡ false
+unlike name this other is differs = ap (λ (folded : List ℕ). bytes_eq folded (map to_ascii_lowercase other)) (same-folded name this is) ∙ differs
+
+-- a field Architecture adds its value alone
+pub with-architecture : (found : Found) (field : FieldText) → same_name field.name (codes "Architecture") ≡ true
+    → with_field found field ≡ record found { architecture = option_or found.architecture (Some field.value) }
+with-architecture found field is =
+    let other : (name : List ℕ) → same_name (codes "Architecture") name ≡ false → same_name field.name name ≡ false =
+    λ name differs. unlike field.name (codes "Architecture") name is differs in
+    rw (
+      other (codes "Package") refl,
+      other (codes "Version") refl,
+      other (codes "Pre-Depends") refl,
+      other (codes "Depends") refl,
+      other (codes "Conflicts") refl,
+      other (codes "Breaks") refl,
+      other (codes "Provides") refl,
+      other (codes "Essential") refl,
+      other (codes "Protected") refl,
+      is,
+    ) (simp (or-none, any_alone))
+
+-- a field Protected adds that the package is marked, and no more
+pub with-protected : (found : Found) (field : FieldText) → same_name field.name (codes "Protected") ≡ true
+    → with_field found field ≡ record found { is_essential = found.is_essential || marks_essential (field_of field) }
+with-protected found field is =
+    let other : (name : List ℕ) → same_name (codes "Protected") name ≡ false → same_name field.name name ≡ false =
+    λ name differs. unlike field.name (codes "Protected") name is differs in
+    rw (
+      other (codes "Package") refl,
+      other (codes "Version") refl,
+      other (codes "Pre-Depends") refl,
+      other (codes "Depends") refl,
+      other (codes "Conflicts") refl,
+      other (codes "Breaks") refl,
+      other (codes "Provides") refl,
+      other (codes "Architecture") refl,
+      other (codes "Essential") refl,
+    ) (simp (or-none, any_alone))

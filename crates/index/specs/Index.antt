@@ -1,7 +1,7 @@
 -- An index: the stanzas of a Packages file that count for an architecture, with their packages (Debian Policy 5.3,
 -- 5.6.1 and 5.6.8). That the others are skipped, after their Package was tested, is this project's own.
 use Rattle.std.specs.Prelude.{ℕ, ◌+◌, Bool, false, List, [], ◌∷◌, ◌++◌, length, Option, Some, None, Result, Ok, Err, codes, nat_le, nat_lt, if◌then◌else◌}
-use Rattle.relation.specs.PackageStanza.{counts_for, is_essential, read_stanza}
+use Rattle.relation.specs.PackageStanza.{counts_for, is_essential, read_stanza, says_essential}
 use Rattle.relation.specs.PkgFields.{fields_of}
 use Rattle.relation.specs.PkgText.{pkg_name_fault, read_fields}
 use Rattle.relation.specs.declared.error.PkgFault.{PkgFault}
@@ -32,7 +32,7 @@ pub record ReadIndex : Type 0 where
 -- the stanza at this place, with this package
 abbrev pub indexed_at : IndexPlace → StanzaText → Pkg → IndexStanza
 indexed_at place stanza pkg = record {
-  listed = record { pkg = pkg; is_essential = is_essential stanza.fields; place = place };
+  listed = record { pkg = pkg; is_essential = is_essential stanza.fields; says_essential = says_essential stanza.fields; place = place };
   fields = (read_stanza stanza).fields;
 }
 

@@ -57,6 +57,7 @@ abbrev pub package_of : List ℕ → ℕ → PkgValues → Row → IndexPackage
 package_of arch number values row = record {
   pkg = spelled arch values;
   is_essential = row.is_essential;
+  says_essential = row.says_essential;
   place = record { index = number; stanza = row.stanza };
 }
 

@@ -1,19 +1,21 @@
 -- What a walk over a stanza of an index finds.
 use Rattle.std.specs.Prelude.{ℕ, Bool, ◌||◌, List, Option, Some, None, codes, if◌then◌else◌}
 use Rattle.std.specs.Option.{option_or}
-use Rattle.relation.specs.PackageStanza.{field_of, is_essential}
+use Rattle.relation.specs.PackageStanza.{field_of, is_essential, says_essential}
 use Rattle.relation.specs.PkgFields as Pkg
 use Rattle.relation.specs.PkgFields.{fields_in}
 use Rattle.relation.specs.declared.fields.PkgFields.{PkgFields}
-use Rattle.rules.specs.Stanza.{marks_essential}
+use Rattle.rules.specs.Stanza.{marks_essential, says_essential as field_says_essential}
 use Rattle.stanza.specs.Field.{FieldText, same_name, value_named}
 use Rattle.stanza.specs.Stanza.{StanzaText}
 
--- what is found: the fields of the package, the value of Architecture, if there is one, and whether the package is marked essential
+-- what is found: the fields of the package, the value of Architecture, if there is one, whether the package is marked
+-- essential, and whether it is so by the field Essential itself
 pub record Found : Type 0 where
   pub pkg : PkgFields
   pub architecture : Option (List ℕ)
   pub is_essential : Bool
+  pub says_essential : Bool
 
 -- what is found among these fields, of a stanza that begins on this line
 abbrev pub found_in : ℕ → List FieldText → Found
@@ -21,6 +23,7 @@ found_in line fields = record {
   pkg = fields_in line fields;
   architecture = value_named (codes "Architecture") fields;
   is_essential = is_essential fields;
+  says_essential = says_essential fields;
 }
 
 -- the value of the field, where it is called so
@@ -33,6 +36,7 @@ with_field found field = record {
   pkg = Pkg.with_field found.pkg field;
   architecture = option_or found.architecture (value_if_named (codes "Architecture") field);
   is_essential = found.is_essential || marks_essential (field_of field);
+  says_essential = found.says_essential || field_says_essential (field_of field);
 }
 
 -- what is found in a stanza

@@ -59,6 +59,13 @@ impl<'a> IndexEntry<'a> {
         self.row.is_essential
     }
 
+    /// Whether a field `Essential: yes` stands in the stanza, so that every package may take this one for granted (Policy 3.8).
+    pub fn says_essential(&self) -> bool
+        ensures { result ≡ self.now.says_essential }
+    {
+        self.row.says_essential
+    }
+
     /// The place of its stanza in the indices.
     pub fn place(&self) -> IndexPlace
         ensures { result ≡ self.now.place }
@@ -89,11 +96,16 @@ impl<'a> IndexEntry<'a> {
         values_of(self.kept.arena.as_slice(), self.row).pkg(alloc, self.kept.arch.as_slice())
     }
 
-    /// The package as `pkg` reads it, with its mark and its place. Memory alone can fail. Linear in the relation fields.
+    /// The package as `pkg` reads it, with its marks and its place. Memory alone can fail. Linear in the relation fields.
     pub fn package(&self, alloc: Global) -> Result<IndexPackage<'a>, AllocError>
         ensures { IfOk result (λ indexed. indexed ≡ self.now) }
     {
         let pkg = self.pkg(alloc)?;
-        Ok(IndexPackage::new(pkg, self.is_essential(), self.place()))
+        Ok(IndexPackage::new(
+            pkg,
+            self.is_essential(),
+            self.says_essential(),
+            self.place(),
+        ))
     }
 }

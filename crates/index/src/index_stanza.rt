@@ -5,7 +5,7 @@ ghost use Rattle.index.specs.Index.{indexed_at};
 ghost use Rattle.relation.specs.PkgFields.{fields_of};
 ghost use Rattle.relation.specs.PkgText.{pkg_fault, pkg_of, read_pkg};
 ghost use Rattle.relation.specs.PkgValues.{spelled};
-ghost use Rattle.relation.specs.PackageStanza.{is_essential as marked_essential, read_stanza};
+ghost use Rattle.relation.specs.PackageStanza.{is_essential as marked_essential, read_stanza, says_essential as said_essential};
 
 use relation::{Pkg, PkgFault, PkgFields, PkgValues, Version};
 use rules::IndexPlace;
@@ -20,6 +20,7 @@ pub struct IndexStanza<'a> {
     values: PkgValues<'a>,
     arch: &'a [u8],
     is_essential: bool,
+    says_essential: bool,
     place: IndexPlace,
     stanza: Stanza<'a>,
 }
@@ -35,7 +36,12 @@ impl<'a> Model for IndexStanza<'a> {
     ghost Value = { IndexStanzaValue };
 
     ghost view = { λ s. record {
-      listed = record { pkg = spelled s.arch.now s.values; is_essential = s.is_essential; place = s.place };
+      listed = record {
+        pkg = spelled s.arch.now s.values;
+        is_essential = s.is_essential;
+        says_essential = s.says_essential;
+        place = s.place;
+      };
       fields = (read_stanza s.stanza).fields;
     } };
 
@@ -49,11 +55,13 @@ impl<'a> IndexStanza<'a> {
         fields: &PkgFields<'a>,
         arch: &'a [u8],
         is_essential: bool,
+        says_essential: bool,
         place: IndexPlace,
         stanza: Stanza<'a>,
     ) -> Result<IndexStanza<'a>, PkgFault>
         requires fields { fields.now ≡ fields_of stanza }
         requires essential { is_essential ≡ marked_essential stanza.fields }
+        requires said { says_essential ≡ said_essential stanza.fields }
         ensures { MatchResult result
             (λ indexed. (pkg_fault fields.now ≡ None) × (indexed ≡ indexed_at place stanza.entry (pkg_of arch.now fields.now)))
             (λ fault. pkg_fault fields.now ≡ Some fault) }
@@ -63,6 +71,7 @@ impl<'a> IndexStanza<'a> {
             values,
             arch,
             is_essential,
+            says_essential,
             place,
             stanza,
         })
@@ -95,6 +104,13 @@ impl<'a> IndexStanza<'a> {
         ensures { result ≡ self.now.listed.is_essential }
     {
         self.is_essential
+    }
+
+    /// Whether a field `Essential: yes` stands in the stanza, so that every package may take this one for granted (Policy 3.8).
+    pub fn says_essential(&self) -> bool
+        ensures { result ≡ self.now.listed.says_essential }
+    {
+        self.says_essential
     }
 
     /// The place of the stanza in the indices.

@@ -22,7 +22,15 @@ fn read_indexed<'a>(
         (λ indexed. Spec.read_indexed arch.now place stanza.now ≡ Ok indexed)
         (λ fault. Spec.read_indexed arch.now place stanza.now ≡ Err fault) }
 {
-    match IndexStanza::read(&found.pkg, arch, found.is_essential, place, stanza.again()) {
+    let read = IndexStanza::read(
+        &found.pkg,
+        arch,
+        found.is_essential,
+        found.says_essential,
+        place,
+        stanza.again(),
+    );
+    match read {
         Ok(indexed) => Ok(Some(indexed)),
         Err(fault) => Err(IndexFault::Pkg(fault)),
     }

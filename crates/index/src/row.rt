@@ -19,7 +19,7 @@ pub struct KeptTexts {
 }
 
 /// Where the texts of a package stand, one behind another: at a place, so many bytes, and how long each is but the last. And
-/// whether the package is marked essential, and the number of its stanza.
+/// whether the package is marked essential, whether it is so by the field Essential itself, and the number of its stanza.
 #[derive(Clone, Copy, Drop)]
 pub struct Row {
     pub(crate) at: u32,
@@ -31,6 +31,7 @@ pub struct Row {
     pub(crate) conflicts: u32,
     pub(crate) breaks: u32,
     pub(crate) is_essential: bool,
+    pub(crate) says_essential: bool,
     pub(crate) stanza: u32,
 }
 
@@ -156,12 +157,14 @@ pub fn keep_row(
     arena: &mut Vec<u8>,
     values: &PkgValues<'_>,
     is_essential: bool,
+    says_essential: bool,
     stanza: usize,
 ) -> Result<Row, AllocError>
     ensures grown { OnOk result (arena.new.items ≡ arena.old.items ++ joined_text values.now) }
     ensures row { IfOk result (λ row. IsRow arena.new.items row) }
     ensures values { IfOk result (λ row. values_at arena.new.items row ≡ values.now) }
     ensures essential { IfOk result (λ row. row.is_essential ≡ is_essential) }
+    ensures said { IfOk result (λ row. row.says_essential ≡ says_essential) }
     ensures stanza { IfOk result (λ row. row.stanza ≡ stanza) }
 {
     let texts = values.texts();
@@ -177,6 +180,7 @@ pub fn keep_row(
         conflicts: narrow(texts.conflicts.len())?,
         breaks: narrow(texts.breaks.len())?,
         is_essential,
+        says_essential,
         stanza: narrow(stanza)?,
     })
 }

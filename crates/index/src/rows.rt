@@ -60,11 +60,12 @@ impl KeptRows {
         }
     }
 
-    // Puts the package of these values, marked essential or not, of the stanza of this number behind the others.
+    // Puts the package of these values, with these two marks, of the stanza of this number behind the others.
     fn push(
         &mut self,
         values: &PkgValues<'_>,
         is_essential: bool,
+        says_essential: bool,
         stanza: usize,
     ) -> Result<(), AllocError>
         requires { AreRows self.old.arena.items self.old.rows.items }
@@ -72,11 +73,22 @@ impl KeptRows {
         ensures one { OnOk result (length self.new.rows.items ≡ length self.old.rows.items + 1) }
         ensures more { (arch : List ℕ) (number : ℕ) → OnOk result (stanzas_at arch number self.new
             ≡ Spec.joined (stanzas_at arch number self.old) (record {
-              listed = record { pkg = spelled arch values.now; is_essential = is_essential; place = record { index = number; stanza = stanza } } ∷ [];
+              listed = record {
+                pkg = spelled arch values.now;
+                is_essential = is_essential;
+                says_essential = says_essential;
+                place = record { index = number; stanza = stanza };
+              } ∷ [];
               skipped = 0;
             })) }
     {
-        let row = keep_row(&mut self.arena, values, is_essential, stanza)?;
+        let row = keep_row(
+            &mut self.arena,
+            values,
+            is_essential,
+            says_essential,
+            stanza,
+        )?;
         self.rows.push(row)?;
         Ok(())
     }
@@ -109,7 +121,12 @@ impl KeptRows {
                 if is_full(before, self.rows.len()) {
                     return Err(IndexFault::TooLarge.into());
                 }
-                self.push(&values, found.is_essential, place.stanza)?;
+                self.push(
+                    &values,
+                    found.is_essential,
+                    found.says_essential,
+                    place.stanza,
+                )?;
                 Ok(())
             }
         }

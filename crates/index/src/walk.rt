@@ -5,21 +5,25 @@ ghost use Rattle.relation.specs.Kind.{IsOfKind};
 ghost use Rattle.relation.specs.PackageStanza.{field_of};
 ghost use Rattle.relation.specs.PkgText.{pkg_fault};
 ghost use Rattle.relation.specs.PkgValues.{values_of};
-ghost use Rattle.rules.specs.Stanza.{marks_essential};
+ghost use Rattle.rules.specs.Stanza.{marks_essential, says_essential};
 ghost use Rattle.index.specs.Streamed.{read_values, unless_refused};
 ghost use Rattle.index.specs.Walk.{found_in, found_of, with_field};
 
 use crate::error::IndexFault;
-use relation::{Acceptor, Kind, PkgFields, PkgValues, counts_for, kind_of, marks_essential};
+use relation::{
+    Acceptor, Kind, PkgFields, PkgValues, counts_for, kind_of, marks_essential, says_essential,
+};
 use stanza::{Field, FieldAt, ReadStanza, Stanza};
 use std::marker::Model;
 
-// The fields of the package, the value of Architecture, and whether the package is marked essential.
+// The fields of the package, the value of Architecture, whether the package is marked essential, and whether it is so by the
+// field Essential itself.
 #[derive(Drop)]
 pub struct Found<'a> {
     pub(crate) pkg: PkgFields<'a>,
     pub(crate) architecture: Option<&'a [u8]>,
     pub(crate) is_essential: bool,
+    pub(crate) says_essential: bool,
 }
 
 impl<'a> Model for Found<'a> {
@@ -28,7 +32,12 @@ impl<'a> Model for Found<'a> {
 
     ghost Value = { FoundValue };
 
-    ghost view = { λ f. record { pkg = f.pkg; architecture = option_copied f.architecture; is_essential = f.is_essential } };
+    ghost view = { λ f. record {
+      pkg = f.pkg;
+      architecture = option_copied f.architecture;
+      is_essential = f.is_essential;
+      says_essential = f.says_essential;
+    } };
 }
 
 // The value of Architecture: the one found before, or that of the field.
@@ -46,6 +55,13 @@ fn is_marked(before: bool, field: &Field<'_>) -> bool
     ensures { result ≡ (before || marks_essential (field_of field.now)) }
 {
     before || marks_essential(field)
+}
+
+// Whether the package was said to be essential before, or the field says so.
+fn is_said(before: bool, field: &Field<'_>) -> bool
+    ensures { result ≡ (before || says_essential (field_of field.now)) }
+{
+    before || says_essential(field)
 }
 
 // The values of the fields, or their first refusal.
@@ -71,6 +87,7 @@ impl<'a> Found<'a> {
             pkg: PkgFields::new(line),
             architecture: None,
             is_essential: false,
+            says_essential: false,
         }
     }
 
@@ -81,7 +98,10 @@ impl<'a> Found<'a> {
     {
         match kind {
             Kind::Architecture => self.architecture = architecture_with(self.architecture, field),
-            Kind::Essential => self.is_essential = is_marked(self.is_essential, field),
+            Kind::Essential => {
+                self.is_essential = is_marked(self.is_essential, field);
+                self.says_essential = is_said(self.says_essential, field);
+            }
             Kind::Protected => self.is_essential = is_marked(self.is_essential, field),
             _ => self.pkg.add_of_kind(kind, field),
         }

@@ -6,7 +6,7 @@ ghost use Rattle.inputs.specs.Counting.{one_more};
 ghost use Rattle.inputs.specs.Inputs.{shelved};
 ghost use Rattle.inputs.specs.declared.shelf.ReadError.TheVariants as ReadError;
 
-use crate::shelf::{Part, ReadError, Shelf};
+use crate::shelf::{Part, Progress, ReadError, Shelf};
 use stanza::Source;
 use std::alloc::{AllocError, Global};
 
@@ -121,6 +121,8 @@ impl<'p, 'a> Shelf for MemoryShelf<'p, 'a> {
     fn close(&mut self, text: &'a [u8]) {
         self.failures = self.failures.saturating_add(text.failures());
     }
+
+    fn show(&mut self, _progress: Progress) {}
 
     ghost holds_still = { λ _. tt };
 

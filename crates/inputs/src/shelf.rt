@@ -29,6 +29,17 @@ pub enum ReadError {
     OutOfMemory,
 }
 
+/// How far an answer to many questions is.
+#[derive(Clone, Copy, Debug, PartialEq, Eq)]
+pub struct Progress {
+    /// How many of them are answered.
+    pub answered: usize,
+    /// How many there are.
+    pub all: usize,
+    /// How many of the answers are a no.
+    pub refuted: usize,
+}
+
 /// Where the texts of a request are found.
 pub trait Shelf {
     /// The text of an index that was opened, to be read from its beginning.
@@ -81,6 +92,12 @@ pub trait Shelf {
     fn close(&mut self, text: Self::Text)
         ensures same { found self.new ≡ found self.old }
         ensures count { faults self.new ≡ min (faults self.old + Self.Text.faults text) (2 ^ 64 - 1) }
+        ensures held { holds self.old self.new };
+
+    /// Shows a person how far an answer is, where one looks on. Nothing is promised of what is shown.
+    fn show(&mut self, progress: Progress)
+        ensures same { found self.new ≡ found self.old }
+        ensures count { faults self.new ≡ faults self.old }
         ensures held { holds self.old self.new };
 
     // It holds what it held before a call, and what it held before two calls.

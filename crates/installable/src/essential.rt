@@ -1,4 +1,4 @@
-//! The names that the indices mark as essential (Policy 3.8).
+//! The names that the indices say are essential (Policy 3.8).
 ghost use Rattle.std.specs.Prelude.{◌≡◌, IfOk, OnOk, bytes_eq, fold};
 ghost use Rattle.std.specs.List.{list_any};
 ghost use Rattle.candidates.specs.Inputs.{indices_of};
@@ -27,19 +27,19 @@ fn add_name(alloc: Global, names: &mut Vec<Text>, name: &[u8]) -> Result<(), All
     Ok(())
 }
 
-// Puts the names behind the others that the index marks as essential, each unless it is there.
+// Puts the names behind the others that the index says are essential, each unless it is there.
 fn add_marked(alloc: Global, names: &mut Vec<Text>, index: &Index<'_>) -> Result<(), AllocError>
     ensures { OnOk result (names.new.items ≡ fold with_name names.old.items (names_marked index.now.index.listed)) }
 {
     for entry in index.packages() {
-        if entry.is_essential() {
+        if entry.says_essential() {
             add_name(alloc, names, entry.name())?;
         }
     }
     Ok(())
 }
 
-/// The names that a stanza of the indices marks as essential, each once, in the order in which each comes first. Each mark costs a walk
+/// The names with a field `Essential: yes` in a stanza of the indices, each once, in the order in which each comes first. Each costs a walk
 /// over the names. Memory alone can fail.
 pub(crate) fn essential_names(alloc: Global, indices: &[Index<'_>]) -> Result<Vec<Text>, AllocError>
     ensures { IfOk result (λ names. names.items ≡ essential_names (indices_of indices.now)) }

@@ -4,11 +4,12 @@ ghost use Rattle.std.specs.List.{AllZip};
 ghost use mathlib.Core.Logic.{inl};
 ghost use Rattle.candidates.specs.Inputs.{indices_of};
 ghost use Rattle.inputs.specs.ReadAs.{AreReadAs, IsListed};
+ghost use Rattle.inputs.specs.ReadBy.{IsReadBy};
 ghost use Rattle.inputs.specs.Texts.{Texts};
 ghost use Rattle.inputs.specs.declared.refusal.Fault.TheVariants as fault;
 ghost use Rattle.installable.specs.Answers.{IsPackageAnswer, IsRefusedAmong, IsSaidOfPackages, beside_in, names_beside};
 
-use crate::answer::{PackageAnswer, Surveyed};
+use crate::answer::{Installability, PackageAnswer, Surveyed};
 use crate::asked::{Stanza, stanzas_asked};
 use crate::essential::essential_names;
 use crate::named::check_names;
@@ -16,7 +17,7 @@ use crate::over::{answer_to, installability_of};
 use crate::request_text::lines_beside;
 use crate::shard::{Shard, part_of};
 use index::Index;
-use inputs::{Before, Question, Refusal, Shelf, listed_in};
+use inputs::{Before, Progress, Question, Refusal, Shelf, listed_in};
 use rules::{Items, Text};
 use std::alloc::{AllocError, Global};
 use universe_build::Listing;
@@ -27,7 +28,8 @@ use universe_build::Listing;
 /// package by itself. The request of the texts isn't read: the first refusal is one in the order status, sources, indices, preferences,
 /// then E17 of a name that no stanza has, with its number among the names, and then that of the request by itself or for a package. That
 /// packages conflict at the start changes no answer. What is admitted is listed once; each package costs what `inputs::requested_in` and
-/// `solver::decide` cost.
+/// `solver::decide` cost, and of one that is refuted the reasons, where they are wanted, what `reasons::core` and `reasons::sentences` do.
+/// The shelf is shown how far the answer is, behind each package.
 #[derive(Clone, Copy)]
 pub struct Installable<'n> {
     /// The names of the packages, of which all versions are asked about; where there are none, all packages are.
@@ -40,6 +42,8 @@ pub struct Installable<'n> {
     pub shard: Shard,
     /// How many conflicts each search may have.
     pub limit: u32,
+    /// Whether the reasons are wanted of what is refuted.
+    pub explains: bool,
 }
 
 // The names that are asked for beside each package.
@@ -57,26 +61,43 @@ fn names_beside(
     Ok(names)
 }
 
-// The answers to these packages, one after the other.
-fn answers_to<'i, 'a>(
+// How many of the answers are a no, behind one more.
+fn with_refuted(before: usize, answer: &PackageAnswer) -> usize {
+    match answer.installability {
+        Installability::Broken(_) => before.saturating_add(1),
+        _ => before,
+    }
+}
+
+// The answers to these packages, one after the other. The shelf is shown how far they are.
+fn answers_to<'i, 'a, S: Shelf>(
     alloc: Global,
+    shelf: &mut S,
     before: &Before<'_, '_, '_, '_, '_, '_, 'i, 'a>,
     listing: &Listing<'_, 'i, 'a>,
     asked: &[Stanza<'_, '_>],
     beside: &[u8],
-    limit: u32,
+    question: &Installable<'_>,
 ) -> Result<Vec<PackageAnswer>, Refusal>
     requires { IsListed before.now listing.now }
     ensures said { (texts : Texts) → AreReadAs texts before.now → IfOk result (λ answers.
-        AllZip (IsPackageAnswer texts limit beside.now) asked.now answers.items) }
+        AllZip (IsPackageAnswer texts question.now.limit beside.now) asked.now answers.items) }
     ensures refused { (texts : Texts) → AreReadAs texts before.now
         → IfErr result (IsRefusedAmong texts beside.now asked.now) }
     ensures known { IfErr result (λ refused. refused.fault ≢ fault.Read) }
+    ensures read { IsReadBy S.Shelf shelf.old result shelf.new }
 {
     let mut answers = Vec::new(alloc);
+    let mut refuted = 0;
     for stanza in asked {
-        let answer = answer_to(alloc, before, listing, stanza, beside, limit)?;
+        let answer = answer_to(alloc, before, listing, stanza, beside, question)?;
+        refuted = with_refuted(refuted, &answer);
         answers.push(answer)?;
+        shelf.show(Progress {
+            answered: answers.len(),
+            all: asked.len(),
+            refuted,
+        });
     }
     Ok(answers)
 }
@@ -104,7 +125,7 @@ impl<'n> Question for Installable<'n> {
     fn answer<S: Shelf>(
         &self,
         alloc: Global,
-        _shelf: &mut S,
+        shelf: &mut S,
         before: &Before<'_, '_, '_, '_, '_, '_, '_, '_>,
         _beside: &mut (),
     ) -> Result<Surveyed, Refusal> {
@@ -113,14 +134,15 @@ impl<'n> Question for Installable<'n> {
         let ordered = stanzas_asked(alloc, before.indices, self.names)?;
         let asked = part_of(alloc, ordered.as_slice(), self.shard)?;
         let listing = listed_in(alloc, before, self.asks_all_versions)?;
-        let base = installability_of(alloc, before, &listing, beside.as_slice(), self.limit)?;
+        let base = installability_of(alloc, before, &listing, beside.as_slice(), self)?;
         let answers = answers_to(
             alloc,
+            shelf,
             before,
             &listing,
             asked.as_slice(),
             beside.as_slice(),
-            self.limit,
+            self,
         )?;
         Ok(Surveyed {
             base,

@@ -179,9 +179,9 @@ left-rest before texts request lines place kept read there out is = (
 pub is-kept : (before : Before) (texts : Texts) (limit : ℕ) (kept : Kept) (back : KeptBack) → AreReadAs texts before
     → (lines : List (List ℕ)) × IsLeft texts lines kept.places.items kept.request.items
     → IsSolvedRequest before limit kept.request.items kept.solved → back.answered.solved ≡ kept.solved.solved
-    → back.answered.asks_all_versions ≡ kept.solved.requested.asks_all_versions → back.request ≡ kept.request.items
+    → back.answered.asks_all_versions ≡ kept.solved.requested.asks_all_versions → back.answered.naming ≡ None → back.request ≡ kept.request.items
     → back.left_out ≡ kept.places.items → IsKeptBack texts limit back
-is-kept before texts limit kept back read left is same asks request places = record {
+is-kept before texts limit kept back read left is same asks naming request places = record {
   lines = left.0;
   left = rw (request, places) left.1;
   holds = record {
@@ -189,6 +189,7 @@ is-kept before texts limit kept back read left is same asks request places = rec
     start = start_of before;
     denoted = rw (request, asks) (is.asked texts read);
     holds = rw same is.holds;
+    naming = naming;
   };
 }
 

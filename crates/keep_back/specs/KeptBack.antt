@@ -1,5 +1,5 @@
 -- As much of a request as can be: what is left of it where lines are left out, one after the other (this project's own).
-use Rattle.std.specs.Prelude.{◌≡◌, ◌⊎◌, ℕ, ◌<◌, List, [], ◌∷◌, length, Result, Ok, Err, Some, ⊤}
+use Rattle.std.specs.Prelude.{◌≡◌, ◌⊎◌, ℕ, ◌<◌, false, List, [], ◌∷◌, length, Result, Ok, Err, Some, ⊤}
 use Rattle.std.specs.List.{remove}
 use Rattle.inputs.specs.Meaning.{Denotes}
 use Rattle.inputs.specs.ReadAs.{asking}
@@ -45,7 +45,7 @@ IsLeft texts lines (place ∷ later) request = AreLinesOf texts lines × AreRefu
 pub record IsKeptBack (texts : Texts) (limit : ℕ) (kept : KeptBack) : Type 0 where
   pub lines : List (List ℕ)
   pub left : IsLeft texts lines kept.left_out kept.request
-  pub holds : IsSolution (asking kept.request texts) limit kept.answered
+  pub holds : IsSolution (asking kept.request texts) limit false kept.answered
 
 -- lines were left out, and what is left of the request is refused so
 pub record IsLeftRefusal (texts : Texts) (refused : Refusal) : Type 0 where

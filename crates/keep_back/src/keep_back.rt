@@ -1,6 +1,6 @@
 // A request that is answered as far as it can be.
 
-ghost use Rattle.std.specs.Prelude.{◌≡◌, ◌≢◌, IfErr, IfOk, Some, false};
+ghost use Rattle.std.specs.Prelude.{◌≡◌, ◌≢◌, IfErr, IfOk, None, Some, false};
 ghost use Rattle.std.proofs.Common.{rules};
 ghost use mathlib.Core.Logic.{inl};
 ghost use Rattle.cli_engine.specs.Good.{IsGoodIfPlan};
@@ -80,6 +80,7 @@ fn tell_kept<'a>(
     requires good { IsGoodIfPlan kept.solved.requested.universe (start_of before.now) kept.solved.solved }
     ensures solved { IfOk result (λ kept_back. kept_back.answered.solved ≡ kept.entry.solved.solved) }
     ensures asks { IfOk result (λ kept_back. kept_back.answered.asks_all_versions ≡ kept.entry.solved.requested.asks_all_versions) }
+    ensures naming { IfOk result (λ kept_back. kept_back.answered.naming ≡ None) }
     ensures request { IfOk result (λ kept_back. kept_back.request ≡ kept.entry.request.items) }
     ensures left_out { IfOk result (λ kept_back. kept_back.left_out ≡ kept.entry.places.items) }
     ensures unasked { notes.old.wanted ≡ false → notes.new ≡ notes.old }
@@ -96,6 +97,7 @@ fn tell_kept<'a>(
         &requested.universe,
         solved,
         requested.asks_all_versions,
+        false,
         has_document,
     )?;
     tell_solved(alloc, before, &requested.universe, &answer, notes)?;

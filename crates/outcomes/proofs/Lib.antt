@@ -1,1 +1,2 @@
+mod DocumentLemmas
 mod LineLemmas

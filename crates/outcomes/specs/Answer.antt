@@ -1,6 +1,7 @@
 -- What is printed of a verdict on a plan or a refutation, of a candidate and of a comparison (this project's own form).
 use Rattle.std.specs.Prelude.{ℕ, Bool, List, [], ◌∷◌, ◌++◌, Option, Some, None, codes, decimal, if◌then◌else◌}
 use Rattle.std.specs.Fmt.{signed_decimal}
+use Rattle.std.specs.Option.{unwrap_or}
 use Rattle.candidates.specs.Offer.{Offer}
 use Rattle.cli_engine.specs.declared.solve.Answered.{Answered}
 use Rattle.refutecheck.specs.declared.verdict.Verdict.{Verdict as Refuted}
@@ -32,9 +33,9 @@ text_for asks_all_versions (solved.Plan steps) = if asks_all_versions then plan_
 text_for asks_all_versions (solved.Refuted lines) = refutation_text lines
 text_for asks_all_versions (solved.Undecided why) = undecided_line why
 
--- the text of what is answered to a request
+-- the text of what is answered to a request: that of a refutation with its pairs named, where it has one
 abbrev pub solved_text : Answered → List ℕ
-solved_text found = text_for found.asks_all_versions found.solved
+solved_text found = unwrap_or found.naming (text_for found.asks_all_versions found.solved)
 
 -- a rule: its code and its name
 abbrev pub rule_words : Rule → List ℕ

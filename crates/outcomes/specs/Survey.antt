@@ -1,6 +1,9 @@
 -- What is printed of packages that are asked about, and with which status the program ends then (this project's own form).
-use Rattle.std.specs.Prelude.{◌≡◌, ◌==◌, ◌||◌, ℕ, Bool, true, false, List, [], ◌++◌, Result, Ok, Err, codes, decimal, length, if◌then◌else◌}
+use Rattle.std.specs.Prelude.{◌≡◌, ◌==◌, ◌||◌, ℕ, Bool, true, false, List, [], ◌∷◌, ◌++◌, Result, Ok, Err, codes, decimal, length, if◌then◌else◌}
 use Rattle.std.specs.List.{filter, flat_map, list_any}
+use Rattle.command_line.specs.declared.call.Format.{Format}
+use Rattle.command_line.specs.declared.call.Format.TheVariants as format
+use Rattle.documents.specs.Document.{IsDocumentOf}
 use Rattle.inputs.specs.declared.refusal.Refusal.{Refusal}
 use Rattle.installable.specs.declared.answer.Installability.{Installability}
 use Rattle.installable.specs.declared.answer.Installability.TheVariants as answer
@@ -59,6 +62,33 @@ counts_line answers = codes "checked " ++ (decimal (length answers)
 abbrev pub survey_text : Surveyed → List ℕ
 survey_text surveyed = line_of (codes "base") surveyed.base ++ (flat_map package_line surveyed.packages ++ counts_line surveyed.packages)
 
+-- the line of a request of this subject by itself, if there is one
+abbrev pub lines_by : List ℕ → Installability → List (List ℕ)
+lines_by subject answer.Installable = []
+lines_by subject (answer.Broken refuted) = line_of subject (answer.Broken refuted) ∷ []
+lines_by subject (answer.Limit limit) = line_of subject (answer.Limit limit) ∷ []
+lines_by subject answer.Unchecked = line_of subject answer.Unchecked ∷ []
+
+-- so of a package
+abbrev pub package_lines : PackageAnswer → List (List ℕ)
+package_lines found = lines_by (named found) found.installability
+
+-- the lines, each by itself
+abbrev pub survey_lines : Surveyed → List (List ℕ)
+survey_lines surveyed =
+    lines_by (codes "base") surveyed.base ++ (flat_map package_lines surveyed.packages ++ counts_line surveyed.packages ∷ [])
+
+-- documents of these texts stand one behind another
+abbrev pub AreDocumentsOf : List (List ℕ) → List ℕ → Type 0
+AreDocumentsOf [] printed = printed ≡ []
+AreDocumentsOf (text ∷ texts) printed =
+    (first : List ℕ) × (rest : List ℕ) × (printed ≡ first ++ rest) × IsDocumentOf text first × AreDocumentsOf texts rest
+
+-- the answers about packages are printed in this format: as their lines, or as a document of each line
+abbrev pub IsSurveyIn : Format → Surveyed → List ℕ → Type 0
+IsSurveyIn format.Text surveyed printed = printed ≡ survey_text surveyed
+IsSurveyIn format.Json surveyed printed = AreDocumentsOf (survey_lines surveyed) printed
+
 -- undecided where a request is, no where one has no selection, and success where each has one
 abbrev pub exit_of_survey : Surveyed → Exit
 exit_of_survey surveyed =
@@ -66,10 +96,11 @@ exit_of_survey surveyed =
     else if is_broken surveyed.base || list_any (λ found. is_broken found.installability) surveyed.packages then exit.No
     else exit.Success
 
--- the outcome is that of the answers about packages: their lines on standard output, a refusal's on standard error
-abbrev pub IsOutcomeOfSurvey : Result Surveyed Refusal → Outcome → Type 0
-IsOutcomeOfSurvey (Ok surveyed) found = found ≡ outcome.Answer (survey_text surveyed) (exit_of_survey surveyed)
-IsOutcomeOfSurvey (Err refusal) found = IsOutcomeOfRefusal refusal found
+-- the outcome is that of the answers about packages: they on standard output, in this format, a refusal's line on standard error
+abbrev pub IsOutcomeOfSurvey : Format → Result Surveyed Refusal → Outcome → Type 0
+IsOutcomeOfSurvey written (Ok surveyed) found =
+    (printed : List ℕ) × (found ≡ outcome.Answer printed (exit_of_survey surveyed)) × IsSurveyIn written surveyed printed
+IsOutcomeOfSurvey written (Err refusal) found = IsOutcomeOfRefusal refusal found
 
 -- the file at this path couldn't be written (E26)
 abbrev pub IsFileUnwritten : List ℕ → Outcome → Type 0

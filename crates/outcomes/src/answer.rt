@@ -34,13 +34,23 @@ pub fn refutation_line(alloc: Global, verdict: &RefutationVerdict) -> Result<Vec
     }
 }
 
-/// The text that is printed of the answer to a request: a plan, in version 2 where the request asks for all versions, a refutation, or
-/// `undecided` with what it is undecided for. Memory alone can fail.
+/// The text that is printed of the answer to a request: a plan, in version 2 where the request asks for all versions, a refutation, with
+/// its pairs named where that is asked for, or `undecided` with what it is undecided for. Memory alone can fail.
 pub fn solved_text(alloc: Global, found: &Answered) -> Result<Vec<u8>, AllocError>
     ensures { IfOk result (λ text. text.items ≡ Spec.solved_text found.now) }
 {
-    match &found.solved {
-        Solved::Plan(steps) if found.asks_all_versions => write_plan_2(alloc, steps.as_slice()),
+    match &found.naming {
+        Some(text) => text.as_slice().to_vec(alloc),
+        None => text_for(alloc, &found.solved, found.asks_all_versions),
+    }
+}
+
+// The text of the answer to a request that asks for all versions, or doesn't; the pairs of a refutation have numbers.
+fn text_for(alloc: Global, solved: &Solved, asks_all_versions: bool) -> Result<Vec<u8>, AllocError>
+    ensures { IfOk result (λ text. text.items ≡ Spec.text_for asks_all_versions solved.now) }
+{
+    match solved {
+        Solved::Plan(steps) if asks_all_versions => write_plan_2(alloc, steps.as_slice()),
         Solved::Plan(steps) => {
             let text = write_plan(alloc, steps.as_slice())?;
             Ok(text)

@@ -8,6 +8,7 @@ mod exit;
 mod outcome;
 mod printing;
 mod survey;
+mod survey_documents;
 
 pub use answer::{
     applied_line, candidate_line, candidate_lines, comparison_line, refutation_line, solved_text,

@@ -1,11 +1,12 @@
 //! What is printed of packages that are asked about, and how the program ends then.
-ghost use Rattle.std.specs.Prelude.{◌≡◌, ◌++◌, IfOk, OnOk, codes, length, string_bytes};
+ghost use Rattle.std.specs.Prelude.{◌≡◌, ◌++◌, IfOk, Ok, OnOk, codes, length, string_bytes};
 ghost use Rattle.std.specs.List.{flat_map, list_any};
 ghost use Rattle.outcomes.specs.Survey as Spec;
-ghost use Rattle.outcomes.specs.declared.outcome.Outcome.TheVariants as printed;
 
 use crate::exit::Exit;
 use crate::outcome::{Outcome, outcome_of_refusal};
+use crate::survey_documents::survey_documents;
+use command_line::Format;
 use inputs::Refusal;
 use installable::{Installability, PackageAnswer, Surveyed};
 use rules::Items;
@@ -34,8 +35,12 @@ fn push_line(text: &mut Vec<u8>, word: &[u8], subject: &[u8]) -> Result<(), Allo
     text.extend_from_slice(b"\n")
 }
 
-// Writes the line of a request of this subject, if there is one.
-fn push_found(text: &mut Vec<u8>, subject: &[u8], found: &Installability) -> Result<(), AllocError>
+/// Writes the line of a request of this subject, if there is one. Memory alone can fail.
+pub(crate) fn push_found(
+    text: &mut Vec<u8>,
+    subject: &[u8],
+    found: &Installability,
+) -> Result<(), AllocError>
     ensures { OnOk result (text.new.items ≡ text.old.items ++ Spec.line_of subject.now found.now) }
 {
     match found {
@@ -47,8 +52,8 @@ fn push_found(text: &mut Vec<u8>, subject: &[u8], found: &Installability) -> Res
     }
 }
 
-// The package, as it is named in its line.
-fn named(alloc: Global, found: &PackageAnswer) -> Result<Vec<u8>, AllocError>
+/// The package, as it is named in its line. Memory alone can fail.
+pub(crate) fn named(alloc: Global, found: &PackageAnswer) -> Result<Vec<u8>, AllocError>
     ensures { IfOk result (λ text. text.items ≡ Spec.named found.now) }
 {
     let mut text = found.name.as_bytes().to_vec(alloc)?;
@@ -79,8 +84,8 @@ fn push_packages(
     Ok(())
 }
 
-// How many packages are broken.
-fn count_broken(answers: &[PackageAnswer]) -> usize
+/// How many packages are broken.
+pub(crate) fn count_broken(answers: &[PackageAnswer]) -> usize
     ensures { result ≡ length (Spec.broken_of answers.now) }
 {
     answers
@@ -89,8 +94,8 @@ fn count_broken(answers: &[PackageAnswer]) -> usize
         .count()
 }
 
-// How many packages are undecided.
-fn count_undecided(answers: &[PackageAnswer]) -> usize
+/// How many packages are undecided.
+pub(crate) fn count_undecided(answers: &[PackageAnswer]) -> usize
     ensures { result ≡ length (Spec.undecided_of answers.now) }
 {
     answers
@@ -109,8 +114,8 @@ fn undecided_words(alloc: Global, number: usize) -> Result<String, AllocError>
     }
 }
 
-// The last line.
-fn counts_line(alloc: Global, answers: &[PackageAnswer]) -> Result<Vec<u8>, AllocError>
+/// The last line. Memory alone can fail.
+pub(crate) fn counts_line(alloc: Global, answers: &[PackageAnswer]) -> Result<Vec<u8>, AllocError>
     ensures { IfOk result (λ line. line.items ≡ Spec.counts_line answers.now) }
 {
     let asked = answers.len();
@@ -165,25 +170,40 @@ pub fn exit_of_survey(surveyed: &Surveyed) -> Exit
     }
 }
 
-/// What is printed of the answers about packages: their lines on standard output, or that of a refusal on standard error. Memory alone
-/// can fail.
+// The answers in the format.
+fn printed_in(alloc: Global, format: Format, surveyed: &Surveyed) -> Result<Vec<u8>, AllocError>
+    ensures { IfOk result (λ text. Spec.IsSurveyIn format surveyed.now text.items) }
+{
+    match format {
+        Format::Text => survey_text(alloc, surveyed),
+        Format::Json => survey_documents(alloc, surveyed),
+    }
+}
+
+/// What is printed of the answers about packages: they on standard output, in this format, or the line of a refusal on standard error.
+/// Memory alone can fail.
 pub fn outcome_of_survey(
     alloc: Global,
+    format: Format,
     answer: &Result<Surveyed, Refusal>,
 ) -> Result<Outcome, AllocError>
-    ensures { IfOk result (λ outcome. Spec.IsOutcomeOfSurvey answer.now outcome) }
+    ensures { IfOk result (λ outcome. Spec.IsOutcomeOfSurvey format answer.now outcome) }
 {
     match answer {
-        Ok(surveyed) => outcome_of_surveyed(alloc, surveyed),
+        Ok(surveyed) => outcome_of_surveyed(alloc, format, surveyed),
         Err(refusal) => outcome_of_refusal(alloc, refusal),
     }
 }
 
-/// What is printed of what is answered about packages: their lines on standard output. Memory alone can fail.
-pub fn outcome_of_surveyed(alloc: Global, surveyed: &Surveyed) -> Result<Outcome, AllocError>
-    ensures { IfOk result (λ outcome. outcome ≡ printed.Answer (Spec.survey_text surveyed.now) (Spec.exit_of_survey surveyed.now)) }
+/// What is printed of what is answered about packages: it on standard output, in this format. Memory alone can fail.
+pub fn outcome_of_surveyed(
+    alloc: Global,
+    format: Format,
+    surveyed: &Surveyed,
+) -> Result<Outcome, AllocError>
+    ensures { IfOk result (λ outcome. Spec.IsOutcomeOfSurvey format (Ok surveyed.now) outcome) }
 {
-    let text = Items::new(survey_text(alloc, surveyed)?);
+    let text = Items::new(printed_in(alloc, format, surveyed)?);
     Ok(Outcome::Answer(text, exit_of_survey(surveyed)))
 }
 

@@ -45,7 +45,7 @@ fn start_of(step: &Step) -> &'static [u8] {
         Step::Unpack(_, _) => b", in this very version already",
         Step::Deconfigure(_) => b", and what is deconfigured has to be installed",
         Step::Configure(_) => {
-            b", and what is configured has to be unpacked or half-configured or has triggers left"
+            b", and what is configured has to be unpacked or half-configured or has triggers left, and hasn't to be installed again"
         }
         Step::Remove(_) => b", and what is removed has to be there and sound",
         Step::Purge(_) => {
@@ -99,11 +99,11 @@ fn push_not_admitted(
             b" isn't admitted, or no index has it; ",
         ],
     )?;
-    push_listed(text, universe, name)?;
     if is_held(universe, name) {
-        text.extend_from_slice(b", since it is held")?;
+        text.extend_from_slice(name)?;
+        return text.extend_from_slice(b" is held, and what is held isn't changed");
     }
-    Ok(())
+    push_listed(text, universe, name)
 }
 
 /// Writes why the step isn't allowed by a rule that has no witness.

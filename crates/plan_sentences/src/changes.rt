@@ -4,6 +4,7 @@ use crate::lists::Listed;
 use crate::named::{pkg_of, record_of};
 use crate::removal::push_reason;
 use crate::words::push_pkg;
+use debversion::Version;
 use plancheck_state::{Records, StateRecord, are_met};
 use relation::Pkg;
 use rules::Step;
@@ -87,6 +88,7 @@ struct Changes {
     removed: Listed,
     purged: Listed,
     deconfigured: Listed,
+    older: Listed,
     mended: Listed,
     given_up: Listed,
 }
@@ -96,6 +98,18 @@ fn push_change(text: &mut Vec<u8>, old: &Pkg<'_>, new: &Pkg<'_>) -> Result<(), A
     push_pkg(text, old)?;
     text.extend_from_slice(b" -> ")?;
     text.extend_from_slice(new.version().text())
+}
+
+// Writes the package and the version of its candidate.
+fn push_older(
+    text: &mut Vec<u8>,
+    new: &Pkg<'_>,
+    candidate: &Version<'_>,
+) -> Result<(), AllocError> {
+    push_pkg(text, new)?;
+    text.extend_from_slice(b" (")?;
+    text.extend_from_slice(candidate.text())?;
+    text.extend_from_slice(b")")
 }
 
 // Whether configuration files alone are left of the name.
@@ -127,6 +141,7 @@ impl Changes {
             removed: Listed::new(alloc, b"Removed"),
             purged: Listed::new(alloc, b"Purged"),
             deconfigured: Listed::new(alloc, b"Deconfigured"),
+            older: Listed::new(alloc, b"Older than the candidate"),
             mended: Listed::new(alloc, b"Broken before, mended"),
             given_up: Listed::new(alloc, b"Broken before, removed"),
         }
@@ -139,6 +154,36 @@ impl Changes {
             Ordering::Greater => push_change(self.upgraded.begin()?, old, new),
             Ordering::Less => push_change(self.downgraded.begin()?, old, new),
         }
+    }
+
+    // The package that came in this version, if that is older than the candidate of its name.
+    fn add_older(&mut self, universe: &Universe<'_, '_>, new: &Pkg<'_>) -> Result<(), AllocError> {
+        match universe.candidate(new.name()) {
+            Some(candidate) if new.version().cmp(candidate) == Ordering::Less => {
+                push_older(self.older.begin()?, new, candidate)
+            }
+            _ => Ok(()),
+        }
+    }
+
+    // The package that is there in one version and in another one then.
+    fn add_changed(
+        &mut self,
+        universe: &Universe<'_, '_>,
+        old: &Pkg<'_>,
+        new: &Pkg<'_>,
+    ) -> Result<(), AllocError> {
+        self.add_kept(old, new)?;
+        if new.version().cmp(old.version()) == Ordering::Equal {
+            return Ok(());
+        }
+        self.add_older(universe, new)
+    }
+
+    // The package that is new.
+    fn add_new(&mut self, universe: &Universe<'_, '_>, new: &Pkg<'_>) -> Result<(), AllocError> {
+        push_pkg(self.new.begin()?, new)?;
+        self.add_older(universe, new)
     }
 
     // The package that is gone, and why.
@@ -178,9 +223,9 @@ impl Changes {
         name: &[u8],
     ) -> Result<(), AllocError> {
         match (pkg_of(start, name), pkg_of(end, name)) {
-            (Some(old), Some(new)) => self.add_kept(old, new),
+            (Some(old), Some(new)) => self.add_changed(universe, old, new),
             (Some(old), None) => self.add_gone(start, end, universe, old),
-            (None, Some(new)) => push_pkg(self.new.begin()?, new),
+            (None, Some(new)) => self.add_new(universe, new),
             (None, None) => self.add_purged(start, end, name),
         }
     }
@@ -227,6 +272,7 @@ impl Changes {
         self.removed.write(text)?;
         self.purged.write(text)?;
         self.deconfigured.write(text)?;
+        self.older.write(text)?;
         self.mended.write(text)?;
         self.given_up.write(text)?;
         self.write_counts(text)
@@ -255,7 +301,7 @@ fn changes_of(
 }
 
 /// The lines that say what is new, upgraded, downgraded, removed, purged or deconfigured between the start and the end of
-/// these steps, and what was broken at the start, by names in the order of their bytes. Memory alone can fail.
+/// these steps, which versions that came are older than the candidates of their names, and what was broken at the start, by names in the order of their bytes. Memory alone can fail.
 pub(crate) fn changes_between(
     alloc: Global,
     start: &Records<'_, '_>,

@@ -2,7 +2,7 @@
 
 use crate::words::{push, push_record};
 use plancheck_state::{Records, StateRecord, is_same};
-use relation::{Clause, Pkg};
+use relation::{Atom, Clause, Pkg};
 use std::alloc::AllocError;
 
 /// The record of the name, if there is one.
@@ -35,6 +35,11 @@ pub(crate) fn push_named(
     }
 }
 
+// Whether one of the alternatives before this place is of the name.
+fn is_named_before(atoms: &[Atom<'_>], place: usize, name: &[u8]) -> bool {
+    atoms.iter().take(place).any(|atom| atom.name() == name)
+}
+
 /// Writes in which state the present packages are that have a name of the clause: ` (foo 1 is unpacked)`.
 pub(crate) fn push_there(
     text: &mut Vec<u8>,
@@ -42,8 +47,10 @@ pub(crate) fn push_there(
     clause: &Clause<'_>,
 ) -> Result<(), AllocError> {
     let mut count: usize = 0;
-    for atom in clause.as_slice() {
-        if pkg_of(db, atom.name()).is_some() {
+    for (place, atom) in clause.as_slice().iter().enumerate() {
+        if !is_named_before(clause.as_slice(), place, atom.name())
+            && pkg_of(db, atom.name()).is_some()
+        {
             let before: &[u8] = if count == 0 { b" (" } else { b", " };
             text.extend_from_slice(before)?;
             push_named(text, db, atom.name())?;

@@ -16,8 +16,8 @@ pub(crate) enum Cause<'c, 'a, 'i> {
     Held(Option<&'c Version<'a>>),
     /// This version fits and is in an index, but isn't admitted.
     Unadmitted(Version<'i>),
-    /// These pairs alone are of the name.
-    Others(Vec<u32>),
+    /// These pairs alone are of the name, and these provide it.
+    Others(Vec<u32>, Vec<u32>),
     /// No pair is of the name, but these provide it.
     Provided(Vec<u32>),
     /// The indices have the name, but in no version that fits.
@@ -54,7 +54,7 @@ fn cause_of_unheld<'c, 'a, 'i>(
     if named.is_empty() {
         cause_of_unnamed(teller, wanted)
     } else {
-        Ok(Cause::Others(named))
+        Ok(Cause::Others(named, teller.providing(wanted.name)?))
     }
 }
 
@@ -123,6 +123,22 @@ fn push_about(
     text.extend_from_slice(behind)
 }
 
+// Writes that these pairs provide the name in no version that fits.
+fn push_provider(
+    teller: &Teller<'_, '_, '_, '_, '_>,
+    text: &mut Vec<u8>,
+    name: &[u8],
+    numbers: &[u32],
+) -> Result<(), AllocError> {
+    teller.push_pairs(text, numbers)?;
+    push_about(
+        text,
+        b" provides ",
+        name,
+        b", without the version that is asked for",
+    )
+}
+
 /// Writes the cause why no pair satisfies what a package asks for.
 pub(crate) fn push_cause(
     teller: &Teller<'_, '_, '_, '_, '_>,
@@ -134,20 +150,19 @@ pub(crate) fn push_cause(
         Cause::Foreign => push_about(text, b"", name, b" is asked for of another architecture"),
         Cause::Held(standing) => push_held(text, name, *standing),
         Cause::Unadmitted(version) => push_unadmitted(teller, text, name, version),
-        Cause::Others(numbers) => {
+        Cause::Others(numbers, providing) => {
             text.extend_from_slice(b"only ")?;
             teller.push_pairs(text, numbers.as_slice())?;
-            text.extend_from_slice(b" can be had")
+            text.extend_from_slice(b" can be had")?;
+            if providing.is_empty() {
+                return Ok(());
+            }
+            text.extend_from_slice(b", and ")?;
+            push_provider(teller, text, name, providing.as_slice())
         }
         Cause::Provided(numbers) => {
             text.extend_from_slice(b"only ")?;
-            teller.push_pairs(text, numbers.as_slice())?;
-            push_about(
-                text,
-                b" provides ",
-                name,
-                b", without the version that is asked for",
-            )
+            push_provider(teller, text, name, numbers.as_slice())
         }
         Cause::Unfit => push_about(text, b"no index has a version of ", name, b" that fits"),
         Cause::Missing => push_about(text, b"there is no package ", name, b" in any index"),

@@ -1,10 +1,39 @@
 // What goals say.
 
 use crate::causes::{Cause, cause_of, push_cause, push_held};
+use crate::offers::is_listed;
 use crate::teller::Teller;
 use crate::wanted::Wanted;
 use rules::Goal;
 use std::alloc::AllocError;
+
+// Writes that the name alone is provided, by these pairs, or what there is of it in the indices or at the start.
+fn push_provided(
+    teller: &Teller<'_, '_, '_, '_, '_>,
+    text: &mut Vec<u8>,
+    name: &[u8],
+    numbers: &[u32],
+) -> Result<(), AllocError> {
+    if is_listed(teller, name) {
+        return push_cause(teller, text, name, &Cause::Unfit);
+    }
+    if is_present(teller, name) {
+        text.extend_from_slice(b"no index has ")?;
+        text.extend_from_slice(name)?;
+        return text.extend_from_slice(b", and what is there of it has to be installed again");
+    }
+    text.extend_from_slice(name)?;
+    text.extend_from_slice(b" is no package; it is provided by ")?;
+    teller.push_pairs(text, numbers)
+}
+
+// Whether the name is present at the start.
+fn is_present(teller: &Teller<'_, '_, '_, '_, '_>, name: &[u8]) -> bool {
+    match teller.premises.start(name) {
+        Some(start) => start.is_present(),
+        None => false,
+    }
+}
 
 // Writes why no pair satisfies an install goal.
 fn push_goal_cause(
@@ -16,11 +45,7 @@ fn push_goal_cause(
     let cause = cause_of(teller, wanted)?;
     match &cause {
         // A goal asks for a package of the name itself.
-        Cause::Provided(numbers) => {
-            text.extend_from_slice(wanted.name)?;
-            text.extend_from_slice(b" is no package; it is provided by ")?;
-            teller.push_pairs(text, numbers.as_slice())
-        }
+        Cause::Provided(numbers) => push_provided(teller, text, wanted.name, numbers.as_slice()),
         _ => push_cause(teller, text, wanted.name, &cause),
     }
 }

@@ -2,7 +2,7 @@
 -- 5.3 and 5.6.8). That Protected counts as Essential is this project's own.
 use Rattle.std.specs.Prelude.{ℕ, Bool, ◌||◌, List, map, Some, codes, bytes_eq}
 use Rattle.std.specs.List.{list_any}
-use Rattle.rules.specs.Stanza.{Field, Stanza, marks_essential}
+use Rattle.rules.specs.Stanza.{Field, Stanza, marks_essential, says_essential as field_says_essential}
 use Rattle.stanza.specs.Field.{FieldText}
 use Rattle.stanza.specs.Stanza.{StanzaText}
 
@@ -17,6 +17,10 @@ read_stanza stanza = record { fields = map field_of stanza.fields; bytes = Some 
 -- a field marks the package essential
 abbrev pub is_essential : List FieldText → Bool
 is_essential fields = list_any (λ field. marks_essential (field_of field)) fields
+
+-- a field says of the package that it is essential
+abbrev pub says_essential : List FieldText → Bool
+says_essential fields = list_any (λ field. field_says_essential (field_of field)) fields
 
 -- the architecture counts: it is `all` or the configured one
 abbrev pub counts_for : List ℕ → List ℕ → Bool

@@ -21,7 +21,7 @@ pub use debversion::{Op, Version};
 pub use error::{PkgError, PkgFault, RelationError, RequiredField};
 pub use fields::PkgFields;
 pub use kind::{Kind, kind_of};
-pub use package_stanza::{counts_for, is_essential, marks_essential};
+pub use package_stanza::{counts_for, is_essential, marks_essential, says_essential};
 pub use parse::{parse_atoms, parse_clauses, parse_provides};
 pub use pkg::Pkg;
 pub use provided::Provided;

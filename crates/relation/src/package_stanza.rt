@@ -3,7 +3,7 @@
 ghost use Rattle.std.specs.Prelude.{◌≡◌};
 ghost use Rattle.relation.specs.PackageStanza as Spec;
 ghost use Rattle.relation.specs.PackageStanza.{field_of};
-ghost use Rattle.rules.specs.Stanza.{is_called, marks_essential};
+ghost use Rattle.rules.specs.Stanza.{is_called, marks_essential, says_essential};
 
 use stanza::{Field, Stanza};
 
@@ -20,6 +20,14 @@ pub fn marks_essential(field: &Field<'_>) -> bool
 {
     (is_called(b"Essential", field) || is_called(b"Protected", field))
         && field.value() == b"yes".as_slice()
+}
+
+/// Whether the field is `Essential: yes`, these very bytes: every package may take that of its stanza for granted (Debian
+/// Policy 3.8 and 5.6.9), which `Protected: yes` doesn't say.
+pub fn says_essential(field: &Field<'_>) -> bool
+    ensures { result ≡ says_essential (field_of field.now) }
+{
+    is_called(b"Essential", field) && field.value() == b"yes".as_slice()
 }
 
 /// Whether a field of the stanza marks the package essential. It walks over the stanza's lines.

@@ -35,7 +35,7 @@ suite name = record {
 
 abbrev listed : List ℕ → List ℕ → ℕ → ℕ → IndexPackage
 listed name version index stanza =
-    record { pkg = package_of name version no_relations; is_essential = false; place = record { index = index; stanza = stanza } }
+    record { pkg = package_of name version no_relations; is_essential = false; says_essential = false; place = record { index = index; stanza = stanza } }
 
 abbrev asking : Bool → Inputs
 asking asks_all_versions = record {

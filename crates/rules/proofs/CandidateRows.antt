@@ -29,7 +29,7 @@ stable = record {
 }
 
 abbrev foo_1 : IndexPackage
-foo_1 = record { pkg = package_of (codes "foo") (codes "1") no_relations; is_essential = false; place = record { index = 1; stanza = 1 } }
+foo_1 = record { pkg = package_of (codes "foo") (codes "1") no_relations; is_essential = false; says_essential = false; place = record { index = 1; stanza = 1 } }
 
 abbrev pinned_at : ℤ → Inputs
 pinned_at priority = record {

@@ -85,7 +85,7 @@ record_of state config_version pkg = record {
 
 -- the pair of a package that an index has
 abbrev pub indexed : Pkg → Pair
-indexed pkg = record { pkg = pkg; listed = Some (record { pkg = pkg; is_essential = false; place = record { index = 1; stanza = 1 } }) }
+indexed pkg = record { pkg = pkg; listed = Some (record { pkg = pkg; is_essential = false; says_essential = false; place = record { index = 1; stanza = 1 } }) }
 
 -- the pair of a package that no index has
 abbrev pub unindexed : Pkg → Pair

@@ -37,6 +37,10 @@ fields_called name fields = filter (is_called name) fields
 abbrev pub fields_without : List (List ℕ) → List Field → List Field
 fields_without names fields = filter (λ field. not (is_called_one_of names field)) fields
 
+-- a field `Essential: yes`, these very bytes: every package may take the package for granted (Policy 3.8 and 5.6.9)
+abbrev pub says_essential : Field → Bool
+says_essential field = is_called (codes "Essential") field && bytes_eq field.value (codes "yes")
+
 -- a field `Essential: yes` or `Protected: yes` (Policy 5.6.9; Protected alike is this project's own)
 abbrev pub marks_essential : Field → Bool
 marks_essential field = is_called_one_of (codes "Essential" ∷ codes "Protected" ∷ []) field && bytes_eq field.value (codes "yes")

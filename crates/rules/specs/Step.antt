@@ -13,10 +13,12 @@ use Rattle.rules.specs.declared.status.Want.TheVariants.{Install, Deinstall}
 use Rattle.rules.specs.declared.step.Step.{Step}
 use Rattle.rules.specs.declared.step.Step.TheVariants.{Unpack, Deconfigure, Configure, Remove, Purge}
 
--- a package of an index: the package, whether it is marked essential, and the place of its stanza in the indices
+-- a package of an index: the package, whether it is marked essential, whether it is so by the field Essential itself, and
+-- the place of its stanza in the indices
 pub record IndexPackage : Type 0 where
   pub pkg : Pkg
   pub is_essential : Bool
+  pub says_essential : Bool
   pub place : IndexPlace
 
 -- no relations

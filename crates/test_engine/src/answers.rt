@@ -111,6 +111,7 @@ fn is_plan(alloc: Global, solved: &Solved, wanted: &[u8]) -> Result<bool, AllocE
 
 const SOLVE: Solve = Solve {
     limit: 0,
+    names_pairs: false,
     has_document: false,
 };
 

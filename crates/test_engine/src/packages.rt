@@ -75,6 +75,7 @@ fn shown(
         without_essential,
         shard,
         limit: 1000,
+        explains: false,
     };
     match ask_bytes(alloc, &inputs, None, &settings, &question, &mut ()) {
         Ok(surveyed) => lines_of(alloc, &surveyed),

@@ -3,7 +3,7 @@
 ghost use Rattle.std.specs.Prelude.{◌≡◌, ℕ, IfErr};
 ghost use Rattle.inputs.specs.declared.shelf.ReadError.TheVariants as error;
 
-use inputs::{Part, ReadError, Shelf};
+use inputs::{Part, Progress, ReadError, Shelf};
 use std::alloc::{AllocError, Global};
 
 /// Texts of two indices, a request to install one package, and its plan.
@@ -77,6 +77,8 @@ impl<'a> Shelf for Watched<'a> {
     }
 
     fn close(&mut self, _text: &'a [u8]) {}
+
+    fn show(&mut self, _progress: Progress) {}
 
     ghost holds_still = { λ _. tt };
 

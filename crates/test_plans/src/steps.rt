@@ -27,7 +27,12 @@ pub(crate) fn unpacks_so(
         return Ok(false);
     };
     let pkg = indexed.pkg(alloc)?;
-    let listed = IndexPackage::new(pkg, indexed.is_essential(), indexed.place());
+    let listed = IndexPackage::new(
+        pkg,
+        indexed.is_essential(),
+        indexed.says_essential(),
+        indexed.place(),
+    );
     let given = if is_listed { Some(&listed) } else { None };
     Ok(word_of(unpack_failing(db, given, indexed.name(), indexed.version())) == wanted)
 }

@@ -45,7 +45,7 @@ fn package_of<'a>(
     alloc: Global,
     indexed: &IndexStanza<'a>,
 ) -> Result<IndexPackage<'a>, AllocError> {
-    Ok(IndexPackage::new(indexed.pkg(alloc)?, false, indexed.place()))
+    Ok(IndexPackage::new(indexed.pkg(alloc)?, false, false, indexed.place()))
 }
 
 fn index_of<'a>(alloc: Global) -> Result<Vec<IndexPackage<'a>>, AllocError> {

@@ -10,7 +10,7 @@ pub returns-in_err-put_files-clause-left : goal.returns-in_err-put_files-clause-
 returns-in_err-put_files-clause-left g c at was f k =
     let files = g.H.Host.files c.put_files.new.host in
     let kept = g.H.Host.kept c.put_files.new.host in
-    stopped_left c.args.folder.now c.args.surveyed.now at was files kept c.from_residual-in_err-put_files.result
+    stopped_left c.args.folder.now c.args.format c.args.surveyed.now at was files kept c.from_residual-in_err-put_files.result
     c.from_residual-in_err-put_files.ensures.0
     (subst (λ (all : List Placed). IsStopped all at was files kept) (c.as_slice.ensures.value ∙ c.in_ok-files.ensures)
     (c.in_err-put_files.ensures.left at was f k))

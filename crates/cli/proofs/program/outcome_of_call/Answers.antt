@@ -40,7 +40,7 @@ pub returns-in-Installable-clause-printed : goal.returns-in-Installable-clause-p
 returns-in-Installable-clause-printed g c at known =
     let made = c.arguments_by-arguments-in-Installable in
     let folder = option_map (λ (path : Bor Text). path.now) c.in-Installable.refutations in
-    rw c.in-Installable.is (exchanged (λ texts word written. IfOk c.outcome_of_packages.result (IsOutcomeOfPackages texts (survey_by c.in-Installable.survey) folder))
+    rw c.in-Installable.is (exchanged (λ texts word written. IfOk c.outcome_of_packages.result (IsOutcomeOfPackages texts (survey_by c.in-Installable.survey) folder written))
     _ _ [] [] _ _ (made.ensures.texts at (goals []) refl) refl made.ensures.format (c.outcome_of_packages.ensures.printed at known))
 
 pub returns-clause-printed : goal.returns-clause-printed
@@ -91,7 +91,7 @@ returns-in-Installable-clause-left g c at was f k =
     let r = c.outcome_of_packages.result in
     let files = g.H.Host.files c.outcome_of_packages.new.host in
     let kept = g.H.Host.kept c.outcome_of_packages.new.host in
-    rw c.in-Installable.is (exchanged (λ texts word written. IsLeftWith (IsLeftOfPackages texts (survey_by c.in-Installable.survey) folder at was) at was r files kept)
+    rw c.in-Installable.is (exchanged (λ texts word written. IsLeftWith (IsLeftOfPackages texts (survey_by c.in-Installable.survey) folder written at was) at was r files kept)
     _ _ [] [] _ _ (made.ensures.texts at (goals []) refl) refl made.ensures.format (c.outcome_of_packages.ensures.left at was f k))
 
 pub returns-clause-left : goal.returns-clause-left

@@ -13,7 +13,8 @@ pub returns-in-Whole-clause-left : goal.returns-in-Whole-clause-left
 returns-in-Whole-clause-left g c at was f k =
     let texts = texts_at at c.args.arguments.now in
     let written = c.args.arguments.now.format in
-    rw c.in-Whole.is (all_left at was _ _ (IsOutcomeOfRequest texts c.args.limit written) (IsLeftOfExtent texts c.args.limit whole written at was)
+    rw c.in-Whole.is (all_left at was _ _ (IsOutcomeOfRequest texts c.args.limit c.in-Whole.names_pairs written)
+    (IsLeftOfExtent texts c.args.limit (whole c.in-Whole.names_pairs) written at was)
     (λ found is same. (is, same)) c.outcome_of_request.result (c.outcome_of_request.ensures.printed at f)
     (c.outcome_of_request.ensures.same ∙ f, c.outcome_of_request.ensures.keeps ∙ k))
 

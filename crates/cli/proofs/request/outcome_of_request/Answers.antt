@@ -8,5 +8,5 @@ pub returns-clause-printed : goal.returns-clause-printed
 returns-clause-printed g c at known =
     let texts = texts_at at c.args.arguments.now in
     let written = c.args.arguments.now.format in
-    if_ok c.outcome_in.result (IsOutcomeIn written c.in_ok-plain.plain) (IsOutcomeOfRequest texts c.args.limit written)
+    if_ok c.outcome_in.result (IsOutcomeIn written c.in_ok-plain.plain) (IsOutcomeOfRequest texts c.args.limit c.args.names_pairs written)
     (λ found is. (c.ask_files-answer.result, c.in_ok-plain.plain, c.ask_files-answer.ensures.said at known, c.in_ok-plain.ensures, is)) c.outcome_in.ensures

@@ -20,6 +20,7 @@ returns-clause-values c =
       conflicts = c.in_ok-narrow-7.field-0;
       breaks = c.in_ok-narrow-8.field-0;
       is_essential = c.args.is_essential;
+      says_essential = c.args.says_essential;
       stanza = c.args.stanza;
     } in
     let grown = c.in_ok-keep_texts.ensures in

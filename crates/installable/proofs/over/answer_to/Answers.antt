@@ -20,6 +20,6 @@ returns-clause-said c = λ texts read.
     record {
       name = c.in_ok-answer.ensures.name;
       version = c.in_ok-answer.ensures.version;
-      holds = rw c.in_ok-answer.ensures.same (subst (λ (request : List ℕ). IsAnsweredBy texts request c.args.limit c.in_ok-installability.installability)
+      holds = rw c.in_ok-answer.ensures.same (subst (λ (request : List ℕ). IsAnsweredBy texts request c.args.question.now.limit c.in_ok-installability.installability)
           text (c.in_ok-installability.ensures.said texts read));
     }

@@ -3,7 +3,7 @@ use Rattle.installable.proofs.DecidableLemmas.{over_is_decidable}
 use Rattle.installable.proofs.over.installability_over.Goals as goal
 
 pub decide-requires : goal.decide-requires
-decide-requires c = over_is_decidable c.args.before.now c.args.universe.now c.requires
+decide-requires c = over_is_decidable c.args.before.now c.args.requested.now.universe c.requires
 
 pub returns-clause-said : goal.returns-clause-said
-returns-clause-said c = c.told.ensures.said c.args.limit c.in_ok-decided.ensures
+returns-clause-said c = c.told.ensures.said c.args.question.now.limit c.in_ok-decided.ensures

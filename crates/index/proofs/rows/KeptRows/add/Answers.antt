@@ -28,5 +28,7 @@ returns-in_ok-push-in-Some-clause-ok c = λ later.
     sym (c.is_full.ensures ∙ ap (λ (n : ℕ). nat_le PACKAGES (c.args.before + n)) many) ∙ c.if-is_full.false in
     put_entry (stanzas_at c.args.arch.now c.args.place.index old) (stanzas_at c.args.arch.now c.args.place.index c.push.new.self) count
     (c.args.before + length c.push.new.self.rows.items) c.args.place c.args.stanza.now (spelled c.args.arch.now values) c.found.inside.is_essential
+    c.found.inside.says_essential
     later _ entry few (ap (λ (found : Found). found.is_essential) (c.found.view_is ∙ c.in_read-found.ensures))
+    (ap (λ (found : Found). found.says_essential) (c.found.view_is ∙ c.in_read-found.ensures))
     (c.in_ok-push-in-Some.ensures.more c.args.arch.now c.args.place.index) (omega (arith, c.in_ok-push-in-Some.ensures.one))

@@ -18,5 +18,6 @@ returns-clause-rows c =
 pub returns-clause-more : goal.returns-clause-more
 returns-clause-more c = λ arch number.
     put_stanzas arch number c.args.self.now.arena.items (joined_text c.args.values.now) c.args.self.now.rows.items c.args.self.now.skipped
-    c.in_ok-row.row c.args.values.now c.args.is_essential c.args.stanza c.keep_row.new.arena.items c.push.new.self.items
-    c.in_ok-row.ensures.grown c.in_ok-push.ensures.items c.requires c.in_ok-row.ensures.values c.in_ok-row.ensures.essential c.in_ok-row.ensures.stanza
+    c.in_ok-row.row c.args.values.now c.args.is_essential c.args.says_essential c.args.stanza c.keep_row.new.arena.items c.push.new.self.items
+    c.in_ok-row.ensures.grown c.in_ok-push.ensures.items c.requires c.in_ok-row.ensures.values c.in_ok-row.ensures.essential
+    c.in_ok-row.ensures.said c.in_ok-row.ensures.stanza

@@ -79,7 +79,8 @@ returns-in_err-base-clause-said g c = λ at known read.
 pub returns-in_err-answers-clause-read : goal.returns-in_err-answers-clause-read
 returns-in_err-answers-clause-read g c =
     let p = err_from_is_err_and c.from_residual-in_err-answers.result c.from_residual-in_err-answers.ensures.1 in
-    rw (p.1, p.2) (record { same = refl; count = inr (c.in_err-answers.ensures.known, refl); held = g.met.S.Shelf.holds_still _ })
+    let read = c.in_err-answers.ensures.read in
+    rw (p.1, p.2) (record { same = read.same; count = read.count; held = read.held })
 
 pub returns-in_err-answers-clause-said : goal.returns-in_err-answers-clause-said
 returns-in_err-answers-clause-said g c = λ at known read.
