@@ -1,4 +1,4 @@
-"""The part of the self-test of tools/archive-check that needs Dask: a scheduler on this machine, with four workers, of which one dies.
+"""The part of the self-test of tools/archive-check that needs Dask: a scheduler on this machine, with four workers, of which two die.
 It goes on in the folder of the other part, and wants the same outputs."""
 import contextlib
 import importlib.util
@@ -11,17 +11,21 @@ from trials import ASKING, WHOLE, fails
 
 COMMANDS = {
     "scheduler": ("distributed.cli.dask_scheduler", "--host", "127.0.0.1", "--port", "0", "--no-dashboard"),
-    "worker": ("distributed.cli.dask_worker", "--nthreads", "1", "--no-nanny", "--no-dashboard"),
+    "worker": ("distributed.cli.dask_worker", "--nthreads", "1", "--no-nanny", "--no-dashboard", "--local-directory", "spaces"),
 }
 WORKERS, SECONDS = 4, 60
+# How many workers die, and the folders that two runs write in which one dies, with some of their files.
+DEAD, WRITTEN, FILES = 2, ("killed", "handed"), ("other_1.request", "other_1.refutation")
 RUN = f"run {ASKING} --scheduler ADDRESS"
+HANDED = f"{RUN} --hand-over"
 # Programs of sh: of eight shards the output of the second is cut short once; the worker that takes it is killed, once; the interpreter is
-# missing; the index is another one than it was here.
+# missing; installable runs in the folder of a worker alone, or kills its worker there, once.
 WRONG = {
     "cut-once-of-eight": '#!/bin/sh\nif [ "$3" = 2/8 ] && mkdir once; then echo broken b 1; exit 1; fi; exec ./debplan "$@"\n',
     "worker-killed": '#!/bin/sh\nif [ "$3" = 2/8 ] && mkdir once; then kill -9 $PPID; fi; exec ./debplan "$@"\n',
     "unfit": "#!/nowhere\n",
-    "changing": '#!/bin/sh\necho >> changing-index\nexec ./debplan "$@"\n',
+    "far": '#!/bin/sh\ncase $1,$PWD in check-*|*/debplan) ;; *) exit 9;; esac\nexec ROOM/debplan "$@"\n',
+    "far-killed": '#!/bin/sh\nif [ "$3" = 2/8 ] && mkdir ROOM/once; then kill -9 $PPID; fi\nexec ROOM/debplan "$@"\n',
 }
 # As those of archive_tests, with ADDRESS for the address of the scheduler.
 CALLS = [
@@ -35,9 +39,18 @@ CALLS = [
      "the worker ..: changing-index is another file than here\n"),
     (f"{RUN} --shards 3 nobody", 3, "", "debplan: request: E17 UnknownName 1\narchive-check: so says the worker ..\n"),
     (f"{RUN} --shards 3 --refutations nowhere", 5, "", "nowhere/..: No such file or directory\n"),
+    (f"PROGRAM=far {HANDED} --shards 3 --report handed-report", 1, WHOLE, ""),
+    (f"verify handed-report -- {ASKING}", 0, "handed-report/other_1: yes\nhanded-report/tool-data_1:1: yes\n", ""),
+    (f"PROGRAM=far {HANDED} --status kept/empty --shards 3 -- tool app", 0, "checked 2, broken 0\n", ""),
+    (f"PROGRAM=far {RUN} --shards 3", 5, "", "..shard 1/3: ended with the status 9, for the second time\n"),
+    (f"PROGRAM=unfit {HANDED} --shards 3", 5, "", "the worker ..: ..: No such file or directory\n"),
+    (f"PROGRAM=far {HANDED} --shards 3 nobody", 3, "", "debplan: request: E17 UnknownName 1\narchive-check: so says the worker ..\n"),
+    (f"{RUN} --tls-ca index --tls-cert index --tls-key index", 69, "", "the scheduler tcp://.. can't be reached: ..\n"),
     (f"run {ASKING} --scheduler 127.0.0.1", 69, "", "the scheduler 127.0.0.1 can't be reached: ..port..\n"),
     (f"run {ASKING} --scheduler tcp://127.0.0.1:1", 69, "", "the scheduler tcp://127.0.0.1:1 can't be reached: ..\n"),
     (f"PROGRAM=worker-killed {RUN} --shards 8 --refutations killed", 1, WHOLE, ".."),
+    (f"PROGRAM=far-killed {HANDED} --shards 8 --refutations handed", 1, WHOLE, ".."),
+    (f"PROGRAM=far {HANDED} --shards 8", 1, WHOLE, ""),
 ]
 
 
@@ -54,23 +67,25 @@ def tried_in(room):
     """Yields of each call, and of what is to be left by the last one, why it isn't as it is wanted, or None."""
     if not is_there():
         return
-    (room / "killed").mkdir()
-    texts = {"changing-sources": "File: changing-index\n", "changing-index": (room / "index").read_text(encoding="utf-8")}
-    for name, text in {**WRONG, **texts}.items():
-        (room / name).write_text(text, encoding="utf-8")
+    for name in WRITTEN:
+        (room / name).mkdir()
+    for name, text in WRONG.items():
+        (room / name).write_text(text.replace("ROOM", str(room)), encoding="utf-8")
         (room / name).chmod(0o755)
     with cluster_in(room) as (address, workers):
         for words, *wanted in CALLS:
             yield fails(room, (words.replace("ADDRESS", address), *wanted), options=())
         dead = sum(worker.poll() is not None for worker in workers)
-        yield None if dead == 1 else f"{dead} workers are dead, and not one"
-    others = [name for name in ("other_1.request", "other_1.refutation") if not is_same(room, name)]
-    yield f"of killed {others[0]} isn't that of kept" if others else None
+        yield None if dead == DEAD else f"{dead} workers are dead, and not {DEAD}"
+        left = len(list(room.glob("spaces/*/worker-*/debplan")))
+        yield None if left == WORKERS - DEAD else f"{left} folders of workers are there, and not {WORKERS - DEAD}"
+    others = [f"{folder}/{name}" for folder in WRITTEN for name in FILES if not is_same(room, folder, name)]
+    yield f"{others[0]} isn't that of kept" if others else None
 
 
-def is_same(room, name):
+def is_same(room, folder, name):
     """Whether a file that workers wrote is that of a process of this machine."""
-    return (room / "killed" / name).read_bytes() == (room / "kept" / name).read_bytes()
+    return (room / folder / name).read_bytes() == (room / "kept" / name).read_bytes()
 
 
 @contextlib.contextmanager

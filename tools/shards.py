@@ -1,6 +1,9 @@
 """Runs of `debplan installable`, each of one shard, whose outputs are merged to that of the whole: processes here, or what stands for
-them elsewhere (tools/cluster.py)."""
+them elsewhere (tools/cluster.py); and what they read, by what is in it."""
+import hashlib
 import os
+import pathlib
+import re
 import subprocess
 import sys
 import tempfile
@@ -19,10 +22,70 @@ SECONDS = 0.05
 HEAD = 4
 # How a run of the program ended: its status, and the texts of its two outputs.
 Ended = namedtuple("Ended", "status printed said")
+# The options that name a file, and the line of a sources file that does (docs/FORMATS.md, section 4). Where it is continued it names
+# no file.
+NAMING = ("--status", "--sources", "--preferences")
+FILE = re.compile(rb"^(file:[ \t]*)([^ \t\n][^\n]*?)([ \t]*)$(?!\n[ \t]+[^ \t\n])", re.IGNORECASE | re.MULTILINE)
+# What stands for the sum of a file that can't be read. It names no file, so the program says of it what it says of any such file.
+UNREADABLE = "unreadable"
+# A file that is read: what it is (an option, or `index N`), the SHA256 of what is in it, its path, and its bytes where these aren't
+# those of the file.
+Input = namedtuple("Input", "kind sum path data", defaults=[None])
 
 
 class Refused(Failure):
     """That the program refuses what it is asked, in its own words."""
+
+
+class Inputs:
+    """The files that a run reads. In the text of the sources file each index has its sum for its path, so texts that differ in paths
+    alone have the same sum."""
+
+    def __init__(self, asking):
+        self.asking, self.files = asking, []
+        for name, value in asking.options:
+            if name in NAMING:
+                self.files.append(self.sources(value) if name == "--sources" else self.file(name, value))
+
+    def file(self, kind, path):
+        try:
+            return Input(kind, common.sha256_of(path), path)
+        except (OSError, ValueError):
+            return Input(kind, UNREADABLE, path)
+
+    def sources(self, path):
+        """The sources file, behind whose indices it stands."""
+        try:
+            text = pathlib.Path(path).read_bytes()
+        except OSError:
+            return Input("--sources", UNREADABLE, path)
+        count = len(self.files)
+        data = FILE.sub(lambda found: found.group(1) + self.index(os.fsdecode(found.group(2)), count) + found.group(3), text)
+        return Input("--sources", hashlib.sha256(data).hexdigest(), path, data)
+
+    def index(self, path, count):
+        """The sum of the next index, which is kept. So many files were kept before the first index."""
+        self.files.append(self.file(f"index {len(self.files) - count + 1}", path))
+        return self.files[-1].sum.encode()
+
+    def check_same(self):
+        """Ends where a file isn't any more what it was."""
+        for old, new in zip(self.files, Inputs(self.asking).files):
+            if old.sum != new.sum:
+                raise Failure(f"{old.path}: has changed meanwhile", LAST)
+
+    def lines(self):
+        """What counts for the answer, as lines of a file beside it: the options and NAMEs, and each file with its sum and its path."""
+        options = [(name, value) for name, value in self.asking.options if name not in (*NAMING, "--refutations")]
+        words = sorted("\t".join(("option", name, *([] if value is None else [value]))) for name, value in options)
+        names = [f"name\t{name}" for name in sorted(set(self.asking.names))]
+        return [*words, *names, *(f"{it.kind}\t{it.sum}\t{it.path}" for it in self.files)]
+
+    def words(self):
+        """The words that ask about the files by their sums."""
+        found, sums = self.asking.without_refutations(), iter([it.sum for it in self.files if it.kind in NAMING])
+        found.options = [(name, next(sums) if name in NAMING else value) for name, value in found.options]
+        return found.words()
 
 
 def processors():
@@ -151,7 +214,23 @@ def asked(words, count, folder=None, place=None):
     one is named. They are run on this machine, or at another place. What one of them refuses is refused, and the others are ended."""
     place = place or Here()
     shards = [Shard(number, count, words, folder, place) for number in range(1, count + 1)]
-    progress = Progress(count)
+    run_all(shards, place)
+    try:
+        return surveys.merged([shard.survey for shard in shards], [shard.name for shard in shards])
+    except Failure as failure:
+        raise Failure(f"{failure}; has a file changed meanwhile?", LAST) from None
+
+
+def asked_one(words, number, count, folder=None):
+    """The survey of one shard of so many, which is run on this machine."""
+    shard = Shard(number, count, words, folder, Here())
+    run_all([shard], shard.place)
+    return shard.survey
+
+
+def run_all(shards, place):
+    """Has these shards run at a place, all at once. Where one is refused, or fails twice, the others are ended."""
+    progress = Progress(len(shards))
     try:
         for shard in shards:
             shard.start()
@@ -160,10 +239,6 @@ def asked(words, count, folder=None, place=None):
         progress.end()
         for shard in shards:
             shard.stop()
-    try:
-        return surveys.merged([shard.survey for shard in shards], [shard.name for shard in shards])
-    except Failure as failure:
-        raise Failure(f"{failure}; has a file changed meanwhile?", LAST) from None
 
 
 def wait_for(shards, place, progress):

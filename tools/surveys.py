@@ -1,7 +1,9 @@
 """What `debplan installable` prints (docs/FORMATS.md, section 13): a text of it is read and tested, those of all shards are merged to
-that of the whole, and two are compared."""
+that of the whole, and two are compared. Beside the file of a shard may stand another one, which says over which inputs it is."""
 import collections
+import hashlib
 import heapq
+import os
 import re
 
 import common
@@ -10,6 +12,10 @@ from common import Failure
 BASE = re.compile(r"(broken|undecided) base")
 PACKAGE = re.compile(r"(broken|undecided) ([A-Za-z0-9][A-Za-z0-9+.-]*) ((?:[0-9]+:)?[A-Za-z0-9.+~:-]+)")
 COUNTS = re.compile(r"checked ([0-9]{1,9}), broken ([0-9]{1,9})(?:, undecided ([1-9][0-9]{0,8}))?")
+# The end of the name of a file that says over which inputs the output beside it is.
+INPUTS = ".inputs"
+# The kinds of its lines but for those of files, which have a sum and a path.
+WORDS = ("shard", "option", "name", "output")
 # A package that is told, with its state; the base has the name `base` and no version.
 Line = collections.namedtuple("Line", "state name version")
 
@@ -85,8 +91,7 @@ def check_order(lines, place):
 
 def survey_in(path):
     """The survey that a file has."""
-    with open(path, encoding="utf-8", errors="surrogateescape", newline="") as file:
-        return survey_of(file.read(), path)
+    return survey_of(text_in(path), path)
 
 
 # All shards
@@ -126,6 +131,75 @@ def check_places(lines, total, places):
             raise Failure(f"{places[number]}: {written(line)} can't be of shard {number + 1}/{len(places)} of {total} packages: they "
                           "aren't all shards of one list, in order")
         before = key
+
+
+# The inputs of shards
+
+
+def inputs_text(lines, shard, text):
+    """The text of the file beside the output of a shard, from the lines on what it was asked with: values are separated by tabs."""
+    return "".join(f"{line}\n" for line in (f"shard\t{shard}", *lines, f"output\t{sum_of(text)}"))
+
+
+def sum_of(text):
+    return hashlib.sha256(text.encode("utf-8", "surrogateescape")).hexdigest()
+
+
+def text_in(path):
+    with open(path, encoding="utf-8", errors="surrogateescape", newline="") as file:
+        return file.read()
+
+
+def inputs_in(path):
+    """The lines of the file beside an output, each as its values; None where there is no such file."""
+    if not os.path.exists(path + INPUTS):
+        return None
+    found = [line.split("\t") for line in text_in(path + INPUTS).removesuffix("\n").split("\n")]
+    for number, values in enumerate(found, 1):
+        if len(values) < 2 or values[0] not in WORDS and len(values) != 3:
+            raise Failure(f"{path}{INPUTS}: line {number} doesn't say what a shard was asked with")
+    return found
+
+
+def check_inputs(places):
+    """Ends where the files beside the outputs of all shards, in their order, say that these aren't over the same inputs. Returns the
+    outputs beside which there is none."""
+    found = {place: inputs_in(place) for place in places}
+    known = {place: lines for place, lines in found.items() if lines is not None}
+    for number, place in enumerate(places, 1):
+        if place in known:
+            check_own(place, known[place], f"{number}/{len(places)}")
+    for place, lines in known.items():
+        first = next(iter(known))
+        check_same(place, asked_with(lines), first, asked_with(known[first]))
+    return [place for place in places if place not in known]
+
+
+def check_own(place, lines, shard):
+    """Ends where what stands beside an output is about another one, or where that isn't this shard."""
+    wanted = ["output", sum_of(text_in(place))]
+    if lines[-1:] != [wanted]:
+        raise Failure(f"{place}{INPUTS}: isn't about {place}, whose SHA256 is {wanted[1]}")
+    if lines[:1] != [["shard", shard]]:
+        raise Failure(f"{place}: is shard {lines[0][-1]}, by {place}{INPUTS}, and stands in the place of {shard}")
+
+
+def asked_with(lines):
+    """What a shard was asked with, each with the path of the file, or nothing."""
+    return {tuple(line if line[0] in WORDS else line[:2]): line[2:] for line in lines[1:-1]}
+
+
+def check_same(place, has, first, had):
+    """Ends where a shard was asked with something else than the first one."""
+    more, less = [it for it in has if it not in had], [it for it in had if it not in has]
+    files = [(new, old) for new in more for old in less if new[0] == old[0] not in WORDS]
+    if files:
+        (kind, new), (_, old) = files[0]
+        raise Failure(f"{place}: its {kind}, {has[kind, new][0]}, is another one than that of {first}, {had[kind, old][0]}: its SHA256 "
+                      f"is {new} and not {old}")
+    for where, those, other in ((place, more, first), (first, less, place)):
+        if those:
+            raise Failure(f"{where}: was asked with {' '.join(those[0])}, and {other} wasn't")
 
 
 # Two surveys
