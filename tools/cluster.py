@@ -159,12 +159,12 @@ class Parcel:
     """The program and the inputs, as they are handed to workers: the bytes of each by their SHA256."""
 
     def __init__(self, program, inputs):
-        if pathlib.Path(program).resolve() == common.TOP / "debplan":
-            raise Failure("--hand-over hands the program over as one file: name it in DEBPLAN", 69)
         first = inputs.file("program", shutil.which(program))
-        if first.sum == shards.UNREADABLE:
-            raise Failure(f"{program}: can't be read, so it can't be handed over", 69)
         self.files = {it.sum: it for it in (first, *inputs.files) if it.sum != shards.UNREADABLE}
+        if first.sum not in self.files:
+            raise Failure(f"{program}: can't be read, so it can't be handed over", 69)
+        if os.path.realpath(program) == str(common.TOP / "debplan") and self.data(first.sum).startswith(b"#!"):
+            raise Failure(f"{program}: calls other files, so it can't be handed over: name the built program in DEBPLAN", 69)
 
     def data(self, name):
         """The bytes of a file."""
@@ -197,18 +197,25 @@ def security_by(distributed, files):
     return distributed.Security(tls_ca_file=authority, tls_client_cert=certificate, tls_client_key=key, require_encryption=True)
 
 
+def client_of(distributed):
+    """The class of a client that is closed by who made it: one that never reached the scheduler would wait for it once more."""
+    return type("Client", (distributed.Client,), {"__del__": lambda client: None})
+
+
 @contextlib.contextmanager
 def connected(address, inputs, parcel=None, certificates=()):
     """The workers of the scheduler at an address, which read these files, or are handed a parcel."""
     cloudpickle, distributed = modules()
-    security = security_by(distributed, certificates)
     # what goes wrong is told by this tool, and not by the logs of Dask too
     logging.disable(logging.CRITICAL)
     cloudpickle.register_pickle_by_value(sys.modules[__name__])
     try:
         distributed.comm.resolve_address(address)
-        client = distributed.Client(address, timeout=REACHING, set_as_default=False, security=security)
-    except (OSError, ValueError, RuntimeError, TypeError) as error:
+        client = client_of(distributed)(address, timeout=REACHING, set_as_default=False,
+                                        security=security_by(distributed, certificates))
+    except TypeError:
+        raise Failure(f"the scheduler {address} can't be reached: neither options nor Dask's configuration name certificates", 69) from None
+    except (OSError, ValueError, RuntimeError) as error:
         raise Failure(f"the scheduler {address} can't be reached: {one_line(error)}", 69) from None
     try:
         yield Workers(client, address, {} if parcel else sums_of(inputs, os.getcwd()), parcel)

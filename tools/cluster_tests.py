@@ -46,6 +46,7 @@ CALLS = [
     (f"PROGRAM=unfit {HANDED} --shards 3", 5, "", "the worker ..: ..: No such file or directory\n"),
     (f"PROGRAM=far {HANDED} --shards 3 nobody", 3, "", "debplan: request: E17 UnknownName 1\narchive-check: so says the worker ..\n"),
     (f"{RUN} --tls-ca index --tls-cert index --tls-key index", 69, "", "the scheduler tcp://.. can't be reached: ..\n"),
+    (f"run {ASKING} --scheduler tls://127.0.0.1:1", 69, "", "..: neither options nor Dask's configuration name certificates\n"),
     (f"run {ASKING} --scheduler 127.0.0.1", 69, "", "the scheduler 127.0.0.1 can't be reached: ..port..\n"),
     (f"run {ASKING} --scheduler tcp://127.0.0.1:1", 69, "", "the scheduler tcp://127.0.0.1:1 can't be reached: ..\n"),
     (f"PROGRAM=worker-killed {RUN} --shards 8 --refutations killed", 1, WHOLE, ".."),
