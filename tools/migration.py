@@ -28,10 +28,10 @@ def note(line):
 
 class Check:
     """The packages that can have changed by an exchange, and how they are asked about, before it and after it. The index that would be
-    stands in the file `output`."""
+    stands in the file `output`. What was said before an exchange of these names is known, where it was asked for by another check."""
 
-    def __init__(self, options, changed, output):
-        self.options, self.changed, self.output = options, changed, output
+    def __init__(self, options, changed, output, known=None):
+        self.options, self.changed, self.output, self.known = options, changed, output, {} if known is None else known
         self.asking, self.arch = options.asking, options.asking.needed("--arch")
         self.sources = list(common.stanzas_in(self.asking.needed("--sources")))
         others = [path for path in self.places() if not self.is_changed(path)]
@@ -72,10 +72,16 @@ class Check:
             return None
         return shards.asked(self.asking.over(sources, names).words(), self.options.processors, folder)
 
+    def survey_before(self):
+        """What is said of them before the exchange."""
+        names = None if self.names is None else frozenset(self.names)
+        if names not in self.known:
+            self.known[names] = self.survey(self.asking.value("--sources"), self.before)
+        return self.known[names]
+
     def difference(self, sources, folder):
         """What is said after the exchange, with this sources file, and not before it; the refutations are put into a folder."""
-        old = self.survey(self.asking.value("--sources"), self.before)
-        new = self.survey(sources, self.after, folder)
+        old, new = self.survey_before(), self.survey(sources, self.after, folder)
         pairs = (set(map(exchange.pair_of, stanzas)) for stanzas in (self.before, self.after))
         return surveys.compared(*beside(old, new), *pairs)
 
@@ -174,7 +180,7 @@ def tell_with(check, along, told, room):
     which sources would have to come along then."""
     changed, output = check.changed.also(along), room / "index"
     common.write_text(output, changed.text().decode("utf-8", "surrogateescape"))
-    (found, _), reasons, more = Check(check.options, changed, output).answer(room)
+    (found, _), reasons, more = Check(check.options, changed, output, check.known).answer(room)
     broken = {kind: [line for line in found[kind] if reasons.get(line) != told.get(line)] for kind in ("newly broken", "came broken")}
     if any(broken.values()):
         print(f"with {' '.join(sorted(along))}:")
