@@ -295,7 +295,8 @@ class Task:
     """A run by a worker, as a task of the scheduler, which gives it to another worker where this one dies."""
 
     def __init__(self, workers, words, folder):
-        self.workers, self.words, self.folder, self.found = workers, words, folder, None
+        self.workers, self.words, self.folder = workers, words, folder
+        self.found, self.lacked = None, set()
         self.begin()
 
     def begin(self):
@@ -309,10 +310,16 @@ class Task:
             return False
         self.found = self.answer()
         if self.found["lacking"]:
-            self.workers.hand_to([self.found["address"]])
-            self.begin()
-            return False
-        return True
+            self.begin_handed(self.found["address"])
+        return not self.found["lacking"]
+
+    def begin_handed(self, address):
+        """Hands a worker what it lacks, and begins the task again."""
+        if address in self.lacked:
+            raise Failure(f"the worker {self.found['worker']}: doesn't keep what it is handed", shards.LAST)
+        self.lacked.add(address)
+        self.workers.hand_to([address])
+        self.begin()
 
     def ended(self):
         found, worker = self.found, f"the worker {self.found['worker']}"

@@ -19,12 +19,13 @@ DEAD, WRITTEN, FILES = 2, ("killed", "handed"), ("other_1.request", "other_1.ref
 RUN = f"run {ASKING} --scheduler ADDRESS"
 HANDED = f"{RUN} --hand-over"
 # Programs of sh: of eight shards the output of the second is cut short once; the worker that takes it is killed, once; the interpreter is
-# missing; installable runs in the folder of a worker alone, or kills its worker there, once.
+# missing; installable runs in the folder of a worker alone, or leaves nothing there, once, or kills its worker there, once.
 WRONG = {
     "cut-once-of-eight": '#!/bin/sh\nif [ "$3" = 2/8 ] && mkdir once; then echo broken b 1; exit 1; fi; exec ./debplan "$@"\n',
     "worker-killed": '#!/bin/sh\nif [ "$3" = 2/8 ] && mkdir once; then kill -9 $PPID; fi; exec ./debplan "$@"\n',
     "unfit": "#!/nowhere\n",
     "far": '#!/bin/sh\ncase $1,$PWD in check-*|*/debplan) ;; *) exit 9;; esac\nexec ROOM/debplan "$@"\n',
+    "forgetting": '#!/bin/sh\nROOM/debplan "$@"\nstatus=$?\nif mkdir ROOM/once; then rm ./*; fi\nexit $status\n',
     "far-killed": '#!/bin/sh\nif [ "$3" = 2/8 ] && mkdir ROOM/once; then kill -9 $PPID; fi\nexec ROOM/debplan "$@"\n',
 }
 # As those of archive_tests, with ADDRESS for the address of the scheduler.
@@ -43,6 +44,7 @@ CALLS = [
     (f"verify handed-report -- {ASKING}", 0, "handed-report/other_1: yes\nhanded-report/tool-data_1:1: yes\n", ""),
     (f"PROGRAM=far {HANDED} --status kept/empty --shards 3 -- tool app", 0, "checked 2, broken 0\n", ""),
     (f"PROGRAM=far {RUN} --shards 3", 5, "", "..shard 1/3: ended with the status 9, for the second time\n"),
+    (f"PROGRAM=forgetting {HANDED} --shards 16", 1, WHOLE, ""),
     (f"PROGRAM=unfit {HANDED} --shards 3", 5, "", "the worker ..: ..: No such file or directory\n"),
     (f"PROGRAM=far {HANDED} --shards 3 nobody", 3, "", "debplan: request: E17 UnknownName 1\narchive-check: so says the worker ..\n"),
     (f"{RUN} --tls-ca index --tls-cert index --tls-key index", 69, "", "the scheduler tcp://.. can't be reached: ..\n"),
