@@ -43,7 +43,7 @@ CALLS = [
     (f"PROGRAM=far {HANDED} --shards 3 --report handed-report", 1, WHOLE, ""),
     (f"verify handed-report -- {ASKING}", 0, "handed-report/other_1: yes\nhanded-report/tool-data_1:1: yes\n", ""),
     (f"PROGRAM=far {HANDED} --status kept/empty --shards 3 -- tool app", 0, "checked 2, broken 0\n", ""),
-    (f"PROGRAM=far {RUN} --shards 3", 5, "", "..shard 1/3: ended with the status 9, for the second time\n"),
+    (f"PROGRAM=far {RUN} --shards 3", 5, "", "..: ended with the status 9, for the second time\n"),
     (f"PROGRAM=forgetting {HANDED} --shards 16", 1, WHOLE, ""),
     (f"PROGRAM=unfit {HANDED} --shards 3", 5, "", "the worker ..: ..: No such file or directory\n"),
     (f"PROGRAM=far {HANDED} --shards 3 nobody", 3, "", "debplan: request: E17 UnknownName 1\narchive-check: so says the worker ..\n"),
