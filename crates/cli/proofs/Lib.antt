@@ -3,6 +3,7 @@ mod LeftLemmas
 mod PutLemmas
 mod CallLemmas
 mod LineLemmas
+mod MemberLemmas
 mod ResultLemmas
 mod ShelfLemmas
 mod WordsLemmas

@@ -2,7 +2,8 @@
 use Rattle.std.specs.Prelude.{◌≡◌, ℕ, Bool, List, [], Option, Result, Ok, Err, None, Some}
 use Rattle.candidates.specs.Offer.{Offer}
 use Rattle.cli.specs.Applied.{IsOutcomeOfPlanTaken}
-use Rattle.cli.specs.Files.{Files, shelved_at}
+use Rattle.cli.specs.Files.{Files, judged_at, shelved_at}
+use Rattle.cli.specs.Members.{AreMembersOf, with_answered, with_candidates, with_plan, with_refutation}
 use Rattle.cli.specs.Packages.{IsOutcomeOfPackages}
 use Rattle.cli.specs.Places.{comparison_of, texts_for}
 use Rattle.cli.specs.Possible.{IsOutcomeOfPossible}
@@ -25,6 +26,7 @@ use Rattle.inputs.specs.declared.refusal.Refusal.{Refusal}
 use Rattle.outcomes.specs.Outcome.{IsOutcomeIn, IsOutcomeOfCandidates, IsOutcomeOfComparison, IsOutcomeOfPlan, IsOutcomeOfRefutation, IsOutcomeOfSolved}
 use Rattle.outcomes.specs.declared.outcome.Outcome.{Outcome}
 use Rattle.rules.specs.Version.{version_cmp}
+use Rattle.serde_json.specs.Data.{Members}
 
 -- the texts that the files have for these arguments
 abbrev pub texts_at : Files → Arguments → Texts
@@ -38,26 +40,29 @@ IsSaidOfVersions version relation other (Err refused) = comparison_refusal versi
 
 -- The outcomes, each in the format that is asked for
 
--- it is what is printed, in this format, of something that is said
-abbrev pub IsPrintedOf : {A : Type 0} → (Result A Refusal → Type 0) → (Result A Refusal → Outcome → Type 0) → Format → Outcome → Type 0
-IsPrintedOf {A} Says Prints written found =
-    (said : Result A Refusal) × (plain : Outcome) × Says said × Prints said plain × IsOutcomeIn written plain found
+-- it is what is printed, in this format, of something that is said, and in a document with these members of an answer
+abbrev pub IsPrintedOf : {A : Type 0} → (Result A Refusal → Type 0) → (Result A Refusal → Outcome → Type 0) → (A → Members → Members)
+    → Format → Outcome → Type 0
+IsPrintedOf {A} Says Prints with_answer written found = (said : Result A Refusal) × (plain : Outcome) × (members : Members)
+    × Says said × Prints said plain × AreMembersOf with_answer written said members × IsOutcomeIn written members plain found
 
 -- the outcome is that of what is said of the names by the texts
 abbrev pub IsOutcomeOfNames : Texts → List Text → Format → Outcome → Type 0
-IsOutcomeOfNames texts names = IsPrintedOf {A = List (Option Offer)} (IsSaidOfNames texts names) (IsOutcomeOfCandidates names)
+IsOutcomeOfNames texts names =
+    IsPrintedOf {A = List (Option Offer)} (IsSaidOfNames texts names) (IsOutcomeOfCandidates names) (with_candidates names)
 
 -- the outcome is that of what is said of the request by the texts
 abbrev pub IsOutcomeOfRequest : Texts → ℕ → Bool → Format → Outcome → Type 0
-IsOutcomeOfRequest texts limit names_pairs = IsPrintedOf {A = Answered} (IsSaidOfRequest texts limit names_pairs) IsOutcomeOfSolved
+IsOutcomeOfRequest texts limit names_pairs =
+    IsPrintedOf {A = Answered} (IsSaidOfRequest texts limit names_pairs) IsOutcomeOfSolved with_answered
 
 -- the outcome is that of what is said of the plan by the texts
 abbrev pub IsOutcomeOfPlanJudged : Texts → Found → Format → Outcome → Type 0
-IsOutcomeOfPlanJudged texts plan = IsPrintedOf {A = JudgedPlan} (IsSaid texts plan) IsOutcomeOfPlan
+IsOutcomeOfPlanJudged texts plan = IsPrintedOf {A = JudgedPlan} (IsSaid texts plan) IsOutcomeOfPlan with_plan
 
 -- the outcome is that of what is said of the refutation by the texts
 abbrev pub IsOutcomeOfLines : Texts → Found → Format → Outcome → Type 0
-IsOutcomeOfLines texts lines = IsPrintedOf {A = JudgedRefutation} (IsSaidOf texts lines) IsOutcomeOfRefutation
+IsOutcomeOfLines texts lines = IsPrintedOf {A = JudgedRefutation} (IsSaidOf texts lines) IsOutcomeOfRefutation with_refutation
 
 -- the outcome is that of what is said of the versions
 abbrev pub IsOutcomeOfVersions : Text → Comparison → Text → Outcome → Type 0
@@ -77,10 +82,10 @@ IsOutcomeOfAsked files (ask.candidate given names explains written) found =
 IsOutcomeOfAsked files (ask.solve given request limit extent explains written) found =
     IsOutcomeOfExtent (texts_for files given request) limit extent written found
 IsOutcomeOfAsked files (ask.check_plan given request plan explains written) found =
-    IsOutcomeOfPlanJudged (texts_for files given request) (files plan) written found
+    IsOutcomeOfPlanJudged (texts_for files given request) (judged_at files plan) written found
 IsOutcomeOfAsked files (ask.check_refutation given request refutation explains written) found =
-    IsOutcomeOfLines (texts_for files given request) (files refutation) written found
+    IsOutcomeOfLines (texts_for files given request) (judged_at files refutation) written found
 IsOutcomeOfAsked files (ask.apply given request plan journal output) found =
-    IsOutcomeOfPlanTaken (texts_for files given request) (files plan) found
+    IsOutcomeOfPlanTaken (texts_for files given request) (judged_at files plan) found
 IsOutcomeOfAsked files (ask.installable given survey folder explains written) found =
     IsOutcomeOfPackages (texts_for files given (ask.goals [])) survey folder written found

@@ -4,7 +4,10 @@ use Rattle.std.specs.Option.{option_copied, option_map}
 use Rattle.cli.specs.declared.files.Paths.{Paths}
 use Rattle.cli.specs.declared.files.TextAt.{TextAt}
 use Rattle.cli.specs.declared.files.TextAt.TheVariants as place
+use Rattle.document_text.specs.DocumentText.{text_in}
 use Rattle.inputs.specs.Texts.{Shelved}
+use Rattle.inputs.specs.declared.shelf.Part.{Part}
+use Rattle.inputs.specs.declared.shelf.Part.TheVariants as part
 
 -- what there is at a path, and nothing where none can be read
 abbrev pub Files : Type 0
@@ -15,7 +18,12 @@ abbrev pub text_at : Files → TextAt → Option (List ℕ)
 text_at files (place.File path) = files path.now
 text_at files (place.Given text) = Some text.now
 
--- what is found at these paths: each text is the file at its path, and an index the file that its source names
+-- the plan or the refutation that there is at a path: the text that the file holds, as it stands or in a JSON document
+abbrev pub judged_at : Files → List ℕ → Option (List ℕ)
+judged_at files path = option_map text_in (files path)
+
+-- what is found at these paths: each text is the file at its path but for what is judged, which the file holds, and an index is the file
+-- that its source names
 abbrev pub shelved_at : Files → Paths → Shelved
 shelved_at files paths = record {
   status = files paths.status.now;
@@ -23,8 +31,15 @@ shelved_at files paths = record {
   index = λ number file. files file;
   preferences = option_map files (option_copied paths.preferences);
   request = text_at files paths.request;
-  judged = files paths.judged.now;
+  judged = judged_at files paths.judged.now;
 }
+
+-- the text of a part that bytes hold: what is judged may stand in a JSON document
+abbrev pub held : Part → List ℕ → List ℕ
+held part.Status bytes = bytes
+held part.Sources bytes = bytes
+held part.Request bytes = bytes
+held part.Judged bytes = text_in bytes
 
 -- the files have this text at this path, and at each other path what there was
 pub record HasPut (path text : List ℕ) (old new : Files) : Type 0 where

@@ -7,7 +7,7 @@ use Rattle.apply_engine.specs.declared.question.Prepared.{Prepared}
 use Rattle.apply_engine.specs.declared.question.Prepared.TheVariants.{Ready}
 use Rattle.cli.specs.Applied.{AreApart, IsOutcomeOfPrepared, IsOutcomeOfStop, IsRunThrough}
 use Rattle.cli.specs.Calls.{IsOutcomeOfAsked, IsOutcomeOfRequest}
-use Rattle.cli.specs.Files.{Files, HasPut}
+use Rattle.cli.specs.Files.{Files, HasPut, judged_at}
 use Rattle.cli.specs.Kept.{IsNoted, Kept, Put, SameElsewhere, Untouched}
 use Rattle.cli.specs.Packages.{IsLeftOfPackages}
 use Rattle.cli.specs.Places.{paths_for, texts_for}
@@ -132,7 +132,7 @@ abbrev pub IsLeftOfAsked : {J : Type 0} → (J → Type 0) → (J → DiskFacts)
 IsLeftOfAsked honest facts (ask.solve given request limit extent explains written) at was found files kept =
     IsLeftOfExtent (texts_for at given request) limit extent written at was found files kept
 IsLeftOfAsked honest facts (ask.apply given request plan journal output) at was found files kept =
-    IsLeftOfPlanTaken honest facts (texts_for at given request) (at plan) (paths_for given request plan) journal output at was found files kept
+    IsLeftOfPlanTaken honest facts (texts_for at given request) (judged_at at plan) (paths_for given request plan) journal output at was found files kept
 IsLeftOfAsked honest facts (ask.installable given survey folder explains written) at was found files kept =
     IsLeftOfPackages (texts_for at given (ask.goals [])) survey folder written at was found files kept
 IsLeftOfAsked honest facts asked at was found files kept = IsOutcomeOfAsked at asked found × Untouched at was files kept

@@ -3,6 +3,7 @@ pub mod Calls
 pub mod Files
 pub mod Kept
 pub mod Leaving
+pub mod Members
 pub mod Packages
 pub mod Places
 pub mod Possible

@@ -1,5 +1,6 @@
 -- What is printed of as much of a request as can be.
 use Rattle.std.specs.Prelude.{◌≡◌, ◌⊎◌, ℕ, List, Option, None, Some, Result, Ok, Err}
+use Rattle.cli.specs.Members.{AreMembersIn, with_kept}
 use Rattle.cli.specs.declared.possible.Left.{Left}
 use Rattle.command_line.specs.declared.call.Format.{Format}
 use Rattle.inputs.specs.Texts.{Texts}
@@ -8,6 +9,7 @@ use Rattle.keep_back.specs.KeptBack.{IsSaidOfKept}
 use Rattle.keep_back.specs.declared.keep_back.KeptBack.{KeptBack}
 use Rattle.outcomes.specs.Outcome.{IsOutcomeIn, IsOutcomeOfRefusal, IsOutcomeOfSolved, IsRequestUnwritten}
 use Rattle.outcomes.specs.declared.outcome.Outcome.{Outcome}
+use Rattle.serde_json.specs.Data.{Members}
 
 -- this is printed, or where there is an output, that the request that is left couldn't be written there
 abbrev pub IsPrintedWhere : Option (List ℕ) → Outcome → Outcome → Type 0
@@ -19,9 +21,10 @@ abbrev pub IsPrintedOfPut : {A E : Type 0} → Result A E → Outcome → Outcom
 IsPrintedOfPut (Ok done) printed found = found ≡ printed
 IsPrintedOfPut (Err e) printed found = IsRequestUnwritten found
 
--- it is printed of the answer to what is left, in this format
+-- it is printed of the answer to what is left, in this format, and in a document with the members of both
 abbrev pub IsPrintedOfKept : Format → KeptBack → Outcome → Type 0
-IsPrintedOfKept written kept printed = (plain : Outcome) × IsOutcomeOfSolved (Ok kept.answered) plain × IsOutcomeIn written plain printed
+IsPrintedOfKept written kept printed = (plain : Outcome) × (members : Members) × IsOutcomeOfSolved (Ok kept.answered) plain
+    × AreMembersIn written (with_kept kept) members × IsOutcomeIn written members plain printed
 
 -- something is said of as much of the request as can be, and this is what is printed and written of it, or the refusal
 abbrev pub IsSaidOfLeft : Texts → ℕ → Format → Result Left Refusal → Type 0

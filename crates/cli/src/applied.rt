@@ -2,7 +2,7 @@
 ghost use Rattle.std.specs.Prelude.{◌≡◌, IfOk, Some};
 ghost use Rattle.cli.specs.Applied.{IsOutcomeOfGood, IsOutcomeOfPlanTaken, IsOutcomeOfPrepared, IsOutcomeOfPut, IsOutcomeOfReady, IsOutcomeOfStop, IsRunThrough};
 ghost use Rattle.cli.specs.Calls.{texts_at};
-ghost use Rattle.cli.specs.Files.{Files};
+ghost use Rattle.cli.specs.Files.{Files, judged_at};
 ghost use Rattle.cli.specs.Kept.{Kept};
 ghost use Rattle.cli.specs.Leaving.{IsLeftOfGood, IsLeftOfPlanTaken, IsLeftOfPrepared, IsLeftOfReady, IsLeftWith};
 ghost use Rattle.cli.specs.Places.{paths_read};
@@ -46,7 +46,7 @@ fn said_of_plan<H: Host>(
     arguments: &Arguments<'_>,
 ) -> Result<Prepared, Refusal>
     ensures said { (at : Files) → H.files host.old ≡ Some at
-        → IsSaidOfPrepared (texts_at at arguments.now) (at arguments.now.paths.judged.now) result }
+        → IsSaidOfPrepared (texts_at at arguments.now) (judged_at at arguments.now.paths.judged.now) result }
     ensures same { H.files host.new ≡ H.files host.old }
     ensures keeps { H.kept host.new ≡ H.kept host.old }
 {
@@ -180,9 +180,9 @@ pub(crate) fn outcome_of_applied<H: Host>(
     target: Target<'_>,
 ) -> Result<Outcome, AllocError>
     ensures printed { (at : Files) → H.files host.old ≡ Some at → IfOk result (λ outcome.
-        IsOutcomeOfPlanTaken (texts_at at arguments.now) (at arguments.now.paths.judged.now) outcome) }
+        IsOutcomeOfPlanTaken (texts_at at arguments.now) (judged_at at arguments.now.paths.judged.now) outcome) }
     ensures left { (at : Files) (was : Kept H.Journal) → H.files host.old ≡ Some at → H.kept host.old ≡ Some was → IsLeftWith
-        (IsLeftOfPlanTaken H.Journal.honest H.Journal.facts (texts_at at arguments.now) (at arguments.now.paths.judged.now)
+        (IsLeftOfPlanTaken H.Journal.honest H.Journal.facts (texts_at at arguments.now) (judged_at at arguments.now.paths.judged.now)
         (paths_read arguments.now.paths) target.entry.journal.now target.entry.output.now at was)
         at was result (H.files host.new) (H.kept host.new) }
 {

@@ -1,13 +1,14 @@
 // The files of a host, at the paths of a command line, as a shelf.
-ghost use Rattle.std.specs.Prelude.{◌≡◌, IfErr, IfOk, None, Some};
+ghost use Rattle.std.specs.Prelude.{◌≡◌, IfErr, IfOk, List, None, Some, ℕ};
 ghost use Rattle.std.specs.Option.{option_map};
 ghost use Rattle.std.proofs.Common.{◌∙◌, refl};
-ghost use Rattle.cli.specs.Files.{Files, shelved_at, text_at};
+ghost use Rattle.cli.specs.Files.{Files, held, judged_at, shelved_at, text_at};
 ghost use Rattle.inputs.specs.Counting.{Counts, CountsRead};
 ghost use Rattle.inputs.specs.Texts.{part_of, texts_of};
 ghost use Rattle.inputs.specs.declared.shelf.ReadError.TheVariants as ReadError;
 
 use crate::host::{Host, Turn};
+use document_text::text_of;
 use inputs::{Part, Progress, Question, ReadError, Refusal, Settings, Shelf, ask};
 use std::alloc::{AllocError, Global};
 
@@ -38,7 +39,9 @@ pub struct Paths<'a> {
 impl<'a> Paths<'a> {
     // Where the text is that is read whole for this part.
     fn of(&self, part: Part) -> TextAt<'a>
-        ensures { (at : Files) → part_of (shelved_at at self.now) part ≡ text_at at result }
+        ensures there { (at : Files) (text : List ℕ) → text_at at result ≡ Some text
+            → part_of (shelved_at at self.now) part ≡ Some (held part text) }
+        ensures missing { (at : Files) → text_at at result ≡ None → part_of (shelved_at at self.now) part ≡ None }
     {
         match part {
             Part::Status => TextAt::File(self.status),
@@ -76,6 +79,20 @@ fn copied(alloc: Global, text: &[u8]) -> Result<Vec<u8>, ReadError>
     match text.to_vec(alloc) {
         Ok(copy) => Ok(copy),
         Err(AllocError) => Err(ReadError::OutOfMemory),
+    }
+}
+
+// The text of this part that the bytes hold: what is judged may stand in a JSON document. Memory alone can fail.
+fn held(alloc: Global, part: Part, bytes: Vec<u8>) -> Result<Vec<u8>, ReadError>
+    ensures text { IfOk result (λ text. text.items ≡ held part bytes.items) }
+    ensures memory { IfErr result (λ e. e ≡ ReadError.OutOfMemory) }
+{
+    match part {
+        Part::Status | Part::Sources | Part::Request => Ok(bytes),
+        Part::Judged => match text_of(alloc, bytes) {
+            Ok(text) => Ok(text),
+            Err(AllocError) => Err(ReadError::OutOfMemory),
+        },
     }
 }
 
@@ -164,7 +181,8 @@ fn turn_of(was_read: bool) -> Turn {
     if was_read { Turn::Again } else { Turn::First }
 }
 
-/// The files of a host at these paths. The index of a source is the file that it names.
+/// The files of a host at these paths. The index of a source is the file that it names; what is judged is the text that its file holds, as
+/// it stands or in a JSON document.
 /// It owns nothing, so that its caller knows what becomes of the host that it lends.
 #[derive(Drop)]
 pub struct HostShelf<'h, 's, 'a, H> {
@@ -196,7 +214,7 @@ impl<'h, 's, 'a, H: Host> Shelf for HostShelf<'h, 's, 'a, H> {
         let turn = self.openings.of_part(part);
         let text = read_at(alloc, &mut *self.host, self.paths.of(part), turn)?;
         note_text(alloc, &mut *self.seen, part, text.as_slice())?;
-        Ok(text)
+        held(alloc, part, text)
     }
 
     fn read_preferences(&mut self, alloc: Global) -> Result<Option<Vec<u8>>, ReadError> {
@@ -239,7 +257,7 @@ pub fn ask_files<H: Host, Q: Question>(
     beside: &mut Q::Beside,
 ) -> Result<Q::Answer, Refusal>
     ensures said { (at : Files) → H.files shelf.old.host.now ≡ Some at
-        → Q.says question.now (texts_of settings.now (shelved_at at shelf.old.paths.now)) (at shelf.old.paths.now.judged.now)
+        → Q.says question.now (texts_of settings.now (shelved_at at shelf.old.paths.now)) (judged_at at shelf.old.paths.now.judged.now)
         beside.old result beside.new }
     ensures kept { Q.keeps question.now settings.now beside.old result beside.new }
     ensures same { H.files shelf.new.host.now ≡ H.files shelf.old.host.now }

@@ -4,10 +4,13 @@
 #![tactic(auto)]
 
 mod applied;
+mod archives;
 mod arguments;
 mod asking;
+mod candidate_members;
 mod files;
 mod host;
+mod left_members;
 mod members;
 mod names;
 mod one_file;

@@ -2,12 +2,14 @@
 ghost use Rattle.std.specs.Prelude.{◌≡◌, IfOk, Some, map};
 ghost use Rattle.cli.specs.Calls.{IsOutcomeOfNames, texts_at};
 ghost use Rattle.cli.specs.Files.{Files};
+ghost use Rattle.cli.specs.Members.{AreMembersOf, with_candidates};
+ghost use Rattle.serde_json.specs.View.{members_view};
 
 use crate::arguments::Arguments;
-use crate::asking::{is_document, seen_if, show, want};
+use crate::asking::{seen_if, show, want};
+use crate::candidate_members::members_of_names;
 use crate::files::{HostShelf, Openings, ask_files};
 use crate::host::Host;
-use crate::members::members_of_names;
 use crate::told::tell_refusal;
 use cli_engine::{Candidate, Candidates, Notes, Refusal};
 use command_line::Format;
@@ -23,12 +25,16 @@ fn members_of(
     names: &[&str],
     answer: &Result<Items<Option<Candidate>>, Refusal>,
     sentences: &[u8],
-) -> Result<Members, AllocError> {
+) -> Result<Members, AllocError>
+    ensures { IfOk result (λ members. AreMembersOf
+        (with_candidates (map (λ name. name.now) names.now)) format answer.now
+        (members_view members.map.entries)) }
+{
     match answer {
-        Ok(candidates) if is_document(format) => {
-            members_of_names(alloc, names, candidates.as_slice(), sentences)
+        Ok(candidates) => {
+            members_of_names(alloc, format, names, candidates.as_slice(), sentences)
         }
-        _ => Ok(Members::new(alloc)),
+        Err(_) => Ok(Members::new(alloc)),
     }
 }
 
@@ -59,7 +65,11 @@ pub(crate) fn outcome_of_names<H: Host>(
         seen: &mut seen,
         openings: Openings::none(),
     };
-    let answer = ask_files(alloc, &mut shelf, &settings, &Candidates { names }, notes);
+    let question = Candidates {
+        names,
+        tells_versions: explains,
+    };
+    let answer = ask_files(alloc, &mut shelf, &settings, &question, notes);
     tell_refusal(alloc, &answer, &shelf, notes)?;
     let members = members_of(alloc, format, names, &answer, notes.text.as_slice())?;
     show(explains, notes);

@@ -1,10 +1,12 @@
 //! A plan, judged by the files of a host.
 ghost use Rattle.std.specs.Prelude.{◌≡◌, IfOk, Some};
 ghost use Rattle.cli.specs.Calls.{IsOutcomeOfPlanJudged, texts_at};
-ghost use Rattle.cli.specs.Files.{Files};
+ghost use Rattle.cli.specs.Files.{Files, judged_at};
+ghost use Rattle.cli.specs.Members.{AreMembersOf, with_plan};
+ghost use Rattle.serde_json.specs.View.{members_view};
 
 use crate::arguments::Arguments;
-use crate::asking::{is_document, seen_if, show, want};
+use crate::asking::{seen_if, show, want};
 use crate::files::{HostShelf, Openings, ask_files};
 use crate::host::Host;
 use crate::members::members_of_plan;
@@ -33,13 +35,13 @@ fn members_of<S: Shelf>(
     answer: &Result<JudgedPlan, Refusal>,
     sentences: &[u8],
 ) -> Result<Members, AllocError>
-    ensures { S.holds shelf.old shelf.new }
+    ensures members { IfOk result (λ members.
+        AreMembersOf with_plan format answer.now (members_view members.map.entries)) }
+    ensures held { S.holds shelf.old shelf.new }
 {
     match answer {
-        Ok(judged) if is_document(format) => {
-            members_of_plan(alloc, shelf, settings, judged, sentences)
-        }
-        _ => Ok(Members::new(alloc)),
+        Ok(judged) => members_of_plan(alloc, shelf, settings, format, judged, sentences),
+        Err(_) => Ok(Members::new(alloc)),
     }
 }
 
@@ -51,7 +53,7 @@ pub(crate) fn outcome_of_plan_judged<H: Host>(
     notes: &mut Notes,
 ) -> Result<Outcome, AllocError>
     ensures printed { (at : Files) → H.files host.old ≡ Some at → IfOk result (λ outcome.
-        IsOutcomeOfPlanJudged (texts_at at arguments.now) (at arguments.now.paths.judged.now) arguments.now.format outcome) }
+        IsOutcomeOfPlanJudged (texts_at at arguments.now) (judged_at at arguments.now.paths.judged.now) arguments.now.format outcome) }
     ensures same { H.files host.new ≡ H.files host.old }
     ensures keeps { H.kept host.new ≡ H.kept host.old }
 {

@@ -11,11 +11,11 @@ use crate::arguments::Arguments;
 use crate::asking::{is_document, seen_if, show, want};
 use crate::files::{HostShelf, Openings, ask_files};
 use crate::host::{Host, PutError};
-use crate::members::{members_of_solved, put_kept};
+use crate::left_members::put_left;
+use crate::members::members_of_answered;
 use crate::told::{tell_refusal, tell_undecided};
-use cli_engine::{Answered, Input, Notes, Refusal, Settings};
+use cli_engine::{Input, Notes, Refusal, Settings};
 use command_line::Format;
-use documents::Members;
 use inputs::Shelf;
 use keep_back::{KeepBack, KeptBack};
 use outcomes::{
@@ -48,23 +48,6 @@ fn tell_left(answer: &Result<KeptBack, Refusal>, notes: &mut Notes) -> Result<()
     }
 }
 
-// What a document has of the answer to what is left, and of what was left out.
-fn members_of<S: Shelf>(
-    alloc: Global,
-    shelf: &mut S,
-    settings: &Settings<'_>,
-    answered: Answered,
-    request: &[u8],
-    left_out: &[u8],
-    sentences: &[u8],
-) -> Result<Members, AllocError>
-    ensures { S.holds shelf.old shelf.new }
-{
-    let mut members = members_of_solved(alloc, shelf, settings, answered, sentences)?;
-    put_kept(alloc, request, left_out, &mut members)?;
-    Ok(members)
-}
-
 // What is left, as it is printed in this format and written.
 fn left_of<S: Shelf>(
     alloc: Global,
@@ -85,19 +68,14 @@ fn left_of<S: Shelf>(
         notes,
         ..
     } = kept;
-    let members = if is_document(format) {
-        members_of(
-            alloc,
-            shelf,
-            settings,
-            answered,
-            request.as_slice(),
-            notes.as_slice(),
-            sentences,
-        )?
-    } else {
-        Members::new(alloc)
-    };
+    let mut members = members_of_answered(alloc, shelf, settings, format, answered, sentences)?;
+    put_left(
+        alloc,
+        format,
+        request.as_slice(),
+        notes.as_slice(),
+        &mut members,
+    )?;
     let printed = outcome_in(alloc, format, plain, members)?;
     Ok(Left {
         printed,

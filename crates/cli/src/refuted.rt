@@ -1,7 +1,9 @@
 //! A refutation, judged by the files of a host.
 ghost use Rattle.std.specs.Prelude.{◌≡◌, IfOk, Some};
 ghost use Rattle.cli.specs.Calls.{IsOutcomeOfLines, texts_at};
-ghost use Rattle.cli.specs.Files.{Files};
+ghost use Rattle.cli.specs.Files.{Files, judged_at};
+ghost use Rattle.cli.specs.Members.{AreMembersOf, with_refutation};
+ghost use Rattle.serde_json.specs.View.{members_view};
 
 use crate::arguments::Arguments;
 use crate::asking::{is_document, seen_if, show, want};
@@ -21,10 +23,13 @@ fn members_of(
     format: Format,
     answer: Result<JudgedRefutation, Refusal>,
     sentences: &[u8],
-) -> Result<Members, AllocError> {
+) -> Result<Members, AllocError>
+    ensures { IfOk result (λ members.
+        AreMembersOf with_refutation format answer (members_view members.map.entries)) }
+{
     match answer {
-        Ok(judged) if is_document(format) => members_of_refutation(alloc, judged, sentences),
-        _ => Ok(Members::new(alloc)),
+        Ok(judged) => members_of_refutation(alloc, format, judged, sentences),
+        Err(_) => Ok(Members::new(alloc)),
     }
 }
 
@@ -36,7 +41,7 @@ pub(crate) fn outcome_of_lines<H: Host>(
     notes: &mut Notes,
 ) -> Result<Outcome, AllocError>
     ensures printed { (at : Files) → H.files host.old ≡ Some at → IfOk result (λ outcome.
-        IsOutcomeOfLines (texts_at at arguments.now) (at arguments.now.paths.judged.now) arguments.now.format outcome) }
+        IsOutcomeOfLines (texts_at at arguments.now) (judged_at at arguments.now.paths.judged.now) arguments.now.format outcome) }
     ensures same { H.files host.new ≡ H.files host.old }
     ensures keeps { H.kept host.new ≡ H.kept host.old }
 {

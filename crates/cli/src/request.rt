@@ -2,12 +2,14 @@
 ghost use Rattle.std.specs.Prelude.{◌≡◌, IfOk, Some};
 ghost use Rattle.cli.specs.Calls.{IsOutcomeOfRequest, texts_at};
 ghost use Rattle.cli.specs.Files.{Files};
+ghost use Rattle.cli.specs.Members.{AreMembersOf, with_answered};
+ghost use Rattle.serde_json.specs.View.{members_view};
 
 use crate::arguments::Arguments;
 use crate::asking::{is_document, seen_if, show, want};
 use crate::files::{HostShelf, Openings, ask_files};
 use crate::host::Host;
-use crate::members::members_of_solved;
+use crate::members::members_of_answered;
 use crate::told::{tell_refusal, tell_undecided};
 use cli_engine::{Answered, Notes, Refusal, Settings, Solve};
 use command_line::Format;
@@ -33,13 +35,13 @@ fn members_of<S: Shelf>(
     answer: Result<Answered, Refusal>,
     sentences: &[u8],
 ) -> Result<Members, AllocError>
-    ensures { S.holds shelf.old shelf.new }
+    ensures members { IfOk result (λ members.
+        AreMembersOf with_answered format answer (members_view members.map.entries)) }
+    ensures held { S.holds shelf.old shelf.new }
 {
     match answer {
-        Ok(answered) if is_document(format) => {
-            members_of_solved(alloc, shelf, settings, answered, sentences)
-        }
-        _ => Ok(Members::new(alloc)),
+        Ok(answered) => { members_of_answered(alloc, shelf, settings, format, answered, sentences) }
+        Err(_) => Ok(Members::new(alloc)),
     }
 }
 

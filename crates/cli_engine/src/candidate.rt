@@ -6,10 +6,10 @@ ghost use Rattle.inputs.specs.ReadAs.{start_of};
 ghost use Rattle.rules.specs.Available.{Request};
 ghost use Rattle.cli_engine.specs.Answer.{AreCandidatesOf, IsSaidOfNames};
 
-use crate::nameless::tell_nameless;
 use crate::notes::Notes;
 use crate::offered::Candidate;
 use crate::requested::tell_idle_inputs;
+use crate::versions::tell_candidates;
 use candidates::candidate;
 use inputs::{Before, Question, Refusal, Shelf};
 use rules::Items;
@@ -22,6 +22,8 @@ use std::alloc::{AllocError, Global};
 pub struct Candidates<'n> {
     /// The names.
     pub names: &'n [&'n str],
+    /// Whether the versions of each name are told too, where sentences are wanted.
+    pub tells_versions: bool,
 }
 
 // The candidate of the name over what is read before a request.
@@ -80,8 +82,15 @@ impl<'n> Question for Candidates<'n> {
         notes: &mut Notes,
     ) -> Result<Items<Option<Candidate>>, Refusal> {
         let candidates = candidates_over(alloc, before, self.names)?;
+        tell_candidates(
+            alloc,
+            before,
+            self.names,
+            candidates.as_slice(),
+            self.tells_versions,
+            notes,
+        )?;
         tell_idle_inputs(alloc, before, notes)?;
-        tell_nameless(alloc, before, self.names, candidates.as_slice(), notes)?;
         Ok(Items::new(candidates))
     }
 

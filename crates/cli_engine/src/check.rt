@@ -68,14 +68,7 @@ impl Question for CheckPlan {
         let Requested { universe, .. } = read_asked(alloc, shelf, before, notes)?;
         let steps = read_steps(alloc, shelf)?;
         let verdict = judge(alloc, before.status_file, &universe, steps.as_slice())?;
-        tell_judged(
-            alloc,
-            before.status_file,
-            &universe,
-            steps.as_slice(),
-            &verdict,
-            notes,
-        )?;
+        tell_judged(alloc, before, &universe, steps.as_slice(), &verdict, notes)?;
         Ok(JudgedPlan { verdict, steps })
     }
 

@@ -96,8 +96,8 @@ impl Question for CheckRefutation {
         let members = members_of(alloc, &universe, &numbered.lines, self.has_document)?;
         tell_accepted(
             alloc,
+            before,
             &universe,
-            before.indices,
             &numbered,
             verdict,
             asks_all_versions,

@@ -4,10 +4,10 @@ ghost use Rattle.inputs.specs.ReadAs.{IsOver, start_of};
 ghost use Rattle.universe_parts.specs.Parts.{HaveDistinctNames};
 ghost use Rattle.cli_engine.specs.Good.{IsGoodIfPlan};
 
-use crate::judged::tell_judged;
+use crate::judged::tell_verdict;
 use crate::notes::Notes;
+use crate::requested::tell_idle_inputs;
 use crate::solve::Answered;
-use index::Index;
 use inputs::Before;
 use reasons::{core, sentences};
 use refutation::{Line, Refutation};
@@ -82,8 +82,8 @@ fn tell_bad_line(
 // Tells a sentence for each premise of a core of the refutation, where that is wanted. Memory alone can fail.
 fn tell_refuted(
     alloc: Global,
+    before: &Before<'_, '_, '_, '_, '_, '_, '_, '_>,
     universe: &Universe<'_, '_>,
-    indices: &[Index<'_>],
     refutation: &Refutation,
     asks_all_versions: bool,
     notes: &mut Notes,
@@ -97,16 +97,22 @@ fn tell_refuted(
     }
     let premises = Premises::new(alloc, universe);
     let shorter = core(&premises, refutation)?;
-    let text = sentences(&premises, indices, &shorter, asks_all_versions)?;
+    let text = sentences(
+        &premises,
+        before.indices,
+        before.prefs,
+        &shorter,
+        asks_all_versions,
+    )?;
     notes.add(text.as_slice())
 }
 
-/// Tells the reasons of a refutation with this verdict, if it is accepted, and else which pair it names that isn't admitted, or what is
-/// wrong with its first bad line, where that is wanted. Memory alone can fail.
-pub(crate) fn tell_accepted(
+// Tells the reasons of a refutation with this verdict, if it is accepted, and else which pair it names that isn't admitted, or what is
+// wrong with its first bad line, where that is wanted. Memory alone can fail.
+fn tell_lines(
     alloc: Global,
+    before: &Before<'_, '_, '_, '_, '_, '_, '_, '_>,
     universe: &Universe<'_, '_>,
-    indices: &[Index<'_>],
     numbered: &NumberedLines,
     verdict: RefutationVerdict,
     asks_all_versions: bool,
@@ -119,8 +125,8 @@ pub(crate) fn tell_accepted(
     match verdict {
         RefutationVerdict::Yes => tell_refuted(
             alloc,
+            before,
             universe,
-            indices,
             &numbered.lines,
             asks_all_versions,
             notes,
@@ -129,9 +135,36 @@ pub(crate) fn tell_accepted(
     }
 }
 
-/// Tells the reasons of an answer to a request, if it is a refutation, and what it changes, if it is a plan, where that is wanted.
-/// Memory alone can fail.
-pub fn tell_solved<'a>(
+/// Tells of a refutation with this verdict its reasons, if it is accepted, and else what is wrong with it, and behind that which of the
+/// inputs change no answer, where that is wanted. Memory alone can fail.
+pub(crate) fn tell_accepted(
+    alloc: Global,
+    before: &Before<'_, '_, '_, '_, '_, '_, '_, '_>,
+    universe: &Universe<'_, '_>,
+    numbered: &NumberedLines,
+    verdict: RefutationVerdict,
+    asks_all_versions: bool,
+    notes: &mut Notes,
+) -> Result<(), AllocError>
+    requires few { length universe.now.pairs < 2 ^ 32 }
+    requires distinct { HaveDistinctNames universe.now.starts }
+    ensures unasked { notes.old.wanted ≡ false → notes.new ≡ notes.old }
+{
+    tell_lines(
+        alloc,
+        before,
+        universe,
+        numbered,
+        verdict,
+        asks_all_versions,
+        notes,
+    )?;
+    tell_idle_inputs(alloc, before, notes)
+}
+
+// Tells the reasons of an answer to a request, if it is a refutation, and what it changes, if it is a plan, where that is wanted.
+// Memory alone can fail.
+fn tell_solution<'a>(
     alloc: Global,
     before: &Before<'_, '_, '_, '_, '_, '_, '_, 'a>,
     universe: &Universe<'_, 'a>,
@@ -145,13 +178,13 @@ pub fn tell_solved<'a>(
     match &answered.solved {
         Solved::Refuted(refutation) => tell_refuted(
             alloc,
+            before,
             universe,
-            before.indices,
             refutation,
             answered.asks_all_versions,
             notes,
         ),
-        Solved::Plan(steps) => tell_judged(
+        Solved::Plan(steps) => tell_verdict(
             alloc,
             before.status_file,
             universe,
@@ -161,4 +194,21 @@ pub fn tell_solved<'a>(
         ),
         Solved::Undecided(_) => Ok(()),
     }
+}
+
+/// Tells the reasons of an answer to a request, if it is a refutation, and what it changes, if it is a plan, and behind that which of the
+/// inputs change no answer, where that is wanted. Memory alone can fail.
+pub fn tell_solved<'a>(
+    alloc: Global,
+    before: &Before<'_, '_, '_, '_, '_, '_, '_, 'a>,
+    universe: &Universe<'_, 'a>,
+    answered: &Answered,
+    notes: &mut Notes,
+) -> Result<(), AllocError>
+    requires over { IsOver before.now universe.now }
+    requires good { IsGoodIfPlan universe.now (start_of before.now) answered.now.solved }
+    ensures unasked { notes.old.wanted ≡ false → notes.new ≡ notes.old }
+{
+    tell_solution(alloc, before, universe, answered, notes)?;
+    tell_idle_inputs(alloc, before, notes)
 }

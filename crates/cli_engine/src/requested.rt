@@ -13,7 +13,7 @@ use inputs::{Before, Fault, Input, Part, Refusal, Requested, Shelf, read_part, r
 use std::alloc::{AllocError, Global};
 
 /// Tells which of the inputs change no answer, where that is wanted. Costs what `hints::idle_inputs` costs. Memory alone can fail.
-pub fn tell_idle_inputs(
+pub(crate) fn tell_idle_inputs(
     alloc: Global,
     before: &Before<'_, '_, '_, '_, '_, '_, '_, '_>,
     notes: &mut Notes,
@@ -59,13 +59,12 @@ fn name_in(line: &[u8]) -> &[u8] {
     }
 }
 
-/// Tells who provides the name that no package has, where the request with this text is refused for one and that is wanted. Costs what
-/// `hints::providers_of` costs. Memory alone can fail.
-pub fn tell_unknown(
+// Tells who provides the name that no package has, where the request with this text is refused for one and that is wanted.
+fn tell_providers(
     alloc: Global,
     indices: &[Index<'_>],
     text: &[u8],
-    answer: &Result<Requested<'_, '_>, Refusal>,
+    fault: &Fault,
     notes: &mut Notes,
 ) -> Result<(), AllocError>
     ensures unasked { notes.old.wanted ≡ false → notes.new ≡ notes.old }
@@ -73,13 +72,8 @@ pub fn tell_unknown(
     if !notes.wanted {
         return Ok(());
     }
-    match answer {
-        Err(
-            Refusal {
-                fault: Fault::UnknownName(line),
-                ..
-            },
-        ) => {
+    match fault {
+        Fault::UnknownName(line) => {
             let text = providers_of(alloc, indices, name_in(line_at(text, *line)))?;
             notes.add(text.as_slice())
         }
@@ -87,8 +81,29 @@ pub fn tell_unknown(
     }
 }
 
+/// Tells, where the request with this text is refused and that is wanted, which of the inputs change no answer, and who provides the name
+/// that no package has, where it is refused for one. Costs what `hints::idle_inputs` and `hints::providers_of` cost. Memory alone can
+/// fail.
+pub fn tell_refused(
+    alloc: Global,
+    before: &Before<'_, '_, '_, '_, '_, '_, '_, '_>,
+    text: &[u8],
+    answer: &Result<Requested<'_, '_>, Refusal>,
+    notes: &mut Notes,
+) -> Result<(), AllocError>
+    ensures unasked { notes.old.wanted ≡ false → notes.new ≡ notes.old }
+{
+    match answer {
+        Err(refusal) => {
+            tell_idle_inputs(alloc, before, notes)?;
+            tell_providers(alloc, before.indices, text, &refusal.fault, notes)
+        }
+        Ok(_) => Ok(()),
+    }
+}
+
 /// The universe that the request of a shelf is answered from, over what the texts before it are read as, and whether it asks for all
-/// versions. Tells which of the inputs change no answer, and who provides a name that no package has, where that is wanted.
+/// versions. Tells of a refused request what `tell_refused` tells.
 pub(crate) fn read_asked<'i, 'a, S: Shelf>(
     alloc: Global,
     shelf: &mut S,
@@ -104,9 +119,8 @@ pub(crate) fn read_asked<'i, 'a, S: Shelf>(
     ensures read { IsReadBy S.Shelf shelf.old result shelf.new }
     ensures unasked { notes.old.wanted ≡ false → notes.new ≡ notes.old }
 {
-    tell_idle_inputs(alloc, before, notes)?;
     let text = read_part(alloc, shelf, Part::Request, Input::Request)?;
     let answer = requested_in(alloc, before, None, text.as_slice());
-    tell_unknown(alloc, before.indices, text.as_slice(), &answer, notes)?;
+    tell_refused(alloc, before, text.as_slice(), &answer, notes)?;
     answer
 }

@@ -12,7 +12,9 @@ pub(crate) const ANSWERS: &str =
     "A refutation shows that no choice among the admitted versions fulfils the request.
 Admitted are, of each package, the installed version, the candidate, and each version that a goal
 names, as in install hello (= 2.10-3); where the request has a line all-versions, each version that
-may become the candidate; of a held package, the installed version alone.
+may become the candidate; of a held package, the installed version alone. The installed version is
+kept where it can be, else the candidate comes wherever it can be had: an older one comes only where
+what is chosen besides leaves no other, and --explain names it.
 The goals, the form of the sources file and examples: debplan --help
 
 Exit status:
@@ -42,6 +44,8 @@ A refutation shows that no choice among the admitted versions fulfils the reques
 alone. Admitted are, of each package, the installed version, the candidate, and each version that a
 goal names, as in install hello (= 2.10-3); where the request has a line all-versions, which is no
 goal, each version that may become the candidate; of a held package, the installed version alone.
+The installed version is kept where it can be, else the candidate comes wherever it can be had: an
+older one comes only where what is chosen besides leaves no other, and --explain names it.
 
 A sources file has a stanza for each index, and an empty line between two:
   File: index-1.Packages

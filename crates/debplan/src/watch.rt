@@ -31,7 +31,7 @@ impl Watch {
         }
     }
 
-    /// Shows it, where a second has passed since the last was, and takes the line away with the last answer. Nothing is shown where
+    /// Shows it, where a second has passed since the last was, and takes the line away once the answer is there. Nothing is shown where
     /// standard error is no terminal, and where the clock or memory fails.
     pub(crate) fn show(&mut self, rt: &HostRuntime, progress: Progress) {
         if self.is_over {
@@ -53,7 +53,7 @@ impl Watch {
 
     // Shows it where a second has passed, or takes the line away.
     fn go_on(&mut self, rt: &HostRuntime, begun: Begun, progress: Progress) {
-        if progress.answered >= progress.all {
+        if is_last(progress) {
             self.is_over = true;
             write_over(rt, "");
             return;
@@ -72,6 +72,15 @@ impl Watch {
     }
 }
 
+// Whether nothing more is to come.
+fn is_last(progress: Progress) -> bool {
+    match progress {
+        Progress::Packages { answered, all, .. } => answered >= all,
+        Progress::Goals { .. } => false,
+        Progress::Over => true,
+    }
+}
+
 // Whether standard error leads to a terminal (pts(4), tty(4)).
 fn is_terminal(rt: &HostRuntime) -> bool {
     match fs::canonicalize(rt, STANDARD_ERROR) {
@@ -85,15 +94,22 @@ fn is_terminal(rt: &HostRuntime) -> bool {
 
 // Writes how far the answer is after so many seconds.
 fn tell(rt: &HostRuntime, progress: Progress, seconds: u64) -> Result<(), AllocError> {
-    let Progress {
-        answered,
-        all,
-        refuted,
-    } = progress;
-    let left = minutes_left(answered as u64, all as u64, seconds);
-    let line = format!(in rt.alloc();
-        "checked {answered} of {all}, broken {refuted}, {left} min left"
-    )?;
+    let line = match progress {
+        Progress::Packages {
+            answered,
+            all,
+            refuted,
+        } => {
+            let left = minutes_left(answered as u64, all as u64, seconds);
+            format!(in rt.alloc();
+                "checked {answered} of {all}, broken {refuted}, {left} min left"
+            )?
+        }
+        Progress::Goals { left_out, all } => {
+            format!(in rt.alloc(); "kept back {left_out} of {all} goals, after {seconds} s")?
+        }
+        Progress::Over => return Ok(()),
+    };
     write_over(rt, line.as_str());
     Ok(())
 }

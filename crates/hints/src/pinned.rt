@@ -29,7 +29,7 @@ fn has_item(release: &Release, item: &ReleaseItem) -> bool {
 }
 
 // Whether the pin may speak of versions in an index with these release keys.
-fn takes_release(pin: &Pin, release: &Release) -> bool {
+pub(crate) fn takes_release(pin: &Pin, release: &Release) -> bool {
     match pin {
         Pin::VersionBeginning(_) | Pin::Version(_) => true,
         Pin::Release(items) => items.as_slice().iter().all(|item| has_item(release, item)),
@@ -38,7 +38,7 @@ fn takes_release(pin: &Pin, release: &Release) -> bool {
 }
 
 // Whether the pin may speak of versions of the status file, which has the empty host and no other key.
-fn takes_status(pin: &Pin) -> bool {
+pub(crate) fn takes_status(pin: &Pin) -> bool {
     match pin {
         Pin::VersionBeginning(_) | Pin::Version(_) => true,
         Pin::Release(items) => items.as_slice().is_empty(),
@@ -47,7 +47,7 @@ fn takes_status(pin: &Pin) -> bool {
 }
 
 // Whether the pin speaks of this version, wherever it comes from.
-fn takes_version(pin: &Pin, version: &Version<'_>) -> bool {
+pub(crate) fn takes_version(pin: &Pin, version: &Version<'_>) -> bool {
     match pin {
         Pin::VersionBeginning(beginning) => version.text().starts_with(beginning.as_bytes()),
         Pin::Version(pinned) => match Version::parse(pinned.as_bytes()) {
@@ -58,7 +58,7 @@ fn takes_version(pin: &Pin, version: &Version<'_>) -> bool {
     }
 }
 
-fn is_among(names: &[Name], name: &[u8]) -> bool {
+pub(crate) fn is_among(names: &[Name], name: &[u8]) -> bool {
     names.iter().any(|listed| listed.as_bytes() == name)
 }
 

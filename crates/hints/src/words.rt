@@ -12,6 +12,12 @@ pub(crate) fn push_count(text: &mut Vec<u8>, count: usize) -> Result<(), AllocEr
     text.extend_from_slice(buffer.format(count).as_bytes())
 }
 
+/// Writes the priority.
+pub(crate) fn push_priority(text: &mut Vec<u8>, priority: i32) -> Result<(), AllocError> {
+    let mut buffer = Buffer::new();
+    text.extend_from_slice(buffer.format(priority).as_bytes())
+}
+
 /// Writes a word of a command line or of a request, with a question mark in the place of each byte that controls a terminal.
 pub(crate) fn push_word(text: &mut Vec<u8>, word: &[u8]) -> Result<(), AllocError> {
     for byte in word {

@@ -10,3 +10,9 @@ pub record IsReadBy {S Text A : Type 0} (shelf : Ghosts S Text) (old : S) (resul
   pub same : shelf.found new ≡ shelf.found old
   pub count : CountsRead result (shelf.faults old) (shelf.faults new)
   pub held : shelf.holds old new
+
+-- nothing is read from the shelf: what is found on it is as it was, and it holds what it held
+pub record IsUntouched {S Text : Type 0} (shelf : Ghosts S Text) (old new : S) : Type 0 where
+  pub same : shelf.found new ≡ shelf.found old
+  pub count : shelf.faults new ≡ shelf.faults old
+  pub held : shelf.holds old new

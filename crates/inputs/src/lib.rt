@@ -1,7 +1,6 @@
 //! The texts that a request is answered from, read into values: the status file, the sources, the indices, the preferences
-//! and the request, in this order, each at its turn from a shelf. It judges nothing and solves nothing. The main calls are
-//! `read_status_file`, `read_indices`, `read_preferences` and `read_universe`; begin with `specs/Texts.antt` and
-//! `specs/Meaning.antt`.
+//! and the request, in this order, each at its turn from a shelf. It judges nothing and solves nothing. The main call is
+//! `ask`, which answers a `Question`; begin with `specs/Texts.antt` and `specs/Meaning.antt`.
 #![tactic(auto)]
 
 mod before;

@@ -29,15 +29,27 @@ pub enum ReadError {
     OutOfMemory,
 }
 
-/// How far an answer to many questions is.
+/// How far an answer that takes long is.
 #[derive(Clone, Copy, Debug, PartialEq, Eq)]
-pub struct Progress {
-    /// How many of them are answered.
-    pub answered: usize,
-    /// How many there are.
-    pub all: usize,
-    /// How many of the answers are a no.
-    pub refuted: usize,
+pub enum Progress {
+    /// Packages are asked about one after the other.
+    Packages {
+        /// How many of them are answered.
+        answered: usize,
+        /// How many there are.
+        all: usize,
+        /// How many of those that are answered are a no.
+        refuted: usize,
+    },
+    /// Goals are left out of a request one after the other.
+    Goals {
+        /// How many are left out.
+        left_out: usize,
+        /// How many there were.
+        all: usize,
+    },
+    /// The answer is there.
+    Over,
 }
 
 /// Where the texts of a request are found.

@@ -14,7 +14,6 @@ use crate::answer::{Installability, PackageAnswer, Refuted};
 use crate::asked::Stanza;
 use crate::question::Installable;
 use crate::request_text::request_of;
-use index::Index;
 use inputs::{Before, Refusal, Requested, requested_in};
 use reasons::{core, sentences};
 use refutation::Refutation;
@@ -28,7 +27,7 @@ use written_refutation::write_naming;
 // The reasons of the refutation of a request, where they are wanted: a sentence for each premise of a core of it. Memory alone can fail.
 fn reasons_of(
     alloc: Global,
-    indices: &[Index<'_>],
+    before: &Before<'_, '_, '_, '_, '_, '_, '_, '_>,
     requested: &Requested<'_, '_>,
     refutation: &Refutation,
     explains: bool,
@@ -41,13 +40,19 @@ fn reasons_of(
     }
     let premises = Premises::new(alloc, &requested.universe);
     let shorter = core(&premises, refutation)?;
-    sentences(&premises, indices, &shorter, requested.asks_all_versions)
+    sentences(
+        &premises,
+        before.indices,
+        before.prefs,
+        &shorter,
+        requested.asks_all_versions,
+    )
 }
 
 // The texts of the request and of the refutation that was found of it, and the reasons, where they are wanted. Memory alone can fail.
 fn refuted_by(
     alloc: Global,
-    indices: &[Index<'_>],
+    before: &Before<'_, '_, '_, '_, '_, '_, '_, '_>,
     requested: &Requested<'_, '_>,
     request: &[u8],
     refutation: &Refutation,
@@ -59,7 +64,7 @@ fn refuted_by(
     ensures text { IfOk result (λ refuted. refuted.refutation ≡ naming_text requested.now.universe.pairs refutation.now) }
 {
     let text = write_naming(alloc, &requested.universe, refutation)?;
-    let reasons = reasons_of(alloc, indices, requested, refutation, explains)?;
+    let reasons = reasons_of(alloc, before, requested, refutation, explains)?;
     Ok(Refuted {
         request: Items::new(request.to_vec(alloc)?),
         refutation: Items::new(text),
@@ -70,7 +75,7 @@ fn refuted_by(
 // What is answered to the request where it is decided so and this is its text. Memory alone can fail.
 fn told(
     alloc: Global,
-    indices: &[Index<'_>],
+    before: &Before<'_, '_, '_, '_, '_, '_, '_, '_>,
     requested: &Requested<'_, '_>,
     request: &[u8],
     decided: Decided,
@@ -85,7 +90,7 @@ fn told(
     match decided {
         Decided::Selection(_) => Ok(Installability::Installable),
         Decided::Refuted(refutation) => {
-            let refuted = refuted_by(alloc, indices, requested, request, &refutation, explains)?;
+            let refuted = refuted_by(alloc, before, requested, request, &refutation, explains)?;
             Ok(Installability::Broken(refuted))
         }
         Decided::Limit(limit) => Ok(Installability::Limit(limit)),
@@ -108,7 +113,7 @@ fn installability_over(
     let decided = decide(alloc, &requested.universe, question.limit)?;
     told(
         alloc,
-        before.indices,
+        before,
         requested,
         request,
         decided,

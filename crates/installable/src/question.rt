@@ -93,7 +93,7 @@ fn answers_to<'i, 'a, S: Shelf>(
         let answer = answer_to(alloc, before, listing, stanza, beside, question)?;
         refuted = with_refuted(refuted, &answer);
         answers.push(answer)?;
-        shelf.show(Progress {
+        shelf.show(Progress::Packages {
             answered: answers.len(),
             all: asked.len(),
             refuted,

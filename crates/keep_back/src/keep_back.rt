@@ -6,6 +6,7 @@ ghost use mathlib.Core.Logic.{inl};
 ghost use Rattle.cli_engine.specs.Good.{IsGoodIfPlan};
 ghost use Rattle.inputs.specs.Meaning.{DenotesAsked};
 ghost use Rattle.inputs.specs.ReadAs.{AreReadAs, IsOver, asking, start_of};
+ghost use Rattle.inputs.specs.ReadBy.{IsUntouched};
 ghost use Rattle.inputs.specs.Refused.{IsRefusal};
 ghost use Rattle.inputs.specs.Texts.{Texts};
 ghost use Rattle.inputs.specs.declared.refusal.Fault.TheVariants as fault;
@@ -13,8 +14,10 @@ ghost use Rattle.keep_back.specs.KeptBack.{IsSaidOfKept};
 
 use crate::kept::{Kept, kept_of};
 use crate::round::SolvedRequest;
-use cli_engine::{Answered, Notes, answered, tell_idle_inputs, tell_solved, tell_unknown};
-use inputs::{Before, Input, Part, Question, Refusal, Requested, Shelf, read_part, requested_in};
+use cli_engine::{Answered, Notes, answered, tell_refused, tell_solved};
+use inputs::{
+    Before, Input, Part, Progress, Question, Refusal, Requested, Shelf, read_part, requested_in,
+};
 use rules::Items;
 use std::alloc::{AllocError, Global};
 
@@ -24,7 +27,8 @@ use std::alloc::{AllocError, Global};
 /// the core names none: first goals about a held name, then the goal beside whose candidate most packages that stand can't stay so, and
 /// of two such the later one. Lines without a goal, `all-versions` and `no-remove` are conditions and stay. It is refused as
 /// `cli_engine::Solve` is, and what is left of it for its size (E10), where the goals in the place of `upgrade-all` are too many. Reading
-/// costs what `inputs::ask` says; each goal that is left out costs what solving costs there, a core and its sentences.
+/// costs what `inputs::ask` says; each goal that is left out costs what solving costs there, a core and its sentences. The shelf is shown
+/// how many goals are left out, before each search but the first.
 #[derive(Clone, Copy)]
 pub struct KeepBack {
     /// How many conflicts each search has at most.
@@ -47,8 +51,7 @@ pub struct KeptBack {
     pub notes: Items<u8>,
 }
 
-// What the request with this text asks for. Which inputs change no answer is told before, and then who provides a name that no package
-// has.
+// What the request with this text asks for. Of a refused one it is told what `tell_refused` tells.
 fn requested_telling<'i, 'a>(
     alloc: Global,
     before: &Before<'_, '_, '_, '_, '_, '_, 'i, 'a>,
@@ -62,9 +65,8 @@ fn requested_telling<'i, 'a>(
     ensures known { IfErr result (λ refused. refused.fault ≢ fault.Read) }
     ensures unasked { notes.old.wanted ≡ false → notes.new ≡ notes.old }
 {
-    tell_idle_inputs(alloc, before, notes)?;
     let answer = requested_in(alloc, before, None, text);
-    tell_unknown(alloc, before.indices, text, &answer, notes)?;
+    tell_refused(alloc, before, text, &answer, notes)?;
     answer
 }
 
@@ -109,9 +111,10 @@ fn tell_kept<'a>(
     })
 }
 
-// Answers as much of the request with this text as can be, and tells of the answer.
-fn keep(
+// Answers as much of the request with this text as can be, and tells of the answer. The shelf is shown how far it is.
+fn keep<S: Shelf>(
     alloc: Global,
+    shelf: &mut S,
     before: &Before<'_, '_, '_, '_, '_, '_, '_, '_>,
     text: Vec<u8>,
     limit: u32,
@@ -121,9 +124,10 @@ fn keep(
     ensures said { (texts : Texts) → AreReadAs texts before.now → texts.request ≡ Some text.items → IsSaidOfKept texts limit result }
     ensures known { IfErr result (λ refused. refused.fault ≢ fault.Read) }
     ensures unasked { notes.old.wanted ≡ false → notes.new ≡ notes.old }
+    ensures untouched { IsUntouched S.Shelf shelf.old shelf.new }
 {
     let requested = requested_telling(alloc, before, text.as_slice(), notes)?;
-    let kept = kept_of(alloc, before, requested, text, limit)?;
+    let kept = kept_of(alloc, shelf, before, requested, text, limit)?;
     let kept_back = tell_kept(alloc, before, kept, has_document, notes)?;
     Ok(kept_back)
 }
@@ -147,7 +151,17 @@ impl Question for KeepBack {
         notes: &mut Notes,
     ) -> Result<KeptBack, Refusal> {
         let text = read_part(alloc, shelf, Part::Request, Input::Request)?;
-        keep(alloc, before, text, self.limit, self.has_document, notes)
+        let kept_back = keep(
+            alloc,
+            shelf,
+            before,
+            text,
+            self.limit,
+            self.has_document,
+            notes,
+        );
+        shelf.show(Progress::Over);
+        kept_back
     }
 
     ghost refuses = { λ question texts judged beside refused is. inl (inl is) };

@@ -2,6 +2,7 @@
 
 ghost use Rattle.std.specs.Prelude.{◌≡◌, ◌≢◌, ◌<◌, [], IfErr, IfOk, List, Some, length, ℕ};
 ghost use Rattle.inputs.specs.ReadAs.{AreReadAs, IsListed, IsOver};
+ghost use Rattle.inputs.specs.ReadBy.{IsUntouched};
 ghost use Rattle.inputs.specs.Texts.{Texts};
 ghost use Rattle.inputs.specs.declared.refusal.Fault.TheVariants as fault;
 ghost use Rattle.keep_back.specs.Further.{IsFurther, IsFurtherRefusal, IsRefusedWith, IsRest, IsRestRefusal, IsStep};
@@ -14,7 +15,7 @@ use crate::least_wanted::Reason;
 use crate::left::Left;
 use crate::note::{count_goals, push_counts};
 use crate::round::{Round, SolvedRequest, round_over, solved_in};
-use inputs::{Before, Refusal, Requested, listed_in, requested_in};
+use inputs::{Before, Progress, Refusal, Requested, Shelf, listed_in, requested_in};
 use std::alloc::{AllocError, Global};
 use universe_build::Listing;
 use wishes::{Wish, text_of, wishes_of};
@@ -95,9 +96,20 @@ fn last<'i, 'a>(
     Ok(solved)
 }
 
-// The answer to what is left once no more is left out. There are no more steps than wishes.
-fn rounds<'i, 'a>(
+// Shows the shelf how many of the goals are left out.
+fn show_left<S: Shelf>(shelf: &mut S, left: &Left)
+    ensures { IsUntouched S.Shelf shelf.old shelf.new }
+{
+    shelf.show(Progress::Goals {
+        left_out: left.places.len(),
+        all: left.goals,
+    });
+}
+
+// The answer to what is left once no more is left out. There are no more steps than wishes. The shelf is shown how far it is before each.
+fn rounds<'i, 'a, S: Shelf>(
     alloc: Global,
+    shelf: &mut S,
     before: &Before<'_, '_, '_, '_, '_, '_, 'i, 'a>,
     listing: &Listing<'_, 'i, 'a>,
     left: &mut Left,
@@ -108,8 +120,10 @@ fn rounds<'i, 'a>(
     ensures solved { IfOk result (IsSolvedRequest before.now limit (Lines.text_of (lines_in left.new.wishes.items))) }
     ensures refused { (texts : Texts) → AreReadAs texts before.now → IfErr result (IsFurtherRefusal before.now texts left.old) }
     ensures known { IfErr result (λ refused. refused.fault ≢ fault.Read) }
+    ensures untouched { IsUntouched S.Shelf shelf.old shelf.new }
 {
     for _ in 0..left.wishes.len() {
+        show_left(shelf, left);
         if let Some(solved) = step(alloc, before, listing, left, limit)? {
             return Ok(solved);
         }
@@ -160,8 +174,9 @@ fn rest<'i, 'a>(
 }
 
 // Leaves out the wish of the reason and then others, until the rest is answered. All that is left is answered over one listing.
-fn keep_rest<'i, 'a>(
+fn keep_rest<'i, 'a, S: Shelf>(
     alloc: Global,
+    shelf: &mut S,
     before: &Before<'_, '_, '_, '_, '_, '_, 'i, 'a>,
     asks_all_versions: bool,
     wishes: Vec<Wish>,
@@ -174,19 +189,21 @@ fn keep_rest<'i, 'a>(
     ensures refused { (texts : Texts) → AreReadAs texts before.now
         → IfErr result (IsRestRefusal texts (lines_in wishes.items) reason.now.place) }
     ensures known { IfErr result (λ refused. refused.fault ≢ fault.Read) }
+    ensures untouched { IsUntouched S.Shelf shelf.old shelf.new }
 {
     let mut left = Left::new(alloc, wishes);
     left.leave_out(reason)?;
     let listing = listed_in(alloc, before, asks_all_versions)?;
-    let solved = rounds(alloc, before, &listing, &mut left, limit)?;
+    let solved = rounds(alloc, shelf, before, &listing, &mut left, limit)?;
     let kept = rest(alloc, left, solved)?;
     Ok(kept)
 }
 
 /// As much of the request with this text as can be: the whole request where no wish of it is left out, and else what is left. It is
-/// refused as `inputs::requested_in` refuses what is left, which is for its size alone.
-pub(crate) fn kept_of<'i, 'a>(
+/// refused as `inputs::requested_in` refuses what is left, which is for its size alone. The shelf is shown how far it is.
+pub(crate) fn kept_of<'i, 'a, S: Shelf>(
     alloc: Global,
+    shelf: &mut S,
     before: &Before<'_, '_, '_, '_, '_, '_, 'i, 'a>,
     requested: Requested<'i, 'a>,
     text: Vec<u8>,
@@ -200,6 +217,7 @@ pub(crate) fn kept_of<'i, 'a>(
     ensures refused { (texts : Texts) → AreReadAs texts before.now → texts.request ≡ Some text.items
         → IfErr result (IsKeptRefusal texts) }
     ensures known { IfErr result (λ refused. refused.fault ≢ fault.Read) }
+    ensures untouched { IsUntouched S.Shelf shelf.old shelf.new }
 {
     let asks_all_versions = requested.asks_all_versions;
     let wishes = wishes_of(
@@ -213,6 +231,7 @@ pub(crate) fn kept_of<'i, 'a>(
         Round::Stays(solved) => Ok(whole(alloc, text, solved)),
         Round::LeavesOut(reason) => keep_rest(
             alloc,
+            shelf,
             before,
             asks_all_versions,
             wishes,

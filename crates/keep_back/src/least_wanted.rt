@@ -5,7 +5,7 @@ ghost use Rattle.universe_parts.specs.Parts.{HaveDistinctNames};
 ghost use Rattle.keep_back.specs.Reason.{IsReasonOf, IsWithin};
 
 use debversion::Version;
-use index::Index;
+use inputs::Before;
 use reasons::{core, sentences};
 use refutation::{Line, Premise, Refutation};
 use refutecheck::{Premises, clause_of};
@@ -240,8 +240,8 @@ fn least_wanted(
 // Why a wish is left out where the refutation is accepted, if it names one.
 fn reason_in(
     alloc: Global,
+    before: &Before<'_, '_, '_, '_, '_, '_, '_, '_>,
     universe: &Universe<'_, '_>,
-    indices: &[Index<'_>],
     refutation: &Refutation,
     asks_all_versions: bool,
     wishes: &[Wish],
@@ -258,7 +258,13 @@ fn reason_in(
     if place >= wishes.len() {
         return Ok(None);
     }
-    let sentences = sentences(&premises, indices, &core, asks_all_versions)?;
+    let sentences = sentences(
+        &premises,
+        before.indices,
+        before.prefs,
+        &core,
+        asks_all_versions,
+    )?;
     Ok(Some(Reason { place, sentences }))
 }
 
@@ -268,8 +274,8 @@ fn reason_in(
 /// at each package that stands. Memory alone can fail.
 pub(crate) fn reason_of(
     alloc: Global,
+    before: &Before<'_, '_, '_, '_, '_, '_, '_, '_>,
     universe: &Universe<'_, '_>,
-    indices: &[Index<'_>],
     solved: &Solved,
     asks_all_versions: bool,
     wishes: &[Wish],
@@ -282,8 +288,8 @@ pub(crate) fn reason_of(
     match solved {
         Solved::Refuted(refutation) => reason_in(
             alloc,
+            before,
             universe,
-            indices,
             refutation,
             asks_all_versions,
             wishes,

@@ -60,8 +60,8 @@ pub(crate) fn round_over<'i, 'a>(
     let solved = solved_in(alloc, before, requested, limit)?;
     let reason = reason_of(
         alloc,
+        before,
         &solved.requested.universe,
-        before.indices,
         &solved.solved,
         solved.requested.asks_all_versions,
         wishes,

@@ -13,11 +13,12 @@ use Rattle.outcomes.specs.declared.outcome.Outcome.{Outcome}
 use Rattle.outcomes.specs.declared.outcome.Outcome.TheVariants as outcome
 use Rattle.command_line.specs.declared.call.Format.{Format}
 use Rattle.command_line.specs.declared.call.Format.TheVariants as format
-use Rattle.documents.specs.Document.{IsDocumentOf}
+use Rattle.documents.specs.Document.{IsLineOf, object_with}
 use Rattle.inputs.specs.declared.refusal.Refusal.{Refusal}
 use Rattle.cli_engine.specs.declared.check.JudgedPlan.{JudgedPlan}
 use Rattle.cli_engine.specs.declared.check_refutation.JudgedRefutation.{JudgedRefutation}
 use Rattle.cli_engine.specs.declared.solve.Answered.{Answered}
+use Rattle.serde_json.specs.Data.{Members}
 
 -- the line names the program first
 abbrev pub IsComplaint : List ℕ → Type 0
@@ -85,15 +86,17 @@ IsOutcomeOfKind said (outcome.Complaint text ending) =
 abbrev pub IsOutcomeOfMemory : Outcome → Type 0
 IsOutcomeOfMemory found = found ≡ outcome.Complaint (codes "debplan: memory: E1 OutOfMemory\n") exit.Device
 
--- the text is printed in this format: as it is, or as the line of a JSON object of which it is the member `text`
-abbrev pub IsPrintedAs : Format → List ℕ → List ℕ → Type 0
-IsPrintedAs format.Text text printed = printed ≡ text
-IsPrintedAs format.Json text printed = IsDocumentOf text printed
+-- the text is printed in this format: as it is, or as the line of the JSON object of these members and, as `text`, of the text
+abbrev pub IsPrintedAs : Format → Members → List ℕ → List ℕ → Type 0
+IsPrintedAs format.Text beside text printed = printed ≡ text
+IsPrintedAs format.Json beside text printed = IsLineOf (object_with text beside) printed
 
--- the outcome is this one in the format: an answer is printed in it, with the same exit status, and a complaint is as it was
-abbrev pub IsOutcomeIn : Format → Outcome → Outcome → Type 0
-IsOutcomeIn written (outcome.Answer text ending) found = (printed : List ℕ) × (found ≡ outcome.Answer printed ending) × IsPrintedAs written text printed
-IsOutcomeIn written (outcome.Complaint text ending) found = found ≡ outcome.Complaint text ending
+-- the outcome is this one in the format: an answer is printed in it, with these members and the same exit status, and a complaint is as
+-- it was
+abbrev pub IsOutcomeIn : Format → Members → Outcome → Outcome → Type 0
+IsOutcomeIn written beside (outcome.Answer text ending) found =
+    (printed : List ℕ) × (found ≡ outcome.Answer printed ending) × IsPrintedAs written beside text printed
+IsOutcomeIn written beside (outcome.Complaint text ending) found = found ≡ outcome.Complaint text ending
 
 -- the outcome is written, by what standard output held and holds: an answer stands there behind the rest, or the
 -- program ends as where a device fails; of a complaint nothing stands there

@@ -6,6 +6,7 @@ ghost use Rattle.outcomes.specs.Exit.{exit_of_solved, exit_of_verdict};
 ghost use Rattle.outcomes.specs.Outcome.{IsComplaint, IsOutcomeIn, IsOutcomeOfCandidates, IsOutcomeOfComparison, IsOutcomeOfKind, IsOutcomeOfOneFile, IsOutcomeOfPlan, IsOutcomeOfRefusal, IsOutcomeOfRefutation, IsOutcomeOfSolved, IsOutcomeOfStopped, IsOutcomeOfUnbegun, IsPrintedAs, IsRequestUnwritten, IsUnwritten};
 ghost use Rattle.outcomes.specs.declared.exit.Exit.TheVariants as exit;
 ghost use Rattle.outcomes.specs.declared.outcome.Outcome.TheVariants as printed;
+ghost use Rattle.serde_json.specs.View.{members_view};
 
 use crate::answer::{
     applied_line, candidate_lines, comparison_line, refutation_line, solved_text, verdict_line,
@@ -136,7 +137,7 @@ pub fn outcome_in(
     outcome: Outcome,
     members: Members,
 ) -> Result<Outcome, AllocError>
-    ensures { IfOk result (IsOutcomeIn format outcome) }
+    ensures { IfOk result (IsOutcomeIn format (members_view members.map.entries) outcome) }
 {
     match outcome {
         Outcome::Answer(text, exit) => {
@@ -154,7 +155,7 @@ fn printed_as(
     text: Items<u8>,
     members: Members,
 ) -> Result<Items<u8>, AllocError>
-    ensures { IfOk result (IsPrintedAs format text) }
+    ensures { IfOk result (IsPrintedAs format (members_view members.map.entries) text) }
 {
     match format {
         Format::Text => Ok(text),

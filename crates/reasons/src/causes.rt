@@ -2,6 +2,7 @@
 
 use crate::offers::is_listed;
 use crate::teller::Teller;
+use crate::unadmitted::{push_held, push_reason};
 use crate::wanted::Wanted;
 use crate::words::push_versioned;
 use debversion::Version;
@@ -16,6 +17,8 @@ pub(crate) enum Cause<'c, 'a, 'i> {
     Held(Option<&'c Version<'a>>),
     /// This version fits and is in an index, but isn't admitted.
     Unadmitted(Version<'i>),
+    /// No pair provides the name so that it fits, but this version of a package in an index does, which isn't admitted.
+    Elsewhere(&'i [u8], Version<'i>),
     /// These pairs alone are of the name, and these provide it.
     Others(Vec<u32>, Vec<u32>),
     /// No pair is of the name, but these provide it.
@@ -26,11 +29,14 @@ pub(crate) enum Cause<'c, 'a, 'i> {
     Missing,
 }
 
-// Who provides the name where no pair has it, and else whether an index has it.
+// Who provides the name where no pair has it, among the pairs or in the indices, and else whether an index has it.
 fn cause_of_unnamed<'c, 'a, 'i>(
     teller: &Teller<'c, '_, '_, 'a, 'i>,
     wanted: &Wanted<'_>,
 ) -> Result<Cause<'c, 'a, 'i>, AllocError> {
+    if let Some((name, version)) = teller.elsewhere(wanted)? {
+        return Ok(Cause::Elsewhere(name, version));
+    }
     let providing = teller.providing(wanted.name)?;
     if !providing.is_empty() {
         return Ok(Cause::Provided(providing));
@@ -58,7 +64,8 @@ fn cause_of_unheld<'c, 'a, 'i>(
     }
 }
 
-/// Why no pair satisfies it, where none does. Memory alone can fail. Linear in the pairs and in the stanzas of the indices.
+/// Why no pair satisfies it, where none does. Memory alone can fail. Linear in the pairs and in the stanzas of the indices, and where no
+/// pair is of the name in what the stanzas provide.
 pub(crate) fn cause_of<'c, 'u: 'c, 'a, 'i>(
     teller: &Teller<'c, 'u, '_, 'a, 'i>,
     wanted: &Wanted<'_>,
@@ -69,45 +76,6 @@ pub(crate) fn cause_of<'c, 'u: 'c, 'a, 'i>(
     match teller.premises.start(wanted.name) {
         Some(start) if start.is_held() => Ok(Cause::Held(start.standing())),
         _ => cause_of_unheld(teller, wanted),
-    }
-}
-
-/// Writes that the name is held.
-pub(crate) fn push_held(
-    text: &mut Vec<u8>,
-    name: &[u8],
-    standing: Option<&Version<'_>>,
-) -> Result<(), AllocError> {
-    text.extend_from_slice(name)?;
-    match standing {
-        None => text.extend_from_slice(b" is held and not installed"),
-        Some(version) => {
-            text.extend_from_slice(b" is held at ")?;
-            text.extend_from_slice(version.text())
-        }
-    }
-}
-
-// Writes that the version isn't admitted, and what may admit it.
-fn push_unadmitted(
-    teller: &Teller<'_, '_, '_, '_, '_>,
-    text: &mut Vec<u8>,
-    name: &[u8],
-    version: &Version<'_>,
-) -> Result<(), AllocError> {
-    push_versioned(text, name, version)?;
-    text.extend_from_slice(b" is not admitted: its priority or the candidate rules it out (")?;
-    if !teller.all_versions {
-        text.extend_from_slice(b"a line all-versions, or ")?;
-    }
-    text.extend_from_slice(b"the goal install ")?;
-    text.extend_from_slice(name)?;
-    text.extend_from_slice(b" (= ")?;
-    text.extend_from_slice(version.text())?;
-    if teller.all_versions {
-        text.extend_from_slice(b") may admit it)")
-    } else {
-        text.extend_from_slice(b"), may admit it)")
     }
 }
 
@@ -149,7 +117,17 @@ pub(crate) fn push_cause(
     match cause {
         Cause::Foreign => push_about(text, b"", name, b" is asked for of another architecture"),
         Cause::Held(standing) => push_held(text, name, *standing),
-        Cause::Unadmitted(version) => push_unadmitted(teller, text, name, version),
+        Cause::Unadmitted(version) => {
+            push_versioned(text, name, version)?;
+            text.extend_from_slice(b" is not admitted: ")?;
+            push_reason(teller, text, name, version)
+        }
+        Cause::Elsewhere(provider, version) => {
+            push_about(text, b"", name, b" is provided by ")?;
+            push_versioned(text, *provider, version)?;
+            text.extend_from_slice(b", which is not admitted: ")?;
+            push_reason(teller, text, *provider, version)
+        }
         Cause::Others(numbers, providing) => {
             text.extend_from_slice(b"only ")?;
             teller.push_pairs(text, numbers.as_slice())?;

@@ -1,18 +1,20 @@
 // What goals say.
 
-use crate::causes::{Cause, cause_of, push_cause, push_held};
+use crate::causes::{Cause, cause_of, push_cause};
 use crate::offers::is_listed;
 use crate::teller::Teller;
+use crate::unadmitted::{push_held, push_highest};
 use crate::wanted::Wanted;
+use crate::words::push_versioned;
 use rules::Goal;
 use std::alloc::AllocError;
 
-// Writes that the name alone is provided, by these pairs, or what there is of it in the indices or at the start.
+// Writes that the name alone is provided, by this, or what there is of it in the indices or at the start.
 fn push_provided(
     teller: &Teller<'_, '_, '_, '_, '_>,
     text: &mut Vec<u8>,
     name: &[u8],
-    numbers: &[u32],
+    providers: &[u8],
 ) -> Result<(), AllocError> {
     if is_listed(teller, name) {
         return push_cause(teller, text, name, &Cause::Unfit);
@@ -24,7 +26,21 @@ fn push_provided(
     }
     text.extend_from_slice(name)?;
     text.extend_from_slice(b" is no package; it is provided by ")?;
-    teller.push_pairs(text, numbers)
+    text.extend_from_slice(providers)
+}
+
+// Who provides the name, where the cause is that there is no package of it.
+fn providers_in(
+    teller: &Teller<'_, '_, '_, '_, '_>,
+    cause: &Cause<'_, '_, '_>,
+) -> Result<Option<Vec<u8>>, AllocError> {
+    let mut text = Vec::new(teller.alloc());
+    match cause {
+        Cause::Provided(numbers) => teller.push_pairs(&mut text, numbers.as_slice())?,
+        Cause::Elsewhere(name, version) => push_versioned(&mut text, *name, version)?,
+        _ => return Ok(None),
+    }
+    Ok(Some(text))
 }
 
 // Whether the name is present at the start.
@@ -43,10 +59,10 @@ fn push_goal_cause(
 ) -> Result<(), AllocError> {
     text.extend_from_slice(b", but ")?;
     let cause = cause_of(teller, wanted)?;
-    match &cause {
-        // A goal asks for a package of the name itself.
-        Cause::Provided(numbers) => push_provided(teller, text, wanted.name, numbers.as_slice()),
-        _ => push_cause(teller, text, wanted.name, &cause),
+    // A goal asks for a package of the name itself.
+    match providers_in(teller, &cause)? {
+        Some(providers) => push_provided(teller, text, wanted.name, providers.as_slice()),
+        None => push_cause(teller, text, wanted.name, &cause),
     }
 }
 
@@ -75,9 +91,10 @@ fn push_without_candidate(
     text.extend_from_slice(b", but ")?;
     match teller.premises.start(name) {
         Some(start) if start.is_held() => push_held(text, name, start.standing()),
-        _ => {
+        start => {
             text.extend_from_slice(name)?;
-            text.extend_from_slice(b" has no candidate")
+            text.extend_from_slice(b" has no candidate: ")?;
+            push_highest(teller, text, name, start.and_then(|start| start.standing()))
         }
     }
 }

@@ -1,7 +1,7 @@
 // What a person is told of an accepted refutation: a core of its premises, of which none can be left out, and a sentence
 // for each of them, in an order in which each goes on from the one before. It stands on `refutecheck`, which judges each
-// core, on `search`, which finds it and is trusted with nothing, and on `explain`. The main calls are `core` and
-// `sentences`.
+// core, on `search`, which finds it and is trusted with nothing, on `explain`, and on `hints`, which has priorities. The main
+// calls are `core` and `sentences`.
 #![tactic(auto)]
 
 mod against;
@@ -12,6 +12,7 @@ mod convert;
 mod draft;
 mod given;
 mod goals;
+mod instead;
 mod lists;
 mod member;
 mod needs;
@@ -23,6 +24,7 @@ mod starts;
 mod table;
 mod tell;
 mod teller;
+mod unadmitted;
 mod wanted;
 mod words;
 

@@ -15,6 +15,33 @@ fn has_item(items: &[Provided<'_>], name: &[u8]) -> bool {
         .any(|item| !item.is_foreign() && item.name() == name)
 }
 
+// Whether an item provides what is wanted.
+fn has_wanted(items: &[Provided<'_>], wanted: &Wanted<'_>) -> bool {
+    items.iter().any(|item| {
+        !item.is_foreign()
+            && item.name() == wanted.name
+            && wanted.is_met_as_provided(item.version())
+    })
+}
+
+// The name and the version of the stanza, unless those before are of another name or not lower.
+fn first_in<'i>(
+    entry: &IndexEntry<'i>,
+    before: Option<(&'i [u8], Version<'i>)>,
+) -> Option<(&'i [u8], Version<'i>)> {
+    let version = entry.version();
+    match before {
+        None => Some((entry.name(), version)),
+        Some((name, highest)) => {
+            if name == entry.name() && highest < version {
+                Some((name, version))
+            } else {
+                Some((name, highest))
+            }
+        }
+    }
+}
+
 // The version of the stanza, if it is of the name, meets the restriction, and isn't lower than the one before.
 fn higher_in<'i>(
     entry: &IndexEntry<'i>,
@@ -89,6 +116,53 @@ impl<'k, 'u, 'p, 'a, 'i> Teller<'k, 'u, 'p, 'a, 'i> {
             }
         }
         Ok(numbers)
+    }
+
+    // Whether the pair of the stanza is admitted.
+    fn is_admitted(&self, entry: &IndexEntry<'_>) -> bool {
+        self.universe
+            .number_of(entry.name(), &entry.version())
+            .is_some()
+    }
+
+    // Whether the stanza provides what is wanted, and its pair isn't admitted.
+    fn is_elsewhere(
+        &self,
+        entry: &IndexEntry<'_>,
+        wanted: &Wanted<'_>,
+    ) -> Result<bool, AllocError> {
+        let items = entry.provides(self.alloc())?;
+        Ok(has_wanted(items.as_slice(), wanted) && !self.is_admitted(entry))
+    }
+
+    /// The first package in the indices that provides what is wanted, in its highest version that does and isn't admitted. Memory
+    /// alone can fail. Linear in the stanzas and in what they provide.
+    pub(crate) fn elsewhere(
+        &self,
+        wanted: &Wanted<'_>,
+    ) -> Result<Option<(&'i [u8], Version<'i>)>, AllocError> {
+        let mut first = None;
+        for index in self.indices {
+            for entry in index.packages() {
+                if self.is_elsewhere(entry, wanted)? {
+                    first = first_in(entry, first);
+                }
+            }
+        }
+        Ok(first)
+    }
+
+    /// The highest version in the indices that is of the name, meets the restriction and isn't admitted. Linear in the stanzas.
+    pub(crate) fn highest_left_out(&self, wanted: &Wanted<'_>) -> Option<Version<'i>> {
+        let mut highest = None;
+        for index in self.indices {
+            for entry in index.packages() {
+                if entry.name() == wanted.name && !self.is_admitted(entry) {
+                    highest = higher_in(entry, wanted, highest);
+                }
+            }
+        }
+        highest
     }
 
     /// The highest version in the indices that is of the name and meets the restriction. Linear in the stanzas.

@@ -2,11 +2,13 @@
 
 use crate::basis::{Basis, bases_of};
 use crate::closing::push_closing;
+use crate::instead::tell_instead;
 use crate::order::order_of;
 use crate::sentence::sentence_of;
 use crate::teller::Teller;
 use index::Index;
 use indexmap::IndexSet;
+use pins::Prefs;
 use refutation::Refutation;
 use refutecheck::Premises;
 use std::alloc::{AllocError, Global};
@@ -37,12 +39,15 @@ fn text_of(alloc: Global, lines: &[Vec<u8>], all_versions: bool) -> Result<Vec<u
 }
 
 /// A sentence for each premise of the refutation over the universe of these premises, one a line and none twice, in an order in
-/// which each names what those before have named, and a line that says what they are about. The indices say which versions there are
-/// that aren't admitted. Its words aren't promised. It costs what the clauses of the premises cost, is quadratic in the premises, and
-/// linear in the pairs and the stanzas for each name that no pair satisfies. Memory alone can fail.
+/// which each names what those before have named, behind them one for each version that would do for a dependency and isn't admitted, where
+/// something speaks against the one that can satisfy it, and a line that says what they are about. The indices say which versions there are
+/// that aren't admitted, and the preferences why. Its words aren't promised. It costs what the clauses of the premises cost, is quadratic
+/// in the premises, and linear in the pairs, in the stanzas with what they provide and in the preferences for each name that no pair
+/// satisfies. Memory alone can fail.
 pub fn sentences(
     premises: &Premises<'_, '_, '_>,
     indices: &[Index<'_>],
+    prefs: &Prefs,
     refutation: &Refutation,
     all_versions: bool,
 ) -> Result<Vec<u8>, AllocError> {
@@ -53,8 +58,10 @@ pub fn sentences(
         premises,
         universe,
         indices,
+        prefs,
         all_versions,
     };
-    let lines = told(&teller, bases.as_slice(), places.as_slice())?;
+    let mut lines = told(&teller, bases.as_slice(), places.as_slice())?;
+    tell_instead(&teller, &mut lines, bases.as_slice())?;
     text_of(premises.alloc(), lines.as_slice(), all_versions)
 }

@@ -2,16 +2,18 @@
 
 use crate::words::push_pair;
 use index::Index;
+use pins::Prefs;
 use refutecheck::Premises;
 use std::alloc::{AllocError, Global};
 use universe::Universe;
 
-/// The premises of a universe, its indices, and whether all versions were asked for.
+/// The premises of a universe, its indices and preferences, and whether all versions were asked for.
 #[derive(Drop)]
 pub(crate) struct Teller<'k, 'u, 'p, 'a, 'i> {
     pub(crate) premises: &'k Premises<'u, 'p, 'a>,
     pub(crate) universe: &'u Universe<'p, 'a>,
     pub(crate) indices: &'k [Index<'i>],
+    pub(crate) prefs: &'k Prefs,
     pub(crate) all_versions: bool,
 }
 

@@ -54,6 +54,15 @@ impl<'q> Wanted<'q> {
         }
     }
 
+    /// Whether the version in which a name is provided, if it has one, meets the restriction, if there is one (Policy 7.5).
+    pub(crate) fn is_met_as_provided(&self, version: Option<&Version<'_>>) -> bool {
+        match (&self.restriction, version) {
+            (None, _) => true,
+            (Some(_), None) => false,
+            (Some((op, bound)), Some(version)) => version.satisfies(*op, bound),
+        }
+    }
+
     /// Writes the name and the restriction: `foo (>= 2)`.
     pub(crate) fn push_to(&self, text: &mut Vec<u8>) -> Result<(), AllocError> {
         text.extend_from_slice(self.name)?;

@@ -11,6 +11,12 @@ pub(crate) fn push_count(text: &mut Vec<u8>, count: usize) -> Result<(), AllocEr
     text.extend_from_slice(buffer.format(count).as_bytes())
 }
 
+/// Writes the priority.
+pub(crate) fn push_priority(text: &mut Vec<u8>, priority: i32) -> Result<(), AllocError> {
+    let mut buffer = Buffer::new();
+    text.extend_from_slice(buffer.format(priority).as_bytes())
+}
+
 /// Writes a name and a version: `foo 1.0`.
 pub(crate) fn push_versioned(
     text: &mut Vec<u8>,

@@ -184,6 +184,7 @@ fn candidates(
     let names = ["bar", "baz"];
     let question = Candidates {
         names: names.as_slice(),
+        tells_versions: false,
     };
     let mut notes = Notes::new(alloc);
     ask_bytes(alloc, inputs, None, &SETTINGS, &question, &mut notes)

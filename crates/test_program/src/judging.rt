@@ -224,6 +224,7 @@ fn answer_of_foo(alloc: Global) -> Result<Result<Items<Option<Candidate>>, Refus
     };
     let question = Candidates {
         names: NAMES.as_slice(),
+        tells_versions: false,
     };
     let mut notes = Notes::new(alloc);
     Ok(ask_files(alloc, &mut shelf, &SETTINGS, &question, &mut notes))

@@ -5,6 +5,7 @@ use Rattle.cli.proofs.LeavingLemmas.{none_left, nothing_left}
 use Rattle.cli.proofs.program.outcome_of_call.Goals as goal
 use Rattle.cli.specs.Calls.{IsOutcomeOfLines, IsOutcomeOfNames, IsOutcomeOfPlanJudged, texts_at}
 use Rattle.cli.specs.Applied.{IsOutcomeOfPlanTaken}
+use Rattle.cli.specs.Files.{judged_at}
 use Rattle.cli.specs.Leaving.{IsLeftOfAsked, IsLeftOfExtent, IsLeftOfPlanTaken, IsLeftWith}
 use Rattle.cli.specs.Packages.{IsLeftOfPackages, IsOutcomeOfPackages}
 use Rattle.cli.specs.Places.{paths_for, paths_read, texts_for}
@@ -25,14 +26,14 @@ returns-in-Candidate-clause-printed g c at known =
 pub returns-in-CheckPlan-clause-printed : goal.returns-in-CheckPlan-clause-printed
 returns-in-CheckPlan-clause-printed g c at known =
     let made = c.arguments_by-arguments-in-CheckPlan in
-    rw c.in-CheckPlan.is (exchanged (λ texts plan written. IfOk c.outcome_of_plan_judged.result (IsOutcomeOfPlanJudged texts (at plan) written)) _ _ _ _ _ _
+    rw c.in-CheckPlan.is (exchanged (λ texts plan written. IfOk c.outcome_of_plan_judged.result (IsOutcomeOfPlanJudged texts (judged_at at plan) written)) _ _ _ _ _ _
     (made.ensures.texts at (request_by c.in-CheckPlan.request) (c.place_of-place-in-CheckPlan.ensures.text at)) made.ensures.judged made.ensures.format
     (c.outcome_of_plan_judged.ensures.printed at known))
 
 pub returns-in-CheckRefutation-clause-printed : goal.returns-in-CheckRefutation-clause-printed
 returns-in-CheckRefutation-clause-printed g c at known =
     let made = c.arguments_by-arguments-in-CheckRefutation in
-    rw c.in-CheckRefutation.is (exchanged (λ texts lines written. IfOk c.outcome_of_lines.result (IsOutcomeOfLines texts (at lines) written)) _ _ _ _ _ _
+    rw c.in-CheckRefutation.is (exchanged (λ texts lines written. IfOk c.outcome_of_lines.result (IsOutcomeOfLines texts (judged_at at lines) written)) _ _ _ _ _ _
     (made.ensures.texts at (request_by c.in-CheckRefutation.request) (c.place_of-place-in-CheckRefutation.ensures.text at)) made.ensures.judged made.ensures.format
     (c.outcome_of_lines.ensures.printed at known))
 
@@ -46,7 +47,7 @@ returns-in-Installable-clause-printed g c at known =
 pub returns-clause-printed : goal.returns-clause-printed
 returns-clause-printed g c at known =
     let made = c.arguments_by-arguments-in-Apply in
-    rw c.in-Apply.is (exchanged (λ texts plan written. IfOk c.outcome_of_applied.result (IsOutcomeOfPlanTaken texts (at plan))) _ _ _ _ _ _
+    rw c.in-Apply.is (exchanged (λ texts plan written. IfOk c.outcome_of_applied.result (IsOutcomeOfPlanTaken texts (judged_at at plan))) _ _ _ _ _ _
     (made.ensures.texts at (request_by c.in-Apply.request) (c.place_of-place-in-Apply.ensures.text at)) made.ensures.judged made.ensures.format
     (c.outcome_of_applied.ensures.printed at known))
 
@@ -108,9 +109,9 @@ returns-clause-left g c at was f k =
     let kept = g.H.Host.kept c.outcome_of_applied.new.host in
     let read = paths_for (given_by c.in-Apply.options) request c.in-Apply.plan.now in
     let texts = texts_at at made.result in
-    let plan = at made.result.paths.judged.now in
+    let plan = judged_at at made.result.paths.judged.now in
     let paths = paths_read made.result.paths in
-    rw c.in-Apply.is (exchanged (λ texts plan written. IsLeftWith (IsLeftOfPlanTaken honest facts texts (at plan) read journal output at was) at was r files kept)
+    rw c.in-Apply.is (exchanged (λ texts plan written. IsLeftWith (IsLeftOfPlanTaken honest facts texts (judged_at at plan) read journal output at was) at was r files kept)
     _ _ _ _ _ _ (made.ensures.texts at request (place.ensures.text at)) made.ensures.judged made.ensures.format
     (subst (λ (others : List Text). IsLeftWith (IsLeftOfPlanTaken honest facts texts plan others journal output at was) at was r files kept)
     (made.ensures.read request place.ensures.path)

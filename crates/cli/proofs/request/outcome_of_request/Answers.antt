@@ -3,10 +3,21 @@ use Rattle.cli.proofs.ResultLemmas.{if_ok}
 use Rattle.cli.proofs.request.outcome_of_request.Goals as goal
 use Rattle.cli.specs.Calls.{IsOutcomeOfRequest, texts_at}
 use Rattle.outcomes.specs.Outcome.{IsOutcomeIn}
+use Rattle.serde_json.specs.View.{members_view}
 
 pub returns-clause-printed : goal.returns-clause-printed
 returns-clause-printed g c at known =
     let texts = texts_at at c.args.arguments.now in
     let written = c.args.arguments.now.format in
-    if_ok c.outcome_in.result (IsOutcomeIn written c.in_ok-plain.plain) (IsOutcomeOfRequest texts c.args.limit c.args.names_pairs written)
-    (λ found is. (c.ask_files-answer.result, c.in_ok-plain.plain, c.ask_files-answer.ensures.said at known, c.in_ok-plain.ensures, is)) c.outcome_in.ensures
+    let members = members_view c.in_ok-members.members.map.entries in
+    if_ok c.outcome_in.result (IsOutcomeIn written members c.in_ok-plain.plain) (IsOutcomeOfRequest texts c.args.limit c.args.names_pairs written)
+    (λ found is. (
+      c.ask_files-answer.result,
+      c.in_ok-plain.plain,
+      members,
+      c.ask_files-answer.ensures.said at known,
+      c.in_ok-plain.ensures,
+      c.in_ok-members.ensures.members,
+      is,
+    ))
+    c.outcome_in.ensures
