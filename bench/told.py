@@ -33,6 +33,7 @@ FIELDS = {"depends on": "Depends", "pre-depends on": "Pre-Depends", "conflicts w
 REST = r"(?: \(that is (?P<one>[^)]*)\)|, which only (?P<some>.*) can satisfy|, but (?P<causes>.*))?"
 NEED = re.compile(rf"{PAIR} (depends on|pre-depends on) (.+?){REST}\.")
 AGAINST = re.compile(rf"{PAIR} (conflicts with|breaks) {PAIR}(?:, which provides (\S+))?\.")
+INSTEAD = re.compile(rf"{PAIR} would do for (.+?) too, and is not admitted: .*\.")
 GOAL = re.compile(rf"You ask for (.+?){REST}\.")
 PLAIN = re.compile(r"(?:You ask to (?:upgrade|remove|purge) (\S+).*|(\S+) is essential and may not be removed\."
                    rf"|You ask that nothing is removed, and (\S+) is installed\.|{PAIR} is held\.|upgrade-all asks for {PAIR}\."
@@ -147,7 +148,7 @@ def cause_faults(world, universe, cause):
         yield from list_faults(only[1], {pair[:2] for pair in universe.by_name[name]})
     elif provided := re.fullmatch(r"only (.*) provides (\S+), without the version that is asked for", cause):
         yield from list_faults(provided[1], {pair[:2] for pair in universe.providers()[provided[2]]})
-    elif ruled := re.match(rf"{PAIR} is not admitted", cause):
+    elif ruled := re.match(rf"(?:\S+ is provided by )?{PAIR}(?:, which)? is not admitted: ", cause):
         key = common.version_key(ruled[2])
         if key not in world.stanzas[ruled[1]] or key in {common.version_key(pair.version) for pair in universe.by_name[ruled[1]]}:
             yield f"{cause}: it isn't so"
@@ -161,7 +162,7 @@ def rest_faults(world, universe, sentence, wanted):
     if parts["causes"]:
         if wanted:
             yield f"none is told, and {sorted(wanted)} meet it"
-        for cause in re.split(r", and (?=there|only|no index|\S+ \S+ is|\S+ is)", parts["causes"]):
+        for cause in re.split(r", and (?!the candidate is|it is lower than)(?=there|only|no index|\S+ \S+ is|\S+ is)", parts["causes"]):
             yield from cause_faults(world, universe, cause)
     else:
         yield from list_faults(parts["one"] or parts["some"] or "", wanted)
@@ -190,6 +191,15 @@ def against_faults(universe, against):
         yield f"{name} {version} has no such {FIELDS[verb]}"
 
 
+def instead_faults(world, universe, instead):
+    name, version, wanted = instead.groups()
+    key, atom = common.version_key(version), common.clauses_of(wanted)[0][0]
+    if key not in world.stanzas[name] or key in {common.version_key(pair.version) for pair in universe.by_name[name]}:
+        yield f"{name} {version} is admitted, or in no index"
+    elif atom.name != name or not common.meets(version, atom):
+        yield f"{name} {version} wouldn't do for {wanted}"
+
+
 def goal_faults(world, universe, goal):
     atom = common.clauses_of(goal[1])[0][0]
     wanted = {pair[:2] for pair in universe.by_name[atom.name] if common.meets(pair.version, atom)}
@@ -202,6 +212,8 @@ def sentence_faults(world, universe, sentence):
         return need_faults(world, universe, need)
     if against := AGAINST.fullmatch(sentence):
         return against_faults(universe, against)
+    if instead := INSTEAD.fullmatch(sentence):
+        return instead_faults(world, universe, instead)
     if goal := GOAL.fullmatch(sentence):
         return goal_faults(world, universe, goal)
     return [] if PLAIN.fullmatch(sentence) or sentence.startswith(CLOSING) else ["no such sentence is known"]

@@ -7,6 +7,7 @@ import argparse
 import collections
 import functools
 import hashlib
+import json
 import os
 import pathlib
 import re
@@ -16,6 +17,8 @@ import sys
 import tempfile
 
 TOP = pathlib.Path(__file__).resolve().parent.parent
+# Where the module of Python stands in a repository; the Debian package has it among those of python3.
+sys.path.insert(1, str(TOP / "python"))
 RELATIONS = ("Pre-Depends", "Depends", "Conflicts", "Breaks", "Provides")
 # The states in which triggers are left to be processed (deb-triggers(5)), of what waits to be configured, and of what is there.
 TRIGGERED = ("triggers-awaited", "triggers-pending")
@@ -23,6 +26,10 @@ UNCONFIGURED = ("unpacked", "half-configured", *TRIGGERED)
 PRESENT = ("half-installed", *UNCONFIGURED, "installed")
 # The file that says which pins of the machine aren't in a folder of inputs, and the exit status where that wasn't accepted.
 LEFT_OUT, WITHOUT_PINS = "pins-left-out", 6
+# The file that says which pins match nothing in the lists, and what stands behind one of which that was so before.
+UNMATCHED_PINS, AS_BEFORE = "pins-unmatched", " (as before)"
+# How collect-inputs begins a line on such pins.
+TOLD_LEFT_OUT, TOLD_UNMATCHED = "preferences: left out: ", "preferences: matches nothing in the lists: "
 # apt's program that downloads and that reads its lists.
 HELPER = "/usr/lib/apt/apt-helper"
 # A sentence of the program on an input that changes no answer: a record of the preferences, or an index.
@@ -329,11 +336,24 @@ def explains(command):
     return "--explain" in run.stdout
 
 
+def document_of(run):
+    """The document that a call of the program with --format json printed, without the sentences on an input that changes no answer;
+    None where it printed nothing."""
+    if not run.stdout:
+        return None
+    try:
+        document = json.loads(run.stdout)
+    except ValueError:
+        raise Failure(f"{program()} ended with the status {run.returncode} in the middle of its answer") from None
+    document["reasons"] = [it for it in document["reasons"] if not UNMATCHED.fullmatch(f"{it}\n")]
+    return document
+
+
 class Inputs:
     """A folder of inputs."""
 
     def __init__(self, folder, arch=None, target=None, needed=("status", "sources")):
-        self.folder, self.target = pathlib.Path(folder), target
+        self.folder, self.target, self.other_pins = pathlib.Path(folder), target, []
         missing = [name for name in needed if not (self.folder / name).is_file()]
         if missing:
             written = f": collect-inputs {folder} writes it" if missing[0] in ("status", "sources") else ""
@@ -357,6 +377,11 @@ class Inputs:
             for fields in stanzas_in(path):
                 if fields.get("Architecture") in ("all", self.arch) and "Package" in fields and "Version" in fields:
                     yield fields
+
+    def of_index_named(self, name):
+        """Yields those of one name."""
+        for path in self.indices():
+            yield from (fields for fields in stanzas_named(path, {name}) if fields.get("Architecture") in ("all", self.arch))
 
     def located(self, wanted):
         """Of each of these pairs of a name and a version the first stanza in the indices, and the stanza of the sources file that
@@ -382,17 +407,17 @@ class Inputs:
         """Of each of these pairs of a name and a version the first stanza in the indices."""
         return {pair: fields for pair, (fields, _) in self.located(wanted).items()}
 
-    def asks(self, command, *words, status="status", request="request"):
-        """Runs the program on the folder, in it, and returns how it ended. Where it can explain an answer it does, on standard
-        error. What it says there of records that match nothing and of indices that add nothing is left out: the numbers are of files
-        that were written, and of pins collect-inputs says it."""
+    def asks(self, command, *words, status="status", request="request", text=None):
+        """Runs the program on the folder, in it, and returns how it ended. With a text, which is a request, it is asked about that one
+        and no file. Where it can explain an answer it does, on standard error. What it says there of records that match nothing and of
+        indices that add nothing is left out: the numbers are of files that were written, and of pins collect-inputs says it."""
         options = ["--explain"] if explains(command) else []
         options += ["--arch", self.arch, "--status", str(status), "--sources", "sources"]
         options += ["--preferences", "preferences"] if self.path("preferences").is_file() else []
         options += ["--target", self.target] if self.target else []
-        options += ["--request", request] if request else []
-        run = subprocess.run([program(), command, *options, *words], cwd=self.folder, stdin=subprocess.DEVNULL,
-                             stdout=subprocess.PIPE, stderr=subprocess.PIPE, encoding="utf-8", errors="surrogateescape", check=False)
+        options += ["--request", request if text is None else "-"] if request else []
+        run = subprocess.run([program(), command, *options, *words], cwd=self.folder, input=text or "", stdout=subprocess.PIPE,
+                             stderr=subprocess.PIPE, encoding="utf-8", errors="surrogateescape", check=False)
         run.stderr = UNMATCHED.sub("", run.stderr)
         return run
 
@@ -406,13 +431,14 @@ class Inputs:
         return {it[0]: it[1] for it in words if len(it) == 3}
 
     def pins_on(self, name):
-        """The records of the preferences that name a package, each as the place of the pin that it was made of, and what it says."""
-        path, found = self.path("preferences"), []
+        """The records of the preferences that name a package, each as the place of the pin that it was made of, and what it says; where
+        none does, those for all packages."""
+        path, found = self.path("preferences"), {name: [], "*": []}
         for fields in stanzas_in(path) if path.is_file() else ():
-            if name in fields.get("Package", "").split():
-                place = fields.get("Explanation") or str(path)
-                found.append(f"{place}: {' '.join(fields.get('Pin', '').split())}, {fields.get('Pin-Priority')}")
-        return list(dict.fromkeys(found))
+            place = fields.get("Explanation") or str(path)
+            for named in {name, "*"} & set(fields.get("Package", "").split()):
+                found[named].append(f"{place}: {' '.join(fields.get('Pin', '').split())}, {fields.get('Pin-Priority')}")
+        return list(dict.fromkeys(found[name] or found["*"]))
 
     def pins_against(self, run, plan="plan"):
         """Of a plan that check-plan found to unpack what isn't admitted the lines that name the pins of that package."""
@@ -420,7 +446,7 @@ class Inputs:
         if not found:
             return []
         name = self.steps(plan)[int(found.group(1)) - 1][1]
-        return [f"a pin names {name}: {pin}" for pin in self.pins_on(name)]
+        return [f"a pin is about {name}: {pin}" for pin in self.pins_on(name)]
 
     def verdict(self, run, plan="plan"):
         """What check-plan says of a plan: yes, or a no with what stands against it."""
@@ -430,7 +456,7 @@ class Inputs:
     def pins_left_out(self):
         """The pins of the machine that aren't among the preferences of the folder, each with the reason."""
         path = self.path(LEFT_OUT)
-        return path.read_text(encoding="utf-8", errors="replace").splitlines() if path.is_file() else []
+        return [*self.other_pins, *(path.read_text(encoding="utf-8", errors="replace").splitlines() if path.is_file() else [])]
 
     def lacks_pins(self, is_accepted):
         """Whether pins of the machine are left out and that isn't accepted. Where some are, that is said in a line."""
@@ -440,6 +466,15 @@ class Inputs:
             more = f", and {len(left_out) - 1} more, in {self.path(LEFT_OUT)}" if len(left_out) > 1 else ""
             print(f"{tool_name()}: a pin of the machine is left out{how}: {left_out[0]}{more}", file=sys.stderr)
         return bool(left_out) and not is_accepted
+
+    def tell_unmatched_pins(self):
+        """Says in a line which pins match nothing in the lists, but for those of which that was so before."""
+        path = self.path(UNMATCHED_PINS)
+        lines = path.read_text(encoding="utf-8", errors="replace").splitlines() if path.is_file() else []
+        found = [line for line in lines if not line.endswith(AS_BEFORE)]
+        if found:
+            more = f", and {len(found) - 1} more, in {path}" if len(found) > 1 else ""
+            print(f"{tool_name()}: a pin matches nothing in the lists: {found[0]}{more}", file=sys.stderr)
 
     def steps(self, name="plan"):
         """The steps of a plan of the folder, each as its words."""

@@ -15,9 +15,9 @@ GONE = re.compile(r"^E: Failed to fetch (\S+) +(?:404|410|File not found)", re.M
 SNAPSHOTS = {"Debian": "debian", "Debian Backports": "debian", "Debian-Security": "debian-security"}
 
 
-def uri_of(fields, keys):
-    """The URI of the file of a package: that of its archive, as the sources file has it, with the file's name; or None."""
-    uri, name = keys.get("URI", ""), fields.get("Filename")
+def uri_of(fields, keys, field="URI"):
+    """The URI of the file of a package: that of its archive, as this field of the sources file has it, with the file's name; or None."""
+    uri, name = keys.get(field, ""), fields.get("Filename")
     return uri.rstrip("/") + "/" + name.removeprefix("./") if name and uri.partition(":")[0] in SCHEMES else None
 
 
@@ -70,31 +70,41 @@ class Debs:
             self.get_by_uri(by_uri[first:first + 200])
             self.get_by_apt(by_apt[first:first + 200])
 
-    def get_by_uri(self, pairs):
-        """Gets the files of these packages from where the sources say that they are, each with the SHA256 of its stanza."""
-        if not pairs:
-            return
+    def fetch(self, pairs, field):
+        """Gets the files of these packages from where this field of the sources says that they are, each with the SHA256 of its stanza."""
         words = [common.HELPER, "download-file", "-o", "APT::Sandbox::User=root"]
         for pair in pairs:
-            words += [self.uri(pair), str(self.folder / self.names(pair)[0])]
+            words += [uri_of(self.offered[pair], self.keys[pair], field), str(self.folder / self.names(pair)[0])]
             words += [f"SHA256:{self.offered[pair]['SHA256']}"] if "SHA256" in self.offered[pair] else []
-        run = common.run_of(words)
-        if run.returncode:
-            self.tell_gone(run.stderr)
-            # an archive that asks for a password has it in apt's sources, and not in those of the folder
-            self.get_by_apt([pair for pair in pairs if self.file(pair) is None], f"\n{common.last_words(run)}")
+        return common.run_of(words)
 
-    def tell_gone(self, said):
-        """Ends where an archive doesn't have a file any more, and says of which day its index is and where the file may still be."""
-        gone = [uri for uri in GONE.findall(said)]
-        pair = next((it for it in self.offered if self.uri(it) in gone), None)
-        if pair is None:
-            return
-        keys, snapshot = self.keys[pair], snapshot_of(self.keys[pair])
-        lines = [f"{keys['URI']} doesn't have the file of {' '.join(pair)} any more, and {len(gone)} are missing in all: the archive has "
-                 f"moved on since the index was made{', ' + keys['Date'] if 'Date' in keys else ''}"]
-        lines += [f"with `URI: {snapshot}` in the sources file of the folder they are asked for there"] if snapshot else []
-        raise Failure("\n".join(lines))
+    def get_by_uri(self, pairs):
+        """Gets the files of these packages from their archives, what these don't have any more from the snapshots, and the rest by apt."""
+        run = self.fetch(pairs, "URI") if pairs else None
+        if run and run.returncode:
+            gone, missing = GONE.findall(run.stderr), [pair for pair in pairs if self.file(pair) is None]
+            self.get_old([pair for pair in missing if self.uri(pair) in gone])
+            # an archive that asks for a password has it in apt's sources, and not in those of the folder
+            self.get_by_apt([pair for pair in missing if self.uri(pair) not in gone], f"\n{common.last_words(run)}")
+
+    def get_old(self, pairs):
+        """Gets what the archives don't have any more from the snapshots that the sources name, and says so."""
+        lost = next((pair for pair in pairs if not uri_of(self.offered[pair], self.keys[pair], "Snapshot")), None)
+        if lost:
+            raise Failure(self.told_gone(lost, len(pairs)))
+        for place in sorted({self.keys[pair]["Snapshot"] for pair in pairs}):
+            some = [pair for pair in pairs if self.keys[pair]["Snapshot"] == place]
+            print(f"{self.keys[some[0]]['URI']} has moved on: {len(some)} files are got from {place}", flush=True)
+            run = self.fetch(some, "Snapshot")
+            if run.returncode:
+                raise Failure(f"{place} doesn't have all of them:\n{common.last_words(run)}")
+
+    def told_gone(self, pair, count):
+        """That an archive doesn't have the file of a package any more, of which day its index is, and where the file may still be."""
+        keys, snapshot = self.keys[pair], snapshot_of(self.keys[pair]) or "URI"
+        return (f"{keys['URI']} doesn't have the file of {' '.join(pair)} any more, and {count} are missing in all: the archive has moved on "
+                f"since the index was made{', ' + keys['Date'] if 'Date' in keys else ''}\n"
+                f"with `Snapshot: {snapshot}` below that URI in the sources file or the lock file they are asked for there")
 
     def get_by_apt(self, pairs, why=""):
         """Gets the files of these packages by `apt-get download`; why they couldn't be had otherwise is told where that fails too."""

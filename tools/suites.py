@@ -4,24 +4,40 @@ becomes a goal `install NAME (= VERSION)`, which admits this version."""
 import common
 from common import Failure
 
-# By what an index is named as one of a release.
+# By what an index is named as one of a release, and by what debplan knows it as one of the target release (docs/FORMATS.md, section 7).
 NAMES = ("Archive", "Suite", "Codename", "Distribution", "Version")
+TARGETS = ("Archive", "Suite", "Codename", "Version")
 
 
-def is_of(keys, suite):
+def is_of(keys, suite, names=NAMES):
     """Whether an index is of this release."""
-    return any(keys.get(name) == suite for name in NAMES)
+    return any(keys.get(name) == suite for name in names)
 
 
-def suites_of(inputs):
-    """The releases that the indices are of, each by its codename or else its suite."""
-    return list(dict.fromkeys(keys.get("Codename") or keys.get("Suite") or keys.get("Distribution", "") for keys in inputs.sources()))
+def name_of(keys):
+    """What an index is of: its codename, or else its suite or what apt's sources ask for; None where that isn't known."""
+    return keys.get("Codename") or keys.get("Suite") or keys.get("Distribution")
 
 
-def check_suite(inputs, suite):
+def check_suite(inputs, suite, names=NAMES):
     """Ends where no index is of this release."""
-    if not any(is_of(keys, suite) for keys in inputs.sources()):
-        raise Failure(f"no list of apt is of the release {suite}; there are {', '.join(filter(None, suites_of(inputs))) or 'none'}", 64)
+    if not any(is_of(keys, suite, names) for keys in inputs.sources()):
+        known = dict.fromkeys(filter(None, map(name_of, inputs.sources())))
+        raise Failure(f"no list of apt is of the release {suite}; there are {', '.join(known) or 'none'}", 64)
+
+
+def check_target(inputs, target):
+    """Ends where no index is of the target release, as debplan knows it."""
+    check_suite(inputs, target, TARGETS)
+
+
+def set_default_target(inputs, machine):
+    """Has the release preferred that apt's settings prefer. Where that isn't the name of a release, it counts as a pin left out."""
+    target = machine.setting("APT::Default-Release")
+    if target and any(is_of(keys, target, TARGETS) for keys in inputs.sources()):
+        inputs.target = target
+    elif target:
+        inputs.other_pins.append(f"apt's setting APT::Default-Release: '{target}' is the suite, codename or version of no list")
 
 
 class Suite:

@@ -1,0 +1,294 @@
+"""What the new packages of a plan recommend (Policy 7.2), as goals of its request. A goal is kept only where the program finds a plan
+of the request with it that removes nothing more and still installs what was found, and so on with what came in. Decided here is what
+is asked for next and whether a plan keeps what another one has; each plan is the program's, for the request that belongs to it."""
+import collections
+import functools
+import re
+
+import changes
+import common
+import exchange
+from common import Failure
+
+PRIORITIES = ("required", "important", "standard", "optional", "extra")
+REFUSED = re.compile(r"request: E1[67] \w+ (\d+)")
+CLOSING = "This is about "
+# The field Provides of a stanza, and the name of each of its items.
+PROVIDES = re.compile(rb"^Provides:(.*(?:\n[ \t].*)*)", re.MULTILINE)
+PROVIDED = re.compile(rb"(?:^|,)\s*([A-Za-z0-9][A-Za-z0-9+.-]*)")
+# What may be asked for so that a clause is met: a name, lines of a request with it, and the stanza that is hoped for.
+Choice = collections.namedtuple("Choice", "name lines fields")
+# What a request with some wishes comes to: that plan with its end, which keeps what was found; or why there is none, which wishes are
+# to blame, and whether that is so of these alone, without the others.
+Verdict = collections.namedtuple("Verdict", "why blamed is_alone request document end", defaults=(False, None, None, None))
+
+
+# What there is
+
+
+class Archive:
+    """The stanzas of the indices by the name of their package. The indices are read once."""
+
+    def __init__(self, inputs):
+        self.arch, self.texts, self.known = inputs.arch, collections.defaultdict(list), {}
+        for path in inputs.indices():
+            for text in exchange.SEPARATOR.split(path.read_bytes()):
+                self.texts[common.name_in(text)].append(text)
+
+    def of(self, name):
+        """The stanzas of a name that count for the architecture, in their order."""
+        if name not in self.known:
+            found = map(common.fields_of, self.texts.get(name.encode("utf-8", "surrogateescape"), ()))
+            self.known[name] = [it for it in found if it.get("Architecture") in ("all", self.arch) and "Version" in it]
+        return self.known[name]
+
+    def stanza(self, name, version):
+        """The stanza that is unpacked of a version."""
+        key = common.version_key(version)
+        return next(it for it in self.of(name) if common.version_key(it["Version"]) == key)
+
+    @functools.cached_property
+    def providers(self):
+        """The names of the packages that provide a name in some version, by that name."""
+        found = collections.defaultdict(set)
+        for package, texts in self.texts.items():
+            for value in (it for text in texts if b"\nProvides:" in text for it in PROVIDES.findall(text)):
+                for name in PROVIDED.findall(value):
+                    found[name.decode("ascii")].add(package.decode("utf-8", "surrogateescape"))
+        return found
+
+    def fitting(self, name, atom):
+        """The highest version of a name that matches an atom, as its stanza, or None."""
+        found = [it for it in self.of(name) if common.matches(it, atom, self.arch)]
+        return max(found, key=lambda it: common.version_key(it["Version"]), default=None)
+
+    def choices(self, atom):
+        """What may be asked for so that an atom is met: the package of its name, and then those that provide it, by priority and name."""
+        if any(common.meets(it["Version"], atom) for it in self.of(atom.name)) and self.fitting(atom.name, atom):
+            yield Choice(atom.name, lines_for(atom), self.fitting(atom.name, atom))
+        found = [(name, self.fitting(name, atom)) for name in self.providers.get(atom.name, ()) if name != atom.name]
+        for name, fields in sorted((it for it in found if it[1]), key=lambda it: (priority_of(it[1]), it[0])):
+            yield Choice(name, (f"install {name}",), fields)
+
+
+def priority_of(fields):
+    """The place of the Priority of a package among all (Policy 2.5)."""
+    return PRIORITIES.index(fields["Priority"]) if fields.get("Priority") in PRIORITIES else len(PRIORITIES)
+
+
+def lines_for(atom):
+    """The lines of a request that ask for the package of an atom. A goal with = would admit its version, also against a pin, so such a
+    restriction is asked for by two others."""
+    operators = (">=", "<=") if atom.operator == "=" else (atom.operator,)
+    return tuple(f"install {atom.name}" + (f" ({operator} {atom.version})" if operator else "") for operator in operators)
+
+
+class Having:
+    """Packages, by the names that they have or provide."""
+
+    def __init__(self, arch, stanzas=()):
+        self.arch, self.named = arch, collections.defaultdict(list)
+        for fields in stanzas:
+            self.add(fields)
+
+    def add(self, fields):
+        for name in dict.fromkeys(common.names_of(fields)):
+            self.named[name].append(fields)
+
+    def meets(self, clause, without=None):
+        """Whether one of the packages meets a clause, and not only the one of the name that is left out."""
+        return any(fields["Package"] != without and common.matches(fields, atom, self.arch)
+                   for atom in clause for fields in self.named.get(atom.name, ()))
+
+
+class End:
+    """What a plan changes, and what it leaves installed."""
+
+    def __init__(self, archive, before, document):
+        steps = [line.split(" ") for line in document["text"].splitlines()[1:] if not line.startswith("end ")]
+        self.changes = changes.Changes(before, steps)
+        changed = {*self.changes.unpacked, *(it.name for it in self.changes.removed)}
+        staying = [fields for name, fields in before.records.items() if before.version(name) and name not in changed]
+        unpacked = [archive.stanza(*pair) for pair in self.changes.unpacked.items()]
+        self.having = Having(archive.arch, [*staying, *unpacked])
+
+    def lost(self, other):
+        """What another plan doesn't keep of this one, in a few words; nothing where it removes nothing more and installs all that
+        this one does."""
+        removed = [it for it in other.changes.removed if it not in self.changes.removed]
+        if removed:
+            return f"{removed[0].name} {removed[0].old} would be removed"
+        for name, version in self.changes.unpacked.items():
+            new = other.changes.unpacked.get(name)
+            if new is None:
+                return f"{name} {version} wouldn't be installed"
+            if common.version_key(new) != common.version_key(version):
+                return f"{name} {new} would be installed in place of {version}"
+        return None
+
+
+# What is wished
+
+
+class Wish:
+    """A clause that a new package recommends, and why what was asked for so that it is met can't be had."""
+
+    def __init__(self, by, clause, archive):
+        self.by, self.clause, self.archive, self.whys = by, clause, archive, []
+
+    @functools.cached_property
+    def choices(self):
+        """What may still be asked for, the first alternative first."""
+        found = []
+        for atom in self.clause:
+            choices = list(self.archive.choices(atom))
+            self.whys += [] if choices else [f"no index has {common.written([atom])}"]
+            found += choices
+        return found
+
+    def lines(self):
+        """The lines that are asked for."""
+        return self.choices[0].lines
+
+    def fail(self, why):
+        """Notes that what was asked for can't be had, so that the next alternative is asked for."""
+        self.choices.pop(0)
+        self.whys.append(why)
+
+    def members(self):
+        return {"for": self.by, "relation": common.written(self.clause)}
+
+
+def same_lines(wishes):
+    """Whether some wishes ask for one and the same."""
+    return len({wish.lines() for wish in wishes}) == 1
+
+
+def last_reason(document, lines):
+    """Why a request is refuted, in the last sentence, which says where the reasons end. Nobody but this tool asks for these lines."""
+    sentences = [it for it in document["reasons"] if not it.startswith(CLOSING)]
+    asked = [f"You ask for {line.removeprefix('install ')}, but " for line in lines]
+    last = sentences[-1].rstrip(".") if sentences else "it is refuted"
+    return next((last.removeprefix(it) for it in asked if last.startswith(it)), last)
+
+
+class Recommending:
+    """A request with its plan, which grow by what is recommended. `ask` has the program answer the text of a request with
+    `--format json`, and returns how it ended."""
+
+    def __init__(self, inputs, request, document, ask):
+        self.archive, self.before, self.ask = Archive(inputs), common.Database(inputs.path("status")), ask
+        self.request, self.document = [line for line in request.splitlines() if line.strip()], document
+        self.end, self.wishes, self.came = End(self.archive, self.before, document), {}, []
+
+    def extend(self):
+        """Asks for what new packages recommend, and for what those recommend that came by it, until nothing comes."""
+        wishes = self.wished()
+        while wishes:
+            self.take(wishes)
+            wishes = self.wished()
+
+    def wishes_of(self, new):
+        """What a new package recommends."""
+        if new.name not in self.wishes:
+            clauses = common.clauses_in(self.archive.stanza(new.name, new.new), "Recommends")
+            self.wishes[new.name] = [Wish(new.name, clause, self.archive) for clause in clauses]
+        return self.wishes[new.name]
+
+    def wished(self):
+        """The clauses that nothing meets of what is left installed, for which something may be asked for. A clause that is met by what
+        is asked for before it can wait."""
+        hoped, found = Having(self.archive.arch), []
+        for wish in (wish for new in self.end.changes.new for wish in self.wishes_of(new)):
+            if not self.end.having.meets(wish.clause) and wish.choices and not hoped.meets(wish.clause):
+                hoped.add(wish.choices[0].fields)
+                found.append(wish)
+        return found
+
+    def take(self, wishes):
+        """Asks for these together, and for fewer of them where that can't be, until some have come or one is known not to."""
+        while wishes:
+            verdict = self.verdict(wishes)
+            wishes = self.refused(wishes, verdict) if verdict.why else self.taken(wishes, verdict)
+
+    def refused(self, wishes, verdict):
+        """The wishes that are asked for in place of these; none where it is known which of these can't be had."""
+        if same_lines(wishes) or verdict.is_alone and same_lines(verdict.blamed):
+            for wish in verdict.blamed:
+                wish.fail(verdict.why)
+            return []
+        if len(verdict.blamed) < len(wishes):
+            return [wish for wish in wishes if wish is not verdict.blamed[-1]]
+        return wishes[:(len(wishes) + 1) // 2]
+
+    def taken(self, wishes, verdict):
+        """Takes the plan, where each of the wishes is needed in it; else those that are, or the first one, are asked for in their place."""
+        needed = [wish for wish in wishes if not verdict.end.having.meets(wish.clause, without=wish.choices[0].name)] or wishes[:1]
+        if len(needed) < len(wishes):
+            return needed
+        self.accept(wishes, verdict)
+        return []
+
+    def accept(self, wishes, verdict):
+        """Takes the request with these wishes, and its plan."""
+        self.request, self.document, self.end = verdict.request, verdict.document, verdict.end
+        self.came += [{**wish.members(), "goals": list(wish.lines())} for wish in wishes]
+
+    def verdict(self, wishes):
+        """Whether the request with these wishes has a plan that keeps what was found."""
+        asked = dict.fromkeys(line for wish in wishes for line in wish.lines())
+        request = [*self.request, *(line for line in asked if line not in self.request)]
+        run = self.ask("".join(f"{line}\n" for line in request))
+        document = common.document_of(run)
+        if document is None:
+            return Verdict("that is no goal", by_lines(wishes, refused_in(request, run)), True)
+        if document["answer"] == "refuted":
+            return Verdict(last_reason(document, asked), by_lines(wishes, named_in(request, document)), True)
+        if document["answer"] != "plan":
+            return Verdict(document["text"].strip(), wishes)
+        end = End(self.archive, self.before, document)
+        unmet = [wish for wish in wishes if not end.having.meets(wish.clause)]
+        if unmet:
+            return Verdict(f"{unmet[0].choices[0].name} doesn't provide it in the version that is chosen", unmet[:1])
+        return Verdict(self.end.lost(end), wishes, False, request, document, end)
+
+    def left_out(self):
+        """The clauses that nothing meets in the end."""
+        return [wish for wishes in self.wishes.values() for wish in wishes if not self.end.having.meets(wish.clause)]
+
+    def told(self):
+        """What came and what was left out, as a member of a document."""
+        left_out = [{**wish.members(), "why": "; ".join(dict.fromkeys(wish.whys))} for wish in self.left_out()]
+        return {"came": self.came, "left_out": left_out}
+
+    def text(self):
+        return "".join(f"{line}\n" for line in self.request)
+
+
+def by_lines(wishes, lines):
+    """The wishes that ask for one of these lines; all where none does."""
+    return [wish for wish in wishes if lines.intersection(wish.lines())] or wishes
+
+
+def named_in(request, document):
+    """The lines of a request that a refutation names as goals."""
+    goals = [line for line in request if line != "all-versions"]
+    return {goals[line["goal"] - 1] for line in document["lines"] if line.get("premise") == "goal"}
+
+
+def refused_in(request, run):
+    """The line of a request for which it is refused."""
+    found = REFUSED.search(run.stderr)
+    if not found:
+        raise Failure(run.stderr.strip() or f"{common.program()} ended without an answer", run.returncode if run.returncode > 0 else 69)
+    return {request[int(found.group(1)) - 1]}
+
+
+def lines_on(told):
+    """What came and what was left out, as lists."""
+    yield from changes.listed("recommended, and asked for", (f"{said(it)}: {', '.join(it['goals'])}" for it in told["came"]))
+    yield from changes.listed("recommended, and left out", (f"{said(it)}: {it['why']}" for it in told["left_out"]))
+
+
+def said(members):
+    return f"{members['for']} recommends {members['relation']}"
