@@ -10,7 +10,7 @@ _debplan()
         before=${COMP_WORDS[COMP_CWORD-2]}
     fi
     if [ "$COMP_CWORD" -eq 1 ]; then
-        COMPREPLY=($(compgen -W "compare candidate solve check-plan check-refutation apply installable help --help --version" -- "$word"))
+        COMPREPLY=($(compgen -W "compare candidate solve check-plan check-refutation apply installable batch help --help --version" -- "$word"))
         return
     fi
     case $before in
@@ -51,8 +51,11 @@ _debplan()
         installable)
             COMPREPLY=($(compgen -W "--arch --status --sources --preferences --target --all-versions --without-essential --shard --limit --refutations --explain --format --help" -- "$word"))
             ;;
+        batch)
+            COMPREPLY=($(compgen -W "--arch --status --sources --preferences --target --limit --help" -- "$word"))
+            ;;
         help)
-            COMPREPLY=($(compgen -W "compare candidate solve check-plan check-refutation apply installable" -- "$word"))
+            COMPREPLY=($(compgen -W "compare candidate solve check-plan check-refutation apply installable batch" -- "$word"))
             ;;
     esac
 }

@@ -75,6 +75,9 @@ module _ {J E : Type 0} (at : Files) (was : Kept J) (files : Option Files) (kept
       (IsLeftOfAsked honest facts (ask.check_refutation given request refutation explains written) at was) (λ found is still. (is, still)) r says same
   nothing_left honest facts (ask.apply given request plan journal output) quiet r says same = absurd quiet
   nothing_left honest facts (ask.installable given survey folder explains written) quiet r says same = absurd quiet
+  nothing_left honest facts (ask.batch given limit) quiet r says same =
+      all_left (IsOutcomeOfAsked at (ask.batch given limit)) (IsLeftOfAsked honest facts (ask.batch given limit) at was)
+      (λ found is still. (is, still)) r says same
 
   -- behind a plan that isn't good nothing is changed
   pub unready_left : (honest : J → Type 0) (facts : J → DiskFacts) (said : Result Prepared Refusal) (journal output : List ℕ) → IsUnready said

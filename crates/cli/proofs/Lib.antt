@@ -7,3 +7,6 @@ mod MemberLemmas
 mod ResultLemmas
 mod ShelfLemmas
 mod WordsLemmas
+mod BatchLemmas
+mod ReplyLemmas
+mod ToldLemmas

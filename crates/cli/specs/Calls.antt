@@ -1,7 +1,8 @@
 -- What the program answers to a call over known files.
-use Rattle.std.specs.Prelude.{◌≡◌, ℕ, Bool, List, [], Option, Result, Ok, Err, None, Some}
+use Rattle.std.specs.Prelude.{◌≡◌, ℕ, Bool, List, [], Option, Result, Ok, Err, None, Some, codes}
 use Rattle.candidates.specs.Offer.{Offer}
 use Rattle.cli.specs.Applied.{IsOutcomeOfPlanTaken}
+use Rattle.cli.specs.Batch.{IsOutcomeOfBatch}
 use Rattle.cli.specs.Files.{Files, judged_at, shelved_at}
 use Rattle.cli.specs.Members.{AreMembersOf, with_answered, with_candidates, with_plan, with_refutation}
 use Rattle.cli.specs.Packages.{IsOutcomeOfPackages}
@@ -89,3 +90,4 @@ IsOutcomeOfAsked files (ask.apply given request plan journal output) found =
     IsOutcomeOfPlanTaken (texts_for files given request) (judged_at files plan) found
 IsOutcomeOfAsked files (ask.installable given survey folder explains written) found =
     IsOutcomeOfPackages (texts_for files given (ask.goals [])) survey folder written found
+IsOutcomeOfAsked files (ask.batch given limit) found = IsOutcomeOfBatch (texts_for files given (ask.goals [])) limit (files (codes "-")) found

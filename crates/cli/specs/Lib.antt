@@ -1,10 +1,13 @@
 pub mod Applied
+pub mod Batch
 pub mod Calls
 pub mod Files
+pub mod Heard
 pub mod Kept
 pub mod Leaving
 pub mod Members
 pub mod Packages
 pub mod Places
 pub mod Possible
+pub mod Told
 pub mod Words

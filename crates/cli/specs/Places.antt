@@ -43,6 +43,7 @@ goals_by (ask.check_plan given request plan explains written) = goal_lines reque
 goals_by (ask.check_refutation given request refutation explains written) = goal_lines request
 goals_by (ask.apply given request plan journal output) = goal_lines request
 goals_by (ask.installable given survey folder explains written) = []
+goals_by (ask.batch given limit) = []
 
 -- the path of a file that isn't standard input: of `-` the file of that name
 abbrev pub file_path : Text → Text

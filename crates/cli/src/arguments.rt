@@ -43,9 +43,10 @@ pub(crate) fn goals_of(alloc: Global, call: &Call<'_>) -> Result<Vec<u8>, AllocE
     ensures { IfOk result (λ text. text.items ≡ goals_by (asked_by call.now)) }
 {
     match call {
-        Call::Compare { .. } | Call::Candidate { .. } | Call::Installable { .. } => {
-            Ok(Vec::new(alloc))
-        }
+        Call::Compare { .. }
+        | Call::Candidate { .. }
+        | Call::Installable { .. }
+        | Call::Batch { .. } => Ok(Vec::new(alloc)),
         Call::Solve { request, .. }
         | Call::CheckPlan { request, .. }
         | Call::CheckRefutation { request, .. }

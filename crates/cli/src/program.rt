@@ -1,16 +1,18 @@
 //! The whole program over a host.
-ghost use Rattle.std.specs.Prelude.{◌≡◌, ◌⊎◌, IfOk, Some, map};
+ghost use Rattle.std.specs.Prelude.{◌≡◌, ◌⊎◌, IfErr, IfOk, Some, map, option_map};
 ghost use Rattle.cli.specs.Calls.{IsOutcomeOfAsked, IsOutcomeOfExtent, texts_at};
 ghost use Rattle.cli.specs.Files.{Files};
 ghost use Rattle.cli.specs.Kept.{Kept};
 ghost use Rattle.cli.specs.Leaving.{IsLeftOfAsked, IsLeftOfExtent, IsLeftOrUntold, IsLeftWith};
+ghost use Rattle.cli.specs.Told.{IsBatchIn, IsLeftTold, IsOutcomeOfCall, IsSingle, IsToldBy, printed_later};
 ghost use Rattle.cli.specs.Words.{IsLeftOfWords, IsOutcomeOfWords};
-ghost use Rattle.command_line.specs.Asked.{asked_by, extent_by};
+ghost use Rattle.command_line.specs.Asked.{asked_by, extent_by, given_by};
 ghost use Rattle.outcomes.specs.Outcome.{IsOutcomeOfMemory, IsWritten};
 ghost use Rattle.outcomes.specs.declared.outcome.Outcome.{Outcome as Found};
 
 use crate::applied::{Target, outcome_of_applied};
 use crate::arguments::{Arguments, arguments_by, goals_of, place_of};
+use crate::batch::status_of_batch;
 use crate::files::TextAt;
 use crate::host::Host;
 use crate::names::outcome_of_names;
@@ -21,12 +23,13 @@ use crate::refuted::outcome_of_lines;
 use crate::request::outcome_of_request;
 use crate::versions::outcome_of_versions;
 use cli_engine::Notes;
-use command_line::{Call, Extent, Format, call_of, joined, mistake, texts_of};
+use command_line::{Call, Extent, Format, Options, call_of, joined, mistake, texts_of};
 use outcomes::{Outcome, outcome_of_usage, print, refuse_for_memory};
 use std::alloc::{AllocError, Global};
 use std::io::Write;
 
 /// Runs the program on the words of its command line, of which the first is its own name, and gives its exit status.
+/// Questions of standard input are answered one after the other, each as soon as it is heard.
 /// It opens each file once, at its turn, and none behind a refusal; the sources and the indices of a plan that is written as JSON a
 /// second time, behind the answer, and the indices of a plan that is carried out. It writes nothing but its answer or one refusal, and
 /// where the words ask for them, sentences behind that on standard error, where the host may show how far an answer is; of files nothing but what the words name for it: the journal
@@ -46,41 +49,101 @@ pub fn run<H: Host, W: Write, E: Write>(
         at was found (H.files host.new) (H.kept host.new) × IsWritten found (W.contents out.old) (W.contents out.new) result }
 {
     let mut notes = Notes::new(alloc);
-    match outcome_of_words(alloc, words, host, &mut notes) {
-        Ok(outcome) => print(&outcome, notes.text.as_slice(), out, err),
+    match told_of_words(alloc, words, host, &mut notes, out, err) {
+        Ok(Told::Outcome(outcome)) => print(&outcome, notes.text.as_slice(), out, err),
+        Ok(Told::Status(status)) => status,
         Err(AllocError) => refuse_for_memory(err),
     }
 }
 
-// What is printed of these words; the notes are those that are shown behind it.
-fn outcome_of_words<H: Host>(
+/// What is told of words.
+#[derive(Drop)]
+pub(crate) enum Told {
+    /// This is to be printed.
+    Outcome(Outcome),
+    /// All of it was printed as it came, and this is the exit status.
+    Status(u8),
+}
+
+// The outcome is to be printed.
+fn to_print(outcome: Result<Outcome, AllocError>) -> Result<Told, AllocError>
+    ensures { result ≡ printed_later outcome }
+{
+    match outcome {
+        Ok(outcome) => Ok(Told::Outcome(outcome)),
+        Err(AllocError) => Err(AllocError),
+    }
+}
+
+// By which files the questions of a call are answered, and how many conflicts a search may have, where it asks for that.
+fn batch_in<'c, 'a>(call: &'c Call<'a>) -> Option<(&'c Options<'a>, u32)>
+    ensures { IsBatchIn (asked_by call.entry.now) (option_map (λ batch. (given_by batch.0.now, batch.1)) result) }
+{
+    match call {
+        Call::Batch { options, limit } => Some((options, *limit)),
+        _ => None,
+    }
+}
+
+// What is told of these words; the notes are those that are shown behind it.
+fn told_of_words<H: Host, W: Write, E: Write>(
     alloc: Global,
     words: &[Vec<u8>],
     host: &mut H,
     notes: &mut Notes,
-) -> Result<Outcome, AllocError>
-    ensures printed { IfOk result (IsOutcomeOfWords (H.files host.old) (map (λ word. word.items) words.now)) }
-    ensures left { (at : Files) (was : Kept H.Journal) → H.files host.old ≡ Some at → H.kept host.old ≡ Some was → IsLeftWith
+    out: &mut W,
+    err: &mut E,
+) -> Result<Told, AllocError>
+    ensures printed { IfOk result (IsToldBy (IsOutcomeOfWords (H.files host.old) (map (λ word. word.items) words.now))
+        (W.contents out.old) (W.contents out.new)) }
+    ensures unwritten { IfErr result (λ _. W.contents out.new ≡ W.contents out.old) }
+    ensures left { (at : Files) (was : Kept H.Journal) → H.files host.old ≡ Some at → H.kept host.old ≡ Some was → IsLeftTold
         (IsLeftOfWords H.Journal.honest H.Journal.facts (map (λ word. word.items) words.now) at was)
-        at was result (H.files host.new) (H.kept host.new) }
+        at was result (H.files host.new) (H.kept host.new) (W.contents out.old) (W.contents out.new) }
 {
     let Some(texts) = texts_of(alloc, words)? else {
-        return outcome_of_usage(alloc, &mistake(alloc, "an argument isn't UTF-8"));
+        return to_print(outcome_of_usage(alloc, &mistake(alloc, "an argument isn't UTF-8")));
     };
     let words = joined(alloc, texts.as_slice())?;
     match call_of(alloc, words.as_slice()) {
-        Ok(call) => outcome_of_call(alloc, &call, host, notes),
-        Err(error) => outcome_of_usage(alloc, &error),
+        Ok(call) => told_of_call(alloc, &call, host, notes, out, err),
+        Err(error) => to_print(outcome_of_usage(alloc, &error)),
     }
 }
 
-// What is printed of this call.
+// What is told of this call.
+fn told_of_call<H: Host, W: Write, E: Write>(
+    alloc: Global,
+    call: &Call<'_>,
+    host: &mut H,
+    notes: &mut Notes,
+    out: &mut W,
+    err: &mut E,
+) -> Result<Told, AllocError>
+    ensures printed { IfOk result (IsToldBy (IsOutcomeOfCall (H.files host.old) (asked_by call.now)) (W.contents out.old) (W.contents out.new)) }
+    ensures unwritten { IfErr result (λ _. W.contents out.new ≡ W.contents out.old) }
+    ensures left { (at : Files) (was : Kept H.Journal) → H.files host.old ≡ Some at → H.kept host.old ≡ Some was → IsLeftTold
+        (IsLeftOfAsked H.Journal.honest H.Journal.facts (asked_by call.now) at was)
+        at was result (H.files host.new) (H.kept host.new) (W.contents out.old) (W.contents out.new) }
+{
+    match batch_in(call) {
+        Some((options, limit)) => {
+            let arguments = arguments_by(options, TextAt::Given(&[]), "", false, Format::Json);
+            let status = status_of_batch(alloc, host, &arguments, limit, out, err);
+            Ok(Told::Status(status))
+        }
+        None => to_print(outcome_of_call(alloc, call, host, notes)),
+    }
+}
+
+// What is printed of this call, which isn't that of many questions.
 fn outcome_of_call<H: Host>(
     alloc: Global,
     call: &Call<'_>,
     host: &mut H,
     notes: &mut Notes,
 ) -> Result<Outcome, AllocError>
+    requires { IsSingle (asked_by call.now) }
     ensures printed { (at : Files) → H.files host.old ≡ Some at
         → IfOk result (λ outcome. IsOutcomeOfAsked at (asked_by call.now) outcome) }
     ensures left { (at : Files) (was : Kept H.Journal) → H.files host.old ≡ Some at → H.kept host.old ≡ Some was → IsLeftWith
@@ -162,6 +225,7 @@ fn outcome_of_call<H: Host>(
             };
             outcome_of_applied(alloc, host, &arguments, target)
         }
+        Call::Batch { .. } => unreachable!(),
     }
 }
 

@@ -2,9 +2,10 @@
 ghost use Rattle.std.specs.Prelude.{◌≡◌, IfOk, false, map, refl};
 ghost use Rattle.candidates.specs.Candidates.{IsCandidateOf};
 ghost use Rattle.candidates.specs.Inputs.{indices_of, inputs_of};
-ghost use Rattle.inputs.specs.ReadAs.{start_of};
+ghost use Rattle.inputs.specs.ReadAs.{AreReadAs, start_of};
+ghost use Rattle.inputs.specs.Texts.{Texts};
 ghost use Rattle.rules.specs.Available.{Request};
-ghost use Rattle.cli_engine.specs.Answer.{AreCandidatesOf, IsSaidOfNames};
+ghost use Rattle.cli_engine.specs.Answer.{AreCandidateAnswers, AreCandidatesOf, IsSaidOfNames};
 
 use crate::notes::Notes;
 use crate::offered::Candidate;
@@ -65,6 +66,33 @@ fn candidates_over(
     Ok(candidates)
 }
 
+impl<'n> Candidates<'n> {
+    /// Answers it over what the texts before a request are read as. Sentences on the answer are told, where they are wanted. Memory alone
+    /// can fail.
+    pub fn over(
+        &self,
+        alloc: Global,
+        before: &Before<'_, '_, '_, '_, '_, '_, '_, '_>,
+        notes: &mut Notes,
+    ) -> Result<Items<Option<Candidate>>, AllocError>
+        ensures said { (texts : Texts) → AreReadAs texts before.now
+            → IfOk result (AreCandidateAnswers texts (map (λ name. name.now) self.now.names.now)) }
+        ensures unasked { notes.old.wanted ≡ false → notes.new ≡ notes.old }
+    {
+        let candidates = candidates_over(alloc, before, self.names)?;
+        tell_candidates(
+            alloc,
+            before,
+            self.names,
+            candidates.as_slice(),
+            self.tells_versions,
+            notes,
+        )?;
+        tell_idle_inputs(alloc, before, notes)?;
+        Ok(Items::new(candidates))
+    }
+}
+
 impl<'n> Question for Candidates<'n> {
     type Answer = Items<Option<Candidate>>;
 
@@ -81,17 +109,8 @@ impl<'n> Question for Candidates<'n> {
         before: &Before<'_, '_, '_, '_, '_, '_, '_, '_>,
         notes: &mut Notes,
     ) -> Result<Items<Option<Candidate>>, Refusal> {
-        let candidates = candidates_over(alloc, before, self.names)?;
-        tell_candidates(
-            alloc,
-            before,
-            self.names,
-            candidates.as_slice(),
-            self.tells_versions,
-            notes,
-        )?;
-        tell_idle_inputs(alloc, before, notes)?;
-        Ok(Items::new(candidates))
+        let candidates = self.over(alloc, before, notes)?;
+        Ok(candidates)
     }
 
     ghost refuses = { λ _ _ _ _ _ is. is };

@@ -56,6 +56,19 @@ fn refutation_in(alloc: Global, text: &[u8]) -> Result<WrittenRefutation, Fault>
     }
 }
 
+/// The refutation with this text.
+pub(crate) fn written_of(alloc: Global, text: &[u8]) -> Result<WrittenRefutation, Refusal>
+    ensures ok { IfOk result (λ written. refutation_of (Some text.now) ≡ Ok written) }
+    ensures refused { (texts : Texts) (u : UniverseOf) (start : List Record) → Denotes texts u start
+        → IfErr result (λ refused. IsFirstRefutationRefusal texts (Some text.now) refused) }
+    ensures known { IfErr result (λ refused. refused.fault ≢ fault.Read) }
+{
+    match refutation_in(alloc, text) {
+        Ok(written) => Ok(written),
+        Err(fault) => Err(refused_at(Input::Refutation, fault)),
+    }
+}
+
 // The refutation of the shelf.
 fn read_judged<S: Shelf>(alloc: Global, shelf: &mut S) -> Result<WrittenRefutation, Refusal>
     ensures ok { (at : Shelved) → S.found shelf.old ≡ Some at → IfOk result (λ written. refutation_of at.judged ≡ Ok written) }

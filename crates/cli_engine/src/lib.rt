@@ -8,6 +8,7 @@ mod candidate;
 mod check;
 mod check_refutation;
 mod comparison;
+mod given;
 mod judged;
 mod laws;
 mod lines;
@@ -23,6 +24,7 @@ pub use candidate::Candidates;
 pub use check::{CheckPlan, JudgedPlan, judge};
 pub use check_refutation::{CheckRefutation, JudgedRefutation};
 pub use comparison::{Comparison, compare};
+pub use given::{GivenPlan, GivenRefutation};
 pub use inputs::{Fault, Input, Inputs, Refusal, Settings, Shelf};
 pub use laws::{
     a_good_plan_is_answered_with_yes, a_meaning_is_answered, a_meaning_is_solvable,

@@ -27,6 +27,19 @@ fn steps_in(alloc: Global, text: &[u8]) -> Result<Vec<Step>, Fault>
     }
 }
 
+/// The steps of the plan with this text.
+pub(crate) fn steps_of(alloc: Global, text: &[u8]) -> Result<Vec<Step>, Refusal>
+    ensures ok { IfOk result (λ steps. plan_of (Some text.now) ≡ Ok steps.items) }
+    ensures refused { (texts : Texts) (u : UniverseOf) (start : List Record) → Denotes texts u start
+        → IfErr result (λ refused. IsFirstRefusal texts (Some text.now) refused) }
+    ensures known { IfErr result (λ refused. refused.fault ≢ fault.Read) }
+{
+    match steps_in(alloc, text) {
+        Ok(steps) => Ok(steps),
+        Err(fault) => Err(refused_at(Input::Plan, fault)),
+    }
+}
+
 /// The steps of the plan.
 pub fn read_steps<S: Shelf>(alloc: Global, shelf: &mut S) -> Result<Vec<Step>, Refusal>
     ensures ok { (at : Shelved) → S.found shelf.old ≡ Some at → IfOk result (λ steps. plan_of at.judged ≡ Ok steps.items) }

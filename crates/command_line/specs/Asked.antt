@@ -60,6 +60,8 @@ pub data Asked : Type 0 where
   apply : Given → Request → Text → Text → Text → Asked
   -- which packages, and the folder of refutations, if there is one
   installable : Given → Survey → Option Text → Bool → Format → Asked
+  -- the limit of each search for the questions of standard input
+  batch : Given → ℕ → Asked
 
 -- words, in their texts
 abbrev pub texts_by : List (Bor Text) → List Text
@@ -108,3 +110,4 @@ asked_by (call.Apply options request plan journal output) =
     apply (given_by options) (request_by request) plan.now journal.now output.now
 asked_by (call.Installable options survey refutations explains format) =
     installable (given_by options) (survey_by survey) (option_map (λ word. word.now) refutations) explains format
+asked_by (call.Batch options limit) = batch (given_by options) limit

@@ -100,6 +100,10 @@ abbrev pub installable_command : Shape
 installable_command = command (codes "installable") (archive_options ++ survey_options ++ optional (option (codes "refutations"))
     ∷ telling_options ++ optional (repeated (word (codes "name"))) ∷ [])
 
+-- debplan batch OPTIONS [--limit N]
+abbrev pub batch_command : Shape
+batch_command = command (codes "batch") (options ++ number (optional (option (codes "limit"))) ∷ [])
+
 -- the program, which has a version, and of which a command has to be named
 unfoldable pub debplan_app : App
 debplan_app = record {
@@ -110,7 +114,7 @@ debplan_app = record {
     subcommand_required = true;
   };
   subs = compare_command ∷ candidate_command ∷ solve_command ∷ check_plan_command ∷ check_refutation_command ∷ apply_command
-      ∷ installable_command ∷ [];
+      ∷ installable_command ∷ batch_command ∷ [];
 }
 
 -- the argument is read as this one

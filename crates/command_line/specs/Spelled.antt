@@ -68,6 +68,11 @@ abbrev pub installable_of : Option Given → Option Survey → Option Text → B
 installable_of (Some given) (Some survey) refutations explains (Some format) = Some (ask.installable given survey refutations explains format)
 installable_of _ _ refutations explains _ = None
 
+-- the answering of the questions of standard input
+abbrev pub batch_of : Option Given → Option ℕ → Option Asked
+batch_of (Some given) (Some limit) = Some (ask.batch given limit)
+batch_of _ _ = None
+
 -- what the command of this name asks for by these values, where no word is missing
 abbrev pub asked_in : Text → List Row → Option Asked
 asked_in name rows =
@@ -88,6 +93,8 @@ asked_in name rows =
     (first_of (codes "output") rows)
     else if bytes_eq name (codes "installable")
     then installable_of (archive_given_in rows) (survey_in rows) (first_of (codes "refutations") rows) (explains_in rows) (format_in rows)
+    else if bytes_eq name (codes "batch")
+    then batch_of (given_in rows) (limit_of (first_of (codes "limit") rows))
     else None
 
 -- what a command is asked for, with the values that `clap` gives it by the words

@@ -75,6 +75,7 @@ fn call_named<'a>(
         "check-refutation" => refutation_in(values, request),
         "apply" => apply_in(values, request),
         "installable" => installable_in(alloc, values, names),
+        "batch" => batch_in(values),
         _ => None,
     }
 }
@@ -463,6 +464,15 @@ fn installable_in<'a>(
         explains,
         format,
     })
+}
+
+fn batch_in<'a>(values: &ArgMatches<'a>) -> Option<Call<'a>>
+    ensures { let rows = rows_of (found_of values.now) in option_map asked_by result ≡ spell.batch_of
+        (value.given_in rows) (limit_of (first_of (codes "limit") rows)) }
+{
+    let options = options_in(values)?;
+    let limit = limit_of(text_in(values, "limit"))?;
+    Some(Call::Batch { options, limit })
 }
 
 // Which packages are asked about, unless the shard or the limit is none.

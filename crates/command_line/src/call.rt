@@ -177,4 +177,11 @@ pub enum Call<'a> {
         /// How the answer is written: as JSON, a line is a text of its own.
         format: Format,
     },
+    /// To answer the questions of standard input.
+    Batch {
+        /// By these files.
+        options: Options<'a>,
+        /// The conflicts after which each search gives up.
+        limit: u32,
+    },
 }

@@ -6,7 +6,7 @@ ghost use Rattle.command_line.specs.Program as app;
 
 use crate::help::{
     ANSWERS, APPLY_USAGE, ARCHIVE_STATUS_HELP, CHECK_PLAN_USAGE, CHECK_REFUTATION_USAGE, GUIDE,
-    KEEP_BACK_HELP, REFUTATION_FORMAT_HELP, REFUTATIONS_HELP, RELATION_HELP, SHARD_HELP,
+    KEEP_BACK_HELP, QUESTIONS, REFUTATION_FORMAT_HELP, REFUTATIONS_HELP, RELATION_HELP, SHARD_HELP,
     SOLVE_USAGE, VERSION, VERSION_AND_TOOLCHAIN, WITHOUT_ESSENTIAL_HELP,
 };
 use clap::{Arg, ArgAction, Command, value_parser};
@@ -31,7 +31,8 @@ pub fn program<'a>(alloc: Global) -> Result<Command<'a>, AllocError>
     let with_plan = with_solve.subcommand(check_plan(alloc)?)?;
     let with_refutation = with_plan.subcommand(check_refutation(alloc)?)?;
     let with_apply = with_refutation.subcommand(apply(alloc)?)?;
-    let whole = with_apply.subcommand(installable(alloc)?)?;
+    let with_installable = with_apply.subcommand(installable(alloc)?)?;
+    let whole = with_installable.subcommand(batch(alloc)?)?;
     Ok(whole)
 }
 
@@ -177,6 +178,21 @@ fn installable<'a>(alloc: Global) -> Result<Command<'a>, AllocError>
     let with_refutations = with_survey.arg(refutations)?;
     let told = with_telling(alloc, with_refutations)?;
     let whole = told.arg(names)?;
+    Ok(whole)
+}
+
+fn batch<'a>(alloc: Global) -> Result<Command<'a>, AllocError>
+    ensures { IfOk result (app.Declares app.batch_command) }
+{
+    let start = named(
+        alloc,
+        "batch",
+        "Answer many questions over one reading: each line of standard input is a question as JSON",
+        QUESTIONS,
+    );
+    let limit = limit(alloc);
+    let optioned = with_options(alloc, start)?;
+    let whole = optioned.arg(limit)?;
     Ok(whole)
 }
 

@@ -25,6 +25,11 @@ Exit status:
   4  the command line is wrong
   5  a file can't be read, memory is exhausted, or the answer, the journal or the output can't be written";
 
+/// What the questions of a batch and their answers are, as it stands below its help.
+pub(crate) const QUESTIONS: &str =
+    "Each line of standard input is a JSON object, as docs/FORMATS.md says, and is answered by one line of JSON.
+The goals, the form of the sources file and examples: debplan --help";
+
 /// What a request and a sources file are, with examples, as it stands below the help of the program.
 pub(crate) const GUIDE: &str =
     "A request is a file with a goal on each line, or the goals of --goal, each a line of its own.
@@ -71,7 +76,7 @@ Exit status:
 
 /// What is said of a command that there is none of, behind what is wrong with it.
 pub const COMMANDS: &str =
-    "Commands: compare, candidate, solve, check-plan, check-refutation, apply, installable, help\n";
+    "Commands: compare, candidate, solve, check-plan, check-refutation, apply, installable, batch, help\n";
 
 /// What the word for the relation of a comparison is, of which `clap` takes any.
 pub(crate) const RELATION_HELP: &str =

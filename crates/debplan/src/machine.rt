@@ -11,6 +11,7 @@ use cli::{Host, Progress, PutError, ReadError, ReadFailed, Source, Turn};
 use rules::TEXT_BYTES;
 use std::alloc::{AllocError, Global};
 use std::fs::File;
+use std::io;
 use std::io::{ErrorKind, Read, Stdin};
 
 /// What is read of the machine: a file that was opened, or its standard input.
@@ -18,6 +19,22 @@ use std::io::{ErrorKind, Read, Stdin};
 pub(crate) struct Opened<R> {
     reader: R,
     failures: u64,
+}
+
+/// A file, or the standard input.
+#[derive(Drop)]
+pub(crate) enum Readable {
+    File(File),
+    Input(Stdin),
+}
+
+impl Read for Readable {
+    fn read(&mut self, buf: &mut [u8]) -> io::Result<usize> {
+        match self {
+            Readable::File(file) => file.read(buf),
+            Readable::Input(input) => input.read(buf),
+        }
+    }
 }
 
 impl<R: Read> Source for Opened<R> {
@@ -99,7 +116,7 @@ impl<'a> Machine<'a> {
 }
 
 impl<'a> Host for Machine<'a> {
-    type Text = Opened<File>;
+    type Text = Opened<Readable>;
 
     type Journal = JournalFile<'a>;
 
@@ -120,10 +137,15 @@ impl<'a> Host for Machine<'a> {
         }
     }
 
-    fn open(&mut self, _alloc: Global, path: &[u8], turn: Turn) -> Result<Opened<File>, ReadError> {
-        match open_at(self.rt, path, turn) {
-            Ok(file) => Ok(Opened {
-                reader: file,
+    fn open(
+        &mut self,
+        _alloc: Global,
+        path: &[u8],
+        turn: Turn,
+    ) -> Result<Opened<Readable>, ReadError> {
+        match readable_at(self.rt, path, turn) {
+            Ok(reader) => Ok(Opened {
+                reader,
                 failures: 0,
             }),
             Err(ErrorKind::OutOfMemory) => Err(ReadError::OutOfMemory),
@@ -131,7 +153,7 @@ impl<'a> Host for Machine<'a> {
         }
     }
 
-    fn close(&mut self, text: Opened<File>) {
+    fn close(&mut self, text: Opened<Readable>) {
         self.failures = self.failures.saturating_add(text.failures());
     }
 
@@ -180,6 +202,14 @@ fn standard_input(rt: &HostRuntime) -> Opened<Stdin> {
     Opened {
         reader: rt.stdin(),
         failures: 0,
+    }
+}
+
+// What is read at the path at this turn: at `-` the standard input, which is read once.
+fn readable_at(rt: &HostRuntime, path: &[u8], turn: Turn) -> Result<Readable, ErrorKind> {
+    match (path, turn) {
+        (b"-", Turn::First) => Ok(Readable::Input(rt.stdin())),
+        _ => Ok(Readable::File(open_at(rt, path, turn)?)),
     }
 }
 

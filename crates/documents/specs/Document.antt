@@ -27,3 +27,7 @@ object_with text members = object (put (codes "text") (text_data text) members)
 -- it is a document of the text: the line of an object of which `text` is the text
 abbrev pub IsDocumentOf : List ℕ → List ℕ → Type 0
 IsDocumentOf text printed = (members : Members) × IsLineOf (object_with text members) printed
+
+-- the object of these members, of which `refused` is why nothing else is answered
+abbrev pub refused_with : List ℕ → Members → Data
+refused_with words members = object (put (codes "refused") (text_data words) members)

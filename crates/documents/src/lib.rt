@@ -21,7 +21,7 @@ pub use archives::{Archive, Archives};
 pub use candidates::{candidate_value, no_candidate_value};
 pub use lines::put_lines;
 pub use members::Members;
-pub use printed::document;
+pub use printed::{document, refused_document};
 pub use reading::read_archives;
 pub use sentences::put_sentences;
 pub use steps::put_steps;

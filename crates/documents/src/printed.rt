@@ -1,7 +1,7 @@
 // The document of an answer.
 ghost use Rattle.std.specs.Prelude.{◌≡◌, IfOk};
 ghost use Rattle.serde_json.specs.View.{members_view, view};
-ghost use Rattle.documents.specs.Document.{IsDocumentOf, IsLineOf, object_with};
+ghost use Rattle.documents.specs.Document.{IsDocumentOf, IsLineOf, object_with, refused_with};
 
 use crate::members::Members;
 use crate::texts::text_value;
@@ -26,5 +26,20 @@ pub fn document(alloc: Global, members: Members, text: &[u8]) -> Result<Vec<u8>,
     let mut all = members;
     let text = text_value(alloc, text)?;
     all.put(alloc, "text", text)?;
+    line_of(alloc, &all.into_value())
+}
+
+/// The document of a refusal in these words with these members: a line of JSON whose object has them and, as `refused`, the words, with
+/// U+FFFD in the place of each part that isn't UTF-8. Memory alone can fail. Linear in all of it.
+pub fn refused_document(
+    alloc: Global,
+    members: Members,
+    words: &[u8],
+) -> Result<Vec<u8>, AllocError>
+    ensures { IfOk result (λ printed. IsLineOf (refused_with words.now (members_view members.map.entries)) printed.items) }
+{
+    let mut all = members;
+    let words = text_value(alloc, words)?;
+    all.put(alloc, "refused", words)?;
     line_of(alloc, &all.into_value())
 }

@@ -111,8 +111,9 @@ fn tell_kept<'a>(
     })
 }
 
-// Answers as much of the request with this text as can be, and tells of the answer. The shelf is shown how far it is.
-fn keep<S: Shelf>(
+/// Answers as much of the request with this text as can be, over what is read before it, as `KeepBack` answers that of a shelf, and tells
+/// of the answer. The shelf is shown how far it is.
+pub fn keep<S: Shelf>(
     alloc: Global,
     shelf: &mut S,
     before: &Before<'_, '_, '_, '_, '_, '_, '_, '_>,

@@ -10,4 +10,4 @@ mod left;
 mod note;
 mod round;
 
-pub use keep_back::{KeepBack, KeptBack};
+pub use keep_back::{KeepBack, KeptBack, keep};

@@ -7,6 +7,8 @@ use Rattle.apply.specs.declared.error.CatchUpError.{CatchUpError}
 use Rattle.apply.specs.declared.error.CatchUpError.TheVariants as catching
 use Rattle.apply.specs.declared.error.RunError.{RunError}
 use Rattle.apply.specs.declared.error.RunError.TheVariants.{NotOpened, NotFinished}
+use Rattle.conversation.specs.declared.ended.Ended.{Ended}
+use Rattle.conversation.specs.declared.ended.Ended.TheVariants as ended
 use Rattle.outcomes.specs.declared.exit.Exit.{Exit}
 use Rattle.outcomes.specs.declared.exit.Exit.TheVariants as exit
 use Rattle.inputs.specs.declared.refusal.Fault.{Fault}
@@ -56,6 +58,14 @@ exit_of_comparison answer = if answer then exit.Success else exit.No
 -- success where each name has a candidate, and no where one has none
 abbrev pub exit_of_candidates : {A : Type 0} → List (Option A) → Exit
 exit_of_candidates found = if list_all is_some found then exit.Success else exit.No
+
+-- success where each line has its reply, refused where one is too long, and the device's where it failed or memory was wanting
+abbrev pub exit_of_ended : Ended → Exit
+exit_of_ended ended.Answered = exit.Success
+exit_of_ended ended.Unread = exit.Device
+exit_of_ended ended.TooLong = exit.Refused
+exit_of_ended ended.Unwritten = exit.Device
+exit_of_ended ended.OutOfMemory = exit.Device
 
 -- the device's for want of memory (E1) and a file that can't be read (E5), and refused for every other fault
 abbrev pub exit_of_fault : Fault → Exit

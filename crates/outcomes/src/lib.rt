@@ -4,6 +4,7 @@
 #![tactic(auto)]
 
 mod answer;
+mod ended;
 mod exit;
 mod outcome;
 mod printing;
@@ -14,6 +15,7 @@ pub use answer::{
     applied_line, candidate_line, candidate_lines, comparison_line, refutation_line, solved_text,
     verdict_line,
 };
+pub use ended::exit_of_ended;
 pub use exit::{
     Exit, exit_of_begin_error, exit_of_candidates, exit_of_comparison, exit_of_refusal,
     exit_of_refutation, exit_of_run_error, exit_of_solved, exit_of_verdict,
@@ -24,7 +26,7 @@ pub use outcome::{
     outcome_of_solved, outcome_of_steps, outcome_of_stopped, outcome_of_unbegun,
     outcome_of_unwritten, outcome_of_unwritten_request, outcome_of_usage, outcome_of_verdict,
 };
-pub use printing::{print, refuse_for_memory};
+pub use printing::{print, print_ended, refuse_for_memory};
 pub use survey::{
     exit_of_survey, outcome_of_survey, outcome_of_surveyed, outcome_of_unwritten_file, survey_text,
 };

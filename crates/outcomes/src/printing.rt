@@ -2,10 +2,11 @@
 ghost use Rattle.std.specs.Prelude.{◌≡◌, OnOk};
 ghost use Rattle.std.specs.Io.KnownBytes.{Appends};
 ghost use Rattle.outcomes.specs.Outcome.{IsWritten};
-ghost use Rattle.outcomes.specs.Exit.{code_of};
+ghost use Rattle.outcomes.specs.Exit.{code_of, exit_of_ended};
 
 use crate::exit::Exit;
 use crate::outcome::Outcome;
+use conversation::Ended;
 use std::io;
 use std::io::Write;
 
@@ -60,4 +61,17 @@ pub fn refuse_for_memory<E: Write>(err: &mut E) -> u8
     ensures { result ≡ 5 }
 {
     complain(err, b"debplan: memory: E1 OutOfMemory\n", Exit::Device)
+}
+
+/// Prints, without taking memory, why lines stay without a reply, if any do, and gives the exit status.
+pub fn print_ended<E: Write>(ended: Ended, err: &mut E) -> u8
+    ensures { result ≡ code_of (exit_of_ended ended) }
+{
+    match ended {
+        Ended::Answered => Exit::Success.code(),
+        Ended::Unread => complain(err, b"debplan: questions: E5 Read\n", Exit::Device),
+        Ended::TooLong => complain(err, b"debplan: questions: E10 TooLarge\n", Exit::Refused),
+        Ended::Unwritten => complain(err, b"debplan: output: E26 Write\n", Exit::Device),
+        Ended::OutOfMemory => refuse_for_memory(err),
+    }
 }

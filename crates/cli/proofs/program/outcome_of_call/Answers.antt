@@ -44,8 +44,8 @@ returns-in-Installable-clause-printed g c at known =
     rw c.in-Installable.is (exchanged (λ texts word written. IfOk c.outcome_of_packages.result (IsOutcomeOfPackages texts (survey_by c.in-Installable.survey) folder written))
     _ _ [] [] _ _ (made.ensures.texts at (goals []) refl) refl made.ensures.format (c.outcome_of_packages.ensures.printed at known))
 
-pub returns-clause-printed : goal.returns-clause-printed
-returns-clause-printed g c at known =
+pub returns-in-Apply-clause-printed : goal.returns-in-Apply-clause-printed
+returns-in-Apply-clause-printed g c at known =
     let made = c.arguments_by-arguments-in-Apply in
     rw c.in-Apply.is (exchanged (λ texts plan written. IfOk c.outcome_of_applied.result (IsOutcomeOfPlanTaken texts (judged_at at plan))) _ _ _ _ _ _
     (made.ensures.texts at (request_by c.in-Apply.request) (c.place_of-place-in-Apply.ensures.text at)) made.ensures.judged made.ensures.format
@@ -95,8 +95,8 @@ returns-in-Installable-clause-left g c at was f k =
     rw c.in-Installable.is (exchanged (λ texts word written. IsLeftWith (IsLeftOfPackages texts (survey_by c.in-Installable.survey) folder written at was) at was r files kept)
     _ _ [] [] _ _ (made.ensures.texts at (goals []) refl) refl made.ensures.format (c.outcome_of_packages.ensures.left at was f k))
 
-pub returns-clause-left : goal.returns-clause-left
-returns-clause-left g c at was f k =
+pub returns-in-Apply-clause-left : goal.returns-in-Apply-clause-left
+returns-in-Apply-clause-left g c at was f k =
     let made = c.arguments_by-arguments-in-Apply in
     let place = c.place_of-place-in-Apply in
     let request = request_by c.in-Apply.request in

@@ -1,30 +1,71 @@
 -- What is printed is written, and what is left is left by it; or memory was wanting, and then nothing stands on standard output.
-use Rattle.std.proofs.Common.{Global, IsErr, Vec, codes, inl, inr, map, refl, rules, ℕ}
-use Rattle.cli.proofs.LeavingLemmas.{untold}
-use Rattle.cli.specs.Words.{IsLeftOfWords}
+use Rattle.std.proofs.Common.{Global, IsErr, List, Option, Vec, codes, inl, inr, map, refl, rules, subst, ℕ}
+use Rattle.cli.proofs.ToldLemmas.{err_says, outcome_left, outcome_told, status_left, status_told, untold_left}
+use Rattle.cli.specs.Words.{IsLeftOfWords, IsOutcomeOfWords}
+use Rattle.outcomes.specs.Outcome.{IsWritten}
 use Rattle.outcomes.specs.declared.exit.Exit.TheVariants as exit
 use Rattle.outcomes.specs.declared.outcome.Outcome.TheVariants as outcome
 use Rattle.cli.proofs.program.run.Goals as goal
 
-pub returns-in-Ok-clause-printed : goal.returns-in-Ok-clause-printed
-returns-in-Ok-clause-printed g c = (c.in-Ok.outcome, inl c.in-Ok.ensures.printed, c.print.ensures)
+pub returns-in-Ok-Outcome-clause-printed : goal.returns-in-Ok-Outcome-clause-printed
+returns-in-Ok-Outcome-clause-printed g c =
+    let words = map (λ (word : Vec ℕ Global). word.items) c.args.words.now in
+    let found = c.in-Ok-Outcome.outcome in
+    let told = outcome_told c.told_of_words.result c.in-Ok-Outcome.field-0 found (IsOutcomeOfWords (g.H.Host.files c.args.host.now) words)
+    (g.W.Write.contents c.args.out.now) (g.W.Write.contents c.told_of_words.new.out) c.in-Ok-Outcome.is c.in-Ok-Outcome.field-0-is
+    c.told_of_words.ensures.printed in (
+      found,
+      inl told.0,
+      subst (λ (old : Option (List ℕ)). IsWritten found old (g.W.Write.contents c.print.new.out) c.print.result) told.1 c.print.ensures,
+    )
 
-pub returns-in-Ok-clause-left : goal.returns-in-Ok-clause-left
-returns-in-Ok-clause-left g c at was f k = (c.in-Ok.outcome, inl (c.in-Ok.ensures.left at was f k), c.print.ensures)
+pub returns-in-Ok-Outcome-clause-left : goal.returns-in-Ok-Outcome-clause-left
+returns-in-Ok-Outcome-clause-left g c at was f k =
+    let words = map (λ (word : Vec ℕ Global). word.items) c.args.words.now in
+    let old = g.W.Write.contents c.args.out.now in
+    let then = g.W.Write.contents c.told_of_words.new.out in
+    let found = c.in-Ok-Outcome.outcome in
+    let told = outcome_told c.told_of_words.result c.in-Ok-Outcome.field-0 found (IsOutcomeOfWords (g.H.Host.files c.args.host.now) words)
+    old then c.in-Ok-Outcome.is c.in-Ok-Outcome.field-0-is c.told_of_words.ensures.printed in (
+      found,
+      inl (outcome_left at was (g.H.Host.files c.told_of_words.new.host) (g.H.Host.kept c.told_of_words.new.host) old then
+          (IsLeftOfWords g.H.Journal.Disk.honest g.H.Journal.Disk.facts words at was) c.told_of_words.result c.in-Ok-Outcome.field-0 found
+          c.in-Ok-Outcome.is c.in-Ok-Outcome.field-0-is (c.told_of_words.ensures.left at was f k)),
+      subst (λ (o : Option (List ℕ)). IsWritten found o (g.W.Write.contents c.print.new.out) c.print.result) told.1 c.print.ensures,
+    )
+
+pub returns-in-Ok-Status-clause-printed : goal.returns-in-Ok-Status-clause-printed
+returns-in-Ok-Status-clause-printed g c =
+    let words = map (λ (word : Vec ℕ Global). word.items) c.args.words.now in
+    status_told c.told_of_words.result c.in-Ok-Status.field-0 c.in-Ok-Status.status (IsOutcomeOfWords (g.H.Host.files c.args.host.now) words)
+    (g.W.Write.contents c.args.out.now) (g.W.Write.contents c.told_of_words.new.out) c.in-Ok-Status.is c.in-Ok-Status.field-0-is
+    c.told_of_words.ensures.printed
+
+pub returns-in-Ok-Status-clause-left : goal.returns-in-Ok-Status-clause-left
+returns-in-Ok-Status-clause-left g c at was f k =
+    let words = map (λ (word : Vec ℕ Global). word.items) c.args.words.now in
+    status_left at was (g.H.Host.files c.told_of_words.new.host) (g.H.Host.kept c.told_of_words.new.host) (g.W.Write.contents c.args.out.now)
+    (g.W.Write.contents c.told_of_words.new.out) (IsLeftOfWords g.H.Journal.Disk.honest g.H.Journal.Disk.facts words at was)
+    c.told_of_words.result c.in-Ok-Status.field-0 c.in-Ok-Status.status c.in-Ok-Status.is c.in-Ok-Status.field-0-is
+    (c.told_of_words.ensures.left at was f k)
 
 pub returns-clause-printed : goal.returns-clause-printed
 returns-clause-printed g c =
-    (outcome.Complaint (codes "debplan: memory: E1 OutOfMemory\n") exit.Device, inr refl, (c.refuse_for_memory.ensures, refl))
+    let failed : IsErr c.told_of_words.result = search rules in (
+      outcome.Complaint (codes "debplan: memory: E1 OutOfMemory\n") exit.Device,
+      inr refl,
+      (c.refuse_for_memory.ensures, err_says c.told_of_words.result _ failed c.told_of_words.ensures.unwritten),
+    )
 
 pub returns-clause-left : goal.returns-clause-left
 returns-clause-left g c at was f k =
     let words = map (λ (word : Vec ℕ Global). word.items) c.args.words.now in
-    let failed : IsErr c.outcome_of_words.result = search rules in (
+    let failed : IsErr c.told_of_words.result = search rules in (
       outcome.Complaint (codes "debplan: memory: E1 OutOfMemory\n") exit.Device,
       inr (
         refl,
-        untold at was _ _ (IsLeftOfWords g.H.Journal.Disk.honest g.H.Journal.Disk.facts words at was) c.outcome_of_words.result failed
-            (c.outcome_of_words.ensures.left at was f k),
+        untold_left at was _ _ _ _ (IsLeftOfWords g.H.Journal.Disk.honest g.H.Journal.Disk.facts words at was) c.told_of_words.result failed
+            (c.told_of_words.ensures.left at was f k),
       ),
-      (c.refuse_for_memory.ensures, refl),
+      (c.refuse_for_memory.ensures, err_says c.told_of_words.result _ failed c.told_of_words.ensures.unwritten),
     )

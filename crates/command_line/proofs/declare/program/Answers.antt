@@ -1,4 +1,4 @@
-use Rattle.command_line.specs.Program.{apply_command, candidate_command, check_plan_command, check_refutation_command, compare_command, debplan_app, installable_command, solve_command}
+use Rattle.command_line.specs.Program.{apply_command, batch_command, candidate_command, check_plan_command, check_refutation_command, compare_command, debplan_app, installable_command, solve_command}
 use Rattle.command_line.proofs.DeclareLemmas.{also, begun}
 use Rattle.command_line.proofs.declare.program.Goals as goal
 
@@ -12,4 +12,5 @@ returns c =
     let four = also check_plan_command _ _ _ _ three c.in_ok-check_plan.ensures c.in_ok-with_plan.ensures in
     let five = also check_refutation_command _ _ _ _ four c.in_ok-check_refutation.ensures c.in_ok-with_refutation.ensures in
     let six = also apply_command _ _ _ _ five c.in_ok-apply.ensures c.in_ok-with_apply.ensures in
-    also installable_command _ _ _ _ six c.in_ok-installable.ensures c.in_ok-whole.ensures
+    let seven = also installable_command _ _ _ _ six c.in_ok-installable.ensures c.in_ok-with_installable.ensures in
+    also batch_command _ _ _ _ seven c.in_ok-batch.ensures c.in_ok-whole.ensures

@@ -1,0 +1,51 @@
+-- The reply of what is said.
+use Rattle.std.proofs.Common.{◌≡◌, Err, Global, IfOk, List, Ok, Result, Vec, subst, ℕ}
+use Rattle.candidates.specs.Inputs.{indices_of}
+use Rattle.cli.proofs.ResultLemmas.{if_ok}
+use Rattle.cli.specs.Batch.{IsRefusedReply, IsReplyOf, IsReplyWhere, with_id}
+use Rattle.cli.specs.Members.{AreBeside}
+use Rattle.documents.specs.Document.{IsLineOf, object_with}
+use Rattle.inputs.proofs.ReadAsLemmas.{read-asking}
+use Rattle.inputs.specs.ReadAs.{AreReadAs, asking, start_of}
+use Rattle.inputs.specs.Texts.{Texts}
+use Rattle.inputs.specs.declared.before.Before.{Before}
+use Rattle.inputs.specs.declared.refusal.Refusal.{Refusal}
+use Rattle.serde_json.specs.Data.{Data, Members}
+
+-- what is read before a request is read so with another request
+pub read_before : (texts : Texts) (before : Before) (request : List ℕ) → AreReadAs texts before → AreReadAs (asking request texts) before
+read_before texts before request read = record {
+  arch = read.arch;
+  read = read-asking texts request (start_of before) (indices_of before.indices.now) before.prefs.now read.read;
+  status_is = read.status_is;
+  named = record {
+    sources = read.named.sources;
+    sources_are = read.named.sources_are;
+    files_are = read.named.files_are;
+  };
+}
+
+-- a document of these members beside others, and of the value, is such a reply
+pub reply_beside : {E : Type 0} (id : Data) (text : List ℕ) (with_these : Members → Members) (all : Members) (r : Result (Vec ℕ Global) E)
+    → AreBeside with_these all → IfOk r (λ reply. IsLineOf (object_with text (with_id id all)) reply.items)
+    → IfOk r (λ reply. IsReplyOf id text with_these reply.items)
+reply_beside id text with_these all r beside made =
+    if_ok r (λ reply. IsLineOf (object_with text (with_id id all)) reply.items) (λ reply. IsReplyOf id text with_these reply.items)
+    (λ reply is. (beside.0, subst (λ (ms : Members). IsLineOf (object_with text (with_id id ms)) reply.items) beside.1 is)) made
+
+module _ {A E : Type 0} (id : Data) (Says : Result A Refusal → Type 0) (text_of : A → List ℕ) (with_answer : A → Members → Members) where
+  -- the reply of an answer that is said
+  pub replied_ok : (said : Result A Refusal) (answer : A) (r : Result (Vec ℕ Global) E) → said ≡ Ok answer → Says said
+      → IfOk r (λ reply. IsReplyOf id (text_of answer) (with_answer answer) reply.items)
+      → IfOk r (λ reply. IsReplyWhere id Says text_of with_answer reply.items)
+  replied_ok said answer r is says made =
+      if_ok r (λ reply. IsReplyOf id (text_of answer) (with_answer answer) reply.items)
+      (λ reply. IsReplyWhere id Says text_of with_answer reply.items)
+      (λ reply replies. (Ok answer, subst Says is says, replies)) made
+
+  -- the reply of a refusal that is said
+  pub replied_err : (said : Result A Refusal) (refused : Refusal) (r : Result (Vec ℕ Global) E) → said ≡ Err refused → Says said
+      → IfOk r (λ reply. IsRefusedReply id reply.items) → IfOk r (λ reply. IsReplyWhere id Says text_of with_answer reply.items)
+  replied_err said refused r is says made =
+      if_ok r (λ reply. IsRefusedReply id reply.items) (λ reply. IsReplyWhere id Says text_of with_answer reply.items)
+      (λ reply replies. (Err refused, subst Says is says, replies)) made

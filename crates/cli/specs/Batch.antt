@@ -1,0 +1,100 @@
+-- Questions that are answered one after the other over one reading (docs/FORMATS.md, "Many questions").
+use Rattle.std.specs.Prelude.{◌≡◌, ◌⊎◌, ℕ, List, Option, None, Some, Result, Ok, Err, codes}
+use Rattle.std.specs.Option.{unwrap_or}
+use Rattle.candidates.specs.Offer.{Offer}
+use Rattle.cli.specs.Members.{with_answered, with_candidates, with_kept, with_plan, with_refutation}
+use Rattle.cli_engine.specs.Answer.{IsSaidOfNames}
+use Rattle.cli_engine.specs.Meaning.{IsSaid}
+use Rattle.cli_engine.specs.Refuted.{IsSaidOf}
+use Rattle.cli_engine.specs.Solution.{IsSaidOfRequest}
+use Rattle.cli_engine.specs.declared.check.JudgedPlan.{JudgedPlan}
+use Rattle.cli_engine.specs.declared.check_refutation.JudgedRefutation.{JudgedRefutation}
+use Rattle.cli_engine.specs.declared.solve.Answered.{Answered}
+use Rattle.conversation.specs.Conversation.{AreHeard}
+use Rattle.conversation.specs.declared.ended.Ended.{Ended}
+use Rattle.documents.specs.Document.{IsLineOf, object_with, refused_with}
+use Rattle.inputs.specs.Before.{IsRefusalBefore}
+use Rattle.inputs.specs.ReadAs.{asking}
+use Rattle.inputs.specs.Texts.{Found, Texts}
+use Rattle.inputs.specs.declared.refusal.Refusal.{Refusal}
+use Rattle.keep_back.specs.KeptBack.{IsSaidOfKept}
+use Rattle.keep_back.specs.declared.keep_back.KeptBack.{KeptBack}
+use Rattle.outcomes.specs.Answer.{candidate_lines, refutation_line, solved_text, verdict_line}
+use Rattle.outcomes.specs.Exit.{exit_of_ended}
+use Rattle.outcomes.specs.Outcome.{IsOutcomeOfRefusal}
+use Rattle.outcomes.specs.declared.exit.Exit.TheVariants as exit
+use Rattle.outcomes.specs.declared.outcome.Outcome.{Outcome}
+use Rattle.outcomes.specs.declared.outcome.Outcome.TheVariants as outcome
+use Rattle.questions.specs.Question as ask
+use Rattle.questions.specs.Question.{Asks, Question, question_in}
+use Rattle.serde_json.specs.Data.{Data, Members, no_members, null, put}
+
+-- The reply to a question
+
+-- the members with the value by which an answer is told from others
+abbrev pub with_id : Data → Members → Members
+with_id id others = put (codes "id") id others
+
+-- the reply is the document of this text with these members beside others, and with the value
+abbrev pub IsReplyOf : Data → List ℕ → (Members → Members) → List ℕ → Type 0
+IsReplyOf id text with_these reply = (others : Members) × IsLineOf (object_with text (with_id id (with_these others))) reply
+
+-- the reply is the document of a refusal in some words, with the value
+abbrev pub IsRefusedReply : Data → List ℕ → Type 0
+IsRefusedReply id reply = (words : List ℕ) × IsLineOf (refused_with words (with_id id no_members)) reply
+
+-- the reply is that of what is said: the document of the answer, or of the refusal
+abbrev pub IsReplyOfSaid : {A : Type 0} → Data → (A → List ℕ) → (A → Members → Members) → Result A Refusal → List ℕ → Type 0
+IsReplyOfSaid id text_of with_answer (Ok answer) reply = IsReplyOf id (text_of answer) (with_answer answer) reply
+IsReplyOfSaid id text_of with_answer (Err refused) reply = IsRefusedReply id reply
+
+-- something is said so, and the reply is that of it
+abbrev pub IsReplyWhere : {A : Type 0} → Data → (Result A Refusal → Type 0) → (A → List ℕ) → (A → Members → Members) → List ℕ → Type 0
+IsReplyWhere {A} id Says text_of with_answer reply = (said : Result A Refusal) × Says said × IsReplyOfSaid id text_of with_answer said reply
+
+-- the reply to each question is that of what is said by the texts with its request in the place of theirs, as where it is asked alone
+abbrev pub IsReplyTo : Texts → ℕ → Data → Asks → List ℕ → Type 0
+IsReplyTo texts limit id (ask.solve request own names_pairs) reply =
+    IsReplyWhere {A = Answered} id (IsSaidOfRequest (asking request texts) (unwrap_or own limit) names_pairs) solved_text with_answered reply
+IsReplyTo texts limit id (ask.keep_back request own) reply =
+    IsReplyWhere {A = KeptBack} id (IsSaidOfKept (asking request texts) (unwrap_or own limit)) (λ kept. solved_text kept.answered) with_kept reply
+IsReplyTo texts limit id (ask.check_plan request plan) reply =
+    IsReplyWhere {A = JudgedPlan} id (IsSaid (asking request texts) (Some plan)) (λ judged. verdict_line judged.verdict) with_plan reply
+IsReplyTo texts limit id (ask.check_refutation request refutation) reply =
+    IsReplyWhere {A = JudgedRefutation} id (IsSaidOf (asking request texts) (Some refutation)) (λ judged. refutation_line judged.verdict)
+    with_refutation reply
+IsReplyTo texts limit id (ask.candidate names) reply =
+    IsReplyWhere {A = List (Option Offer)} id (IsSaidOfNames texts names) (candidate_lines names) (with_candidates names) reply
+
+-- the reply to what a line is read as: to the question, or where it is none a refusal without a value
+abbrev pub IsReplyToRead : Texts → ℕ → Option Question → List ℕ → Type 0
+IsReplyToRead texts limit None reply = IsRefusedReply null reply
+IsReplyToRead texts limit (Some question) reply = IsReplyTo texts limit question.id question.asks reply
+
+-- the reply to a line
+abbrev pub IsReplyToLine : Texts → ℕ → List ℕ → List ℕ → Type 0
+IsReplyToLine texts limit line reply = IsReplyToRead texts limit (question_in line) reply
+
+-- What is printed
+
+-- how many bytes a question may have
+abbrev pub question_bytes : ℕ
+question_bytes = 67108864
+
+-- the questions, which are there, were heard: what was said in reply is printed, with the status of how that ended
+pub record IsOutcomeOfReplies (texts : Texts) (limit : ℕ) (questions : Found) (found : Outcome) : Type 0 where
+  pub text : List ℕ
+  pub said : List ℕ
+  pub how : Ended
+  pub there : questions ≡ Some text
+  pub heard : AreHeard question_bytes (IsReplyToLine texts limit) (Some text) said how
+  pub printed : found ≡ outcome.Answer said (exit_of_ended how)
+
+-- the questions can't be read
+abbrev pub IsOutcomeOfUnread : Found → Outcome → Type 0
+IsOutcomeOfUnread questions found = (questions ≡ None) × (found ≡ outcome.Complaint (codes "debplan: questions: E5 Read\n") exit.Device)
+
+-- the outcome is that of the replies; or nothing is answered, since the questions can't be read, or for the first refusal before a request
+abbrev pub IsOutcomeOfBatch : Texts → ℕ → Found → Outcome → Type 0
+IsOutcomeOfBatch texts limit questions found = IsOutcomeOfReplies texts limit questions found ⊎ IsOutcomeOfUnread questions found
+    ⊎ ((refused : Refusal) × IsRefusalBefore texts refused × IsOutcomeOfRefusal refused found)

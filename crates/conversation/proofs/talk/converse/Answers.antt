@@ -1,0 +1,24 @@
+-- The conversation goes on line by line, and what is heard and said at its end stands behind the rest.
+use Rattle.std.proofs.Common.{◌∙◌, refl}
+use Rattle.conversation.proofs.ConversationLemmas.{ends_behind, so_far_more, so_far_none}
+use Rattle.text_lines.specs.Lines.{left_of}
+use Rattle.conversation.proofs.talk.converse.Goals as goal
+
+pub loop-number-init : goal.loop-number-init
+loop-number-init g c = (
+  so_far_none (g.R.Replier.replies c.args.replier.now) (left_of g.T.Source.left c.args.talk.now.lines)
+      (g.W.Write.contents c.args.talk.now.out.now),
+  refl,
+)
+
+pub loop-number-preserved : goal.loop-number-preserved
+loop-number-preserved g c = (
+  so_far_more (g.R.Replier.replies c.args.replier.now) c.loop-number.invariant.0 c.in_default.ensures.turned,
+  c.turn.ensures.held ∙ c.loop-number.invariant.1,
+)
+
+pub returns-in-Some-clause-answered : goal.returns-in-Some-clause-answered
+returns-in-Some-clause-answered g c = ends_behind (g.R.Replier.replies c.args.replier.now) c.args.most
+    (left_of g.T.Source.left c.args.talk.now.lines) (left_of g.T.Source.left c.loop-number.talk.lines)
+    (g.W.Write.contents c.args.talk.now.out.now) (g.W.Write.contents c.loop-number.talk.out.now) (g.W.Write.contents c.turn.new.talk.out.now)
+    c.in-Some.ended c.loop-number.invariant.0 c.in-Some.ensures.turned

@@ -1,0 +1,4 @@
+pub mod Member
+pub mod Asked
+pub mod Question
+pub mod Refused
