@@ -4,8 +4,7 @@
 drawn at random but the same in each run. DIR is what tools/collect-inputs wrote on this machine, PROGRAM is debplan.
 
 A row has the packages that are new, upgraded and removed, those of apt, how many of both are the same in name and version, the names
-that are changed by one of the two alone, how many calls of debplan it took, the seconds of a processor, and how many Recommends came
-and were left out. Each plan has to be judged `yes` for its request, and the last line counts the rows.
+that are changed by one of the two alone, the seconds of a processor with the reading, and how many Recommends came and were left out. Each plan has to be judged `yes` for its request, and the last line counts the rows.
 Exit status: 0, 1 where a plan isn't judged yes, 2 for wrong words."""
 import os
 import pathlib
@@ -20,6 +19,7 @@ HERE = pathlib.Path(__file__).resolve().parent
 sys.dont_write_bytecode = True
 sys.path.insert(0, str(HERE.parent / "tools"))
 import common
+import debplan
 import recommending
 
 INST = re.compile(r"^Inst (\S+?)(?::\S+)? (?:\[\S+\] )?\((\S+) ", re.MULTILINE)
@@ -37,11 +37,7 @@ class Bench:
     def __init__(self, folder, room):
         self.inputs, self.room = common.Inputs(folder), room
         self.before = common.Database(self.inputs.path("status"))
-        self.calls, self.faults, self.same, self.rows = 0, 0, 0, 0
-
-    def ask(self, text):
-        self.calls += 1
-        return self.inputs.asks("solve", "--format", "json", text=text)
+        self.faults, self.same, self.rows = 0, 0, 0
 
     def of_apt(self, name):
         """What apt changes, as names with their new version, or None of those that are removed; nothing where it refuses."""
@@ -52,19 +48,18 @@ class Bench:
         return None if run.returncode else {**dict(INST.findall(run.stdout)), **dict.fromkeys(REMV.findall(run.stdout))}
 
     def of_debplan(self, name):
-        """The request with what is recommended, and what its plan changes; nothing where it is refuted."""
-        request = f"install {name}\n"
-        document = common.document_of(self.ask(request))
-        if not document or document["answer"] != "plan":
+        """The plan with what is recommended, and what it changes; nothing where the request is refuted."""
+        with self.inputs.resolver() as resolver:
+            plan = resolver.solve(f"install {name}", recommends=True)
+        if not isinstance(plan, debplan.Plan):
             return None, None
-        found = recommending.Recommending(self.inputs, request, document, self.ask)
-        found.extend()
-        return found, {**found.end.changes.unpacked, **dict.fromkeys(it.name for it in found.end.changes.removed)}
+        changed = {step.name: step.version for step in plan.steps if isinstance(step, debplan.Unpack)}
+        removed = (step.name for step in plan.steps if isinstance(step, (debplan.Remove, debplan.Purge)))
+        return plan, {**dict.fromkeys(it for it in removed if self.before.version(it)), **changed}
 
-    def is_judged(self, found):
-        plan = pathlib.Path(self.room, "plan")
-        plan.write_text(found.document["text"], encoding="utf-8")
-        return self.inputs.asks("check-plan", str(plan), text=found.text()).stdout == "yes\n"
+    def is_judged(self, plan):
+        with self.inputs.resolver() as resolver:
+            return resolver.check_plan(plan.request, plan).is_good
 
     def counts(self, changed):
         """New, upgraded and removed packages."""
@@ -75,16 +70,16 @@ class Bench:
         return f"{new}/{len(changed) - new - removed}/{removed}"
 
     def row(self, name):
-        self.calls, began = 0, seconds()
+        began = seconds()
         found, ours = self.of_debplan(name)
-        took, calls, theirs = seconds() - began, self.calls, self.of_apt(name)
+        took, theirs = seconds() - began, self.of_apt(name)
         if found and not self.is_judged(found):
             self.faults += 1
         both = (ours or {}).items() & (theirs or {}).items()
         alone = [listed(sorted(it[0] for it in (one or {}).items() - both)) for one in (ours, theirs)]
         self.rows, self.same = self.rows + 1, self.same + (ours == theirs)
-        told = found.told() if found else {"came": [], "left_out": []}
-        cells = [f"`install {name}`", self.counts(ours), self.counts(theirs), f"{len(both)}", *alone, f"{calls}", f"{took:.1f} s",
+        told = recommending.members_of(found) if found else {"came": [], "left_out": []}
+        cells = [f"`install {name}`", self.counts(ours), self.counts(theirs), f"{len(both)}", *alone, f"{took:.1f} s",
                  f"{len(told['came'])}, {len(told['left_out'])}"]
         print("| " + " | ".join(cells) + " |", flush=True)
         for line in recommending.lines_on({**told, "came": []}):
@@ -113,8 +108,8 @@ def main(words):
     folder, os.environ["DEBPLAN"], *names = words
     with tempfile.TemporaryDirectory() as room:
         bench = Bench(folder, room)
-        print("| Request | Changes | apt's | The same | debplan's alone | apt's alone | Calls | Time | Came, left out |")
-        print("|---|---|---|---|---|---|---|---|---|")
+        print("| Request | Changes | apt's | The same | debplan's alone | apt's alone | Time | Came, left out |")
+        print("|---|---|---|---|---|---|---|---|")
         for name in names_of(names, bench):
             bench.row(name)
     print(f"{bench.rows} rows, {bench.same} as apt, {bench.faults} plans not judged yes")

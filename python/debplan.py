@@ -9,9 +9,10 @@
     else:
         print("\\n".join(answer.reasons))                # why not, in sentences
 
-Nothing is solved or judged here: each answer is the program's own, which is called for it, and whose JSON (docs/FORMATS.md, section 19)
-is read into frozen dataclasses. What is proved of the program's answers is proved of the `text` of these, for the inputs as they were
-read; that this module reads the JSON as it should is tested. `reasons` are sentences, whose words aren't promised.
+Nothing is solved or judged here: each answer is the program's own, whose JSON (docs/FORMATS.md, section 19) is read into frozen
+dataclasses. A process of `debplan batch` reads the inputs at the first question and answers it and those behind it; what it can't
+answer, as `installable`, is a call of its own. What is proved of the program's answers is proved of the `text` of these, for the inputs
+as they were read; that this module reads the JSON as it should is tested. `reasons` are sentences, whose words aren't promised.
 
 Names and versions are texts as Debian has them, sizes are bytes, and lines, steps and goals are counted from 1. What the program
 refuses is `Refused`, and where it is missing or gives no answer that is `Failed`; both are an `Error`. Needs Python 3.9, and the
@@ -19,21 +20,29 @@ program: named by `program` or in the environment as DEBPLAN, that of the reposi
 from __future__ import annotations
 
 import contextlib
+import dataclasses
+import functools
+import importlib
 import json
 import os
 import pathlib
 import re
+import select
+import selectors
 import shutil
 import subprocess
+import sys
 import tempfile
+import threading
+import weakref
 from dataclasses import dataclass
 from types import TracebackType
 from typing import IO, Any, Callable, ClassVar, Dict, Generator, Iterable, Iterator, List, Optional, Tuple, Type, TypeVar, Union
 
 __all__ = ["Answer", "BrokenPackage", "Candidate", "Candidates", "Configure", "Deconfigure", "Derived", "EndReason", "Error", "Failed",
            "Goals", "Line", "Literal", "PackageAnswer", "PackageCounts", "Pair", "Path", "Plan", "PlanVerdict", "Premise", "Purge",
-           "Refutation", "RefutationVerdict", "Refused", "Remove", "Resolver", "Rule", "Step", "StepCounts", "Undecided",
-           "UndecidedPackage", "Unpack", "compare"]
+           "Recommended", "Refutation", "RefutationVerdict", "Refused", "Remove", "Resolver", "Rule", "Step", "StepCounts",
+           "Undecided", "UndecidedPackage", "Unpack", "compare"]
 
 Path = Union[str, "os.PathLike[str]"]
 # The goals of a request: each a text, or one text with a goal a line.
@@ -41,9 +50,14 @@ Goals = Union[str, Iterable[str]]
 _Document = Dict[str, Any]
 _Read = TypeVar("_Read")
 
-_REFUSAL = re.compile(r"debplan: (.+): (E\d+) ([A-Z]\w*)(?: (.*))?")
+_REFUSED = re.compile(r"(.+): (E\d+) ([A-Z]\w*)(?: (.*))?")
+_REFUSAL = re.compile(f"debplan: {_REFUSED.pattern}")
 _TOP = pathlib.Path(__file__).resolve().parent.parent
 _LEFT_OUT = "pins-left-out"
+# How many bytes a question to `debplan batch` may have (docs/FORMATS.md, section 20), of which some are left for its newline.
+_QUESTION_BYTES = 67_108_864 - 16
+# How long a process that broke off has to end by itself, in seconds.
+_SECONDS_TO_END = 5
 
 
 # Errors
@@ -59,7 +73,8 @@ class Refused(Error):
     `file` says which text: `request`, `status`, `sources`, `preferences`, `index K` (counted from 1), `plan`, `refutation`, `version 1`
     or `version 2`, or `memory`. `code` is `E16`, `word` is `BadRequest`, and `place` is what stands behind them, which may be nothing:
     a line, a line and an offset, a name .. `number` is the number at its beginning, or None: a line, but of `installable` with E17 the
-    number of the name. `reasons` are sentences on it, which may be none.
+    number of the name. `reasons` are sentences on it, which may be none; they are asked for when they are first looked at, by a call of
+    the program that reads the inputs anew, and there are none where it doesn't refuse the same by then.
 
         try:
             resolver.solve("install nowhere")
@@ -68,9 +83,16 @@ class Refused(Error):
                 print("no index has a package of goal", refused.number)
     """
 
-    def __init__(self, file: str, code: str, word: str, place: str = "", reasons: Iterable[str] = ()) -> None:
+    def __init__(self, file: str, code: str, word: str, place: str = "",
+                 reasons: Union[Iterable[str], Callable[[], Iterable[str]]] = ()) -> None:
         super().__init__(file, code, word, place)
-        self.file, self.code, self.word, self.place, self.reasons = file, code, word, place, tuple(reasons)
+        self.file, self.code, self.word, self.place, self._reasons = file, code, word, place, reasons
+
+    @property
+    def reasons(self) -> Tuple[str, ...]:
+        """The sentences on it."""
+        self._reasons = tuple(self._reasons() if callable(self._reasons) else self._reasons)
+        return self._reasons
 
     @property
     def number(self) -> Optional[int]:
@@ -83,9 +105,9 @@ class Refused(Error):
 
 
 class Failed(Error):
-    """There is no program, it refuses the words of its call (as a limit below 0), or it broke off without an answer.
+    """There is no program, it refuses the words of its call or a question (as a limit below 0), or it broke off without an answer.
 
-    `status` is its exit status, below 0 the number of the signal that ended it, and None where it wasn't run."""
+    `status` is its exit status, below 0 the number of the signal that ended it, and None where it wasn't run or didn't end."""
 
     def __init__(self, why: str, status: Optional[int] = None) -> None:
         super().__init__(why)
@@ -114,7 +136,8 @@ class _OfOne:
 @dataclass(frozen=True)
 class Unpack(_OfOne):
     """A version is unpacked: `unpack NAME VERSION`. `filename`, `size` (in bytes) and `sha256` (hexadecimal digits) are what the index
-    says of the archive, each None where it doesn't. The filename is below the URI of the archive that the index is of."""
+    says of the archive, each None where it doesn't, or where a plan was asked for without `archives=True`. The filename is below the
+    URI of the archive that the index is of."""
 
     version: str
     filename: Optional[str] = None
@@ -244,11 +267,28 @@ class Answer:
 
 
 @dataclass(frozen=True)
+class Recommended:
+    """A clause that a new package recommends (Policy 7.2). `by` is the name of the package, and `relation` the clause. Of one that came
+    `goals` are the lines of the request by which it did, and `why` is None; of one that nothing meets there are no goals, and `why`
+    says why it was left out, in words that aren't promised."""
+
+    by: str
+    relation: str
+    goals: Tuple[str, ...] = ()
+    why: Optional[str] = None
+
+
+@dataclass(frozen=True)
 class Plan(Answer):
-    """A plan: steps each of which is legal by Debian Policy when its turn comes, and whose end fulfils the request."""
+    """A plan: steps each of which is legal by Debian Policy when its turn comes, and whose end fulfils the request.
+
+    `came` and `left_out` are what new packages recommend, where that was asked for: what the request has goals for, and what nothing
+    meets of what the plan leaves installed."""
 
     steps: Tuple[Step, ...]
     counts: StepCounts
+    came: Tuple[Recommended, ...] = ()
+    left_out: Tuple[Recommended, ...] = ()
 
 
 @dataclass(frozen=True)
@@ -500,12 +540,10 @@ class _Question:
 
 
 class _Calls:
-    """Questions that are asked by a call of the program for each, which reads its inputs anew. `documents` is what the rest of this
-    module knows of how the program is reached."""
+    """Questions that are asked by a call of the program for each, which reads its inputs anew."""
 
-    def __init__(self, program: Optional[Path], folder: Optional[Path], inputs: Iterable[str]) -> None:
-        self._program, self._inputs = _program(program), tuple(inputs)
-        self._folder = None if folder is None else os.path.abspath(folder)
+    def __init__(self, program: str, folder: Optional[str], inputs: Tuple[str, ...]) -> None:
+        self._program, self._folder, self._inputs = program, folder, inputs
 
     def documents(self, question: _Question) -> Generator[_Document, None, None]:
         """The documents that answer a question, as they are written. Raises Refused and Failed."""
@@ -517,7 +555,7 @@ class _Calls:
             judged = [stack.enter_context(_file_with(question.judged)).name] if question.judged is not None else []
             words += ["--", *judged, *question.names] if judged or question.names else []
             given, said = stack.enter_context(_file_with(question.request or "")), stack.enter_context(tempfile.TemporaryFile())
-            run = _started(words, self._folder, given.fileno(), said.fileno())
+            run = _started(words, self._folder, given, said)
             stack.callback(_end, run)
             is_whole = False
             for document in map(_read, run.stdout or ()):
@@ -527,11 +565,156 @@ class _Calls:
                 yield document
             status = _status_of(run)
             if status not in (0, 1, 2) or not is_whole:
-                said.seek(0)
-                raise _error_of(self._program, status, said.read().decode("utf-8", "replace"))
+                raise _error_of(self._program, status, _text_from(said, 0))
+
+    def document(self, question: _Question) -> _Document:
+        """The one document that answers a question."""
+        *others, document = self.documents(question)
+        if others:
+            raise Failed("debplan gave more than one answer")
+        return document
+
+    def sentences(self, question: _Question, refusal: str) -> Tuple[str, ...]:
+        """What is said of a refusal of this question, where it is refused so."""
+        try:
+            self.document(question)
+        except Refused as refused:
+            return refused.reasons if str(refused) == refusal else ()
+        except Failed:
+            pass
+        return ()
+
+
+class _Process:
+    """A process of `debplan batch`, which answers each line that is written to it by a line."""
+
+    def __init__(self, program: str, folder: Optional[str], inputs: Tuple[str, ...]) -> None:
+        self._program, self._said, self._before = program, tempfile.TemporaryFile(), 0
+        self._run = _started([program, "batch", *inputs], folder, subprocess.PIPE, self._said)
+        # Where nobody closes it, it ends when it is forgotten, or with this process.
+        self.end = weakref.finalize(self, _end, self._run)
+
+    def has_ended(self) -> bool:
+        """Whether it answers no more."""
+        return self._run.poll() is not None
+
+    def reply(self, line: bytes) -> bytes:
+        """What it writes in answer to a line: a line, or the beginning of one where it breaks off. It is read while the question is
+        written, so that neither waits for the other."""
+        given, told, left, found = self._run.stdin, self._run.stdout, line, bytearray()
+        assert given and told
+        self._before = os.fstat(self._said.fileno()).st_size
+        with selectors.DefaultSelector() as ready:
+            ready.register(given, selectors.EVENT_WRITE)
+            ready.register(told, selectors.EVENT_READ)
+            while left or not found.endswith(b"\n"):
+                for key, _ in ready.select():
+                    if key.fileobj is given:
+                        left = _left_of(left, given)
+                        if not left:
+                            ready.unregister(given)
+                        continue
+                    part = os.read(told.fileno(), 65_536)
+                    found += part
+                    if not part:
+                        return bytes(found)
+        return bytes(found)
+
+    def error(self) -> Error:
+        """Why it broke off: a refusal, or that it failed, with what it said since the question, or else at last."""
+        status = _status_of(self._run, _SECONDS_TO_END)
+        said = _text_from(self._said, self._before)
+        return _error_of(self._program, status, said if said.strip() else "".join(_text_from(self._said, 0).splitlines()[-1:]))
+
+
+class _Batch:
+    """Questions that are asked of one process, which is started for the first of them, and again where it has ended. Threads wait for
+    each other."""
+
+    def __init__(self, program: Optional[Path], folder: Optional[Path], inputs: Iterable[str]) -> None:
+        self._how = _program(program), None if folder is None else os.path.abspath(folder), tuple(inputs)
+        self.calls, self._lock, self._asked = _Calls(*self._how), threading.Lock(), 0
+        self._process: Optional[_Process] = None
+
+    def document(self, question: _Question) -> _Document:
+        """The document that answers a question. Raises Refused and Failed."""
+        line = _line_with(question)
+        if line is None:
+            return self.calls.document(question)
+        with self._lock:
+            try:
+                reply = self._reply_to(line)
+            except Refused as refused:
+                raise self._explained(refused, question) from None
+        if "refused" in reply:
+            raise self._explained(self._refusal_in(reply), question)
+        return reply
+
+    def _reply_to(self, line: bytes) -> _Document:
+        """The reply to a question, which gets a number. Where there is none the process is ended, also where this is interrupted: what
+        it would still say belongs to no other question."""
+        process = self._process
+        if process is None or process.has_ended():
+            self.close()
+            process = self._process = _Process(*self._how)
+        self._asked += 1
+        try:
+            reply = _read(process.reply(b'{"id":%d,%s\n' % (self._asked, line[1:])))
+            is_no_question = reply is not None and reply.get("id", 0) is None and "refused" in reply
+            if reply is None or not is_no_question and reply.get("id") != self._asked:
+                raise process.error()
+        except BaseException:
+            self.close()
+            raise
+        return reply
+
+    def _refusal_in(self, reply: _Document) -> Error:
+        """What a reply without an answer raises."""
+        refusal = _REFUSED.fullmatch(reply["refused"]) if isinstance(reply["refused"], str) else None
+        if reply["id"] is None or not refusal:
+            return Failed(f"{self._how[0]} refuses the question: {reply['refused']}")
+        file, code, word, place = refusal.groups()
+        return Refused(file, code, word, place or "")
+
+    def _explained(self, error: Error, question: _Question) -> Error:
+        """An error, of which the sentences are asked for when they are wanted."""
+        if not isinstance(error, Refused):
+            return error
+        return Refused(error.file, error.code, error.word, error.place, functools.partial(self.calls.sentences, question, str(error)))
 
     def close(self) -> None:
-        """Gives back what is held, which is nothing between two calls."""
+        """Ends the process."""
+        if self._process is not None:
+            self._process.end()
+        self._process = None
+
+
+def _line_with(question: _Question) -> Optional[bytes]:
+    """A question as a line of `debplan batch` has it, but for its number; None where no line can have it, for its length or since a text
+    isn't UTF-8."""
+    members: _Document = {"ask": question.command}
+    if question.request is not None:
+        members["goals"] = [question.request[:-1]] if question.request else []
+    if question.judged is not None:
+        members[question.command.partition("-")[2]] = question.judged
+    if question.names:
+        members["names"] = question.names
+    if question.limit is not None:
+        members["limit"] = question.limit
+    members.update({flag.replace("-", "_"): True for flag in question.flags})
+    try:
+        line = json.dumps(members, ensure_ascii=False, separators=(",", ":")).encode("utf-8")
+    except UnicodeEncodeError:
+        return None
+    return line if len(line) + 32 <= _QUESTION_BYTES else None
+
+
+def _left_of(line: bytes, given: IO[bytes]) -> bytes:
+    """What is left of a line where as much is written of it as there is room for; nothing where nobody reads it any more."""
+    try:
+        return line[os.write(given.fileno(), line[:select.PIPE_BUF]):]
+    except BrokenPipeError:
+        return b""
 
 
 @contextlib.contextmanager
@@ -543,25 +726,38 @@ def _file_with(text: str) -> Iterator[IO[bytes]]:
         yield file
 
 
-def _started(words: List[str], folder: Optional[Path], given: int, said: int) -> "subprocess.Popen[bytes]":
+def _started(words: List[str], folder: Optional[str], given: Union[int, IO[bytes]], said: IO[bytes]) -> "subprocess.Popen[bytes]":
+    """A process of the program, whose standard output is read, and whose standard error is written into a file."""
     try:
-        return subprocess.Popen(words, cwd=folder, stdin=given, stdout=subprocess.PIPE, stderr=said)
+        return subprocess.Popen(words, cwd=folder, stdin=given, stdout=subprocess.PIPE, stderr=said,
+                                bufsize=0 if given == subprocess.PIPE else -1)
     except OSError as error:
         raise Failed(f"{error.filename or words[0]}: {error.strerror}") from None
 
 
-def _status_of(run: "subprocess.Popen[bytes]") -> int:
-    """The exit status of a call, of which no more is read."""
-    if run.stdout:
-        run.stdout.close()
-    return run.wait()
+def _status_of(run: "subprocess.Popen[bytes]", seconds: Optional[float] = None) -> int:
+    """The exit status of a process, to which no more is written and of which no more is read. With a number of seconds it is ended behind
+    these."""
+    for pipe in (run.stdin, run.stdout):
+        if pipe:
+            pipe.close()
+    try:
+        return run.wait(seconds)
+    except subprocess.TimeoutExpired:
+        run.kill()
+        return run.wait()
 
 
 def _end(run: "subprocess.Popen[bytes]") -> None:
-    """Ends a call, also one whose answer nobody waits for."""
+    """Ends a process, also one whose answer nobody waits for."""
     if run.poll() is None:
         run.kill()
     _status_of(run)
+
+
+def _text_from(file: IO[bytes], start: int) -> str:
+    """The text of a file from a byte on. The place at which a process writes it stays."""
+    return os.pread(file.fileno(), os.fstat(file.fileno()).st_size, start).decode("utf-8", "replace")
 
 
 def _read(line: bytes) -> Optional[_Document]:
@@ -612,15 +808,40 @@ def compare(version: str, relation: str, other: str, program: Optional[Path] = N
     return run.returncode == 0
 
 
+# The tools
+
+
+def _tool(name: str, purpose: str) -> pathlib.Path:
+    """The path of a tool, of the repository or of the Debian package."""
+    for folder in (_TOP / "tools", pathlib.Path("/usr/lib/debplan")):
+        if (folder / name).is_file():
+            return folder / name
+    raise Failed(f"{name} is missing, by which {purpose}")
+
+
+@functools.lru_cache(maxsize=None)
+def _recommending() -> Any:
+    """The module of the tools that decides what is asked for with Recommends. It and those that it imports may have the names of other
+    modules of the caller, so they are imported beside these."""
+    folder = str(_tool("recommending.py", "what is recommended is asked for").parent)
+    names = ("changes", "common", "exchange", "recommending")
+    others = {name: sys.modules.pop(name) for name in names if name in sys.modules}
+    path, sys.path[:] = sys.path[:], [folder, *sys.path]
+    try:
+        return importlib.import_module("recommending")
+    finally:
+        sys.path[:] = path
+        for name in names:
+            sys.modules.pop(name, None)
+        sys.modules.update(others)
+
+
 # The inputs of a machine
 
 
 def _collector() -> str:
-    """The path of collect-inputs, of the repository or of the Debian package."""
-    for path in (_TOP / "tools" / "collect-inputs", pathlib.Path("/usr/lib/debplan/collect-inputs")):
-        if path.is_file():
-            return str(path)
-    raise Failed("collect-inputs is missing, by which the inputs of a machine are collected")
+    """The path of collect-inputs."""
+    return str(_tool("collect-inputs", "the inputs of a machine are collected"))
 
 
 def _said_by(words: List[str], env: Optional[Dict[str, str]] = None) -> Tuple[int, str, str]:
@@ -672,18 +893,24 @@ class Resolver:
     folder       where these paths, and those in the sources file, begin; without it in the folder of the process
     program      the program, in place of the one that is found (see the head of this module)
 
+    The inputs are read at the first question, by a process that answers it and those behind it, so these take milliseconds. It lives
+    as long as the Resolver, and is started anew where it has ended. Threads may ask one Resolver: they wait for each other.
+
     A Resolver is open from the beginning to `close()`, or to the end of a `with`; asked behind that it raises ValueError. What is
     answered where an input changes while it is open isn't promised: then open another one. Every question raises Refused where an
     input is refused, and Failed where the program gives no answer; afterwards the next one can be asked."""
 
     def __init__(self, *, arch: str, sources: Path, status: Optional[Path] = None, preferences: Optional[Path] = None,
                  target: Optional[str] = None, folder: Optional[Path] = None, program: Optional[Path] = None) -> None:
-        inputs = {"arch": arch, "status": os.devnull if status is None else os.fspath(status), "sources": os.fspath(sources),
+        self._arch, self._folder = arch, pathlib.Path(folder or "")
+        self._status, self._sources = os.devnull if status is None else os.fspath(status), os.fspath(sources)
+        inputs = {"arch": arch, "status": self._status, "sources": self._sources,
                   "preferences": None if preferences is None else os.fspath(preferences), "target": target}
         words = [f"--{name}={value}" for name, value in inputs.items() if value is not None]
-        self._calls: Optional[_Calls] = _Calls(program, folder, words)
+        self._batch: Optional[_Batch] = _Batch(program, folder, words)
         self._rooms = contextlib.ExitStack()
         self._left_out: Tuple[str, ...] = ()
+        self._read_world: Any = None
 
     @classmethod
     def of_folder(cls, folder: Path, *, arch: Optional[str] = None, target: Optional[str] = None,
@@ -726,9 +953,9 @@ class Resolver:
 
     def close(self) -> None:
         """Ends it. A second time that does nothing."""
-        if self._calls:
-            self._calls.close()
-        self._calls = None
+        if self._batch:
+            self._batch.close()
+        self._batch = None
         self._rooms.close()
 
     def __enter__(self) -> Resolver:
@@ -737,8 +964,8 @@ class Resolver:
     def __exit__(self, kind: Optional[Type[BaseException]], error: Optional[BaseException], trace: Optional[TracebackType]) -> None:
         self.close()
 
-    def solve(self, *goals: str, all_versions: bool = False, limit: Optional[int] = None,
-              keep_back: bool = False) -> Union[Plan, Refutation, Undecided]:
+    def solve(self, *goals: str, all_versions: bool = False, limit: Optional[int] = None, keep_back: bool = False,
+              recommends: bool = False, archives: bool = False) -> Union[Plan, Refutation, Undecided]:
         """A plan that fulfils the goals, a refutation, or Undecided.
 
         A goal is a line of a request (docs/FORMATS.md, section 8): `install NAME`, `install NAME (>= VERSION)`, `remove NAME`, `purge
@@ -749,10 +976,62 @@ class Resolver:
             answer = resolver.solve("install hello (>= 2.10)", "no-remove")
             resolver.check_plan(answer.request, answer.text)
 
+        With `recommends` what the new packages of a plan recommend is asked for too, clause by clause the first alternative with which
+        there is a plan that removes nothing more and still installs what was found, and so on with what came in: the answer's `request`
+        has the goals, and `came` and `left_out` tell what came and what didn't. Each try is a question to the same process; what is
+        asked for next is decided by the tools beside this module, or of the Debian package, and without these that is Failed.
+
+        With `archives` each unpacking of a plan has the `filename`, `size` and `sha256` of its archive, which are None without: then the
+        request is solved by a call of its own, which reads the inputs anew.
+
         Refused is of a goal `request: E16 BadRequest LINE`, and of a name that no package has `request: E17 UnknownName LINE`."""
         request = _request_of([*goals, "all-versions"] if all_versions else goals)
         question = _Question("solve", request, limit=limit, flags=_flags(keep_back=keep_back))
-        return _read_by(lambda it: _answer_of(request, it), self._document(question))
+        answer = self._answer(question, archives and not recommends)
+        if not recommends or not isinstance(answer, Plan):
+            return answer
+        found = self._with_recommended(answer, limit)
+        if not archives:
+            return found
+        # The same request has the same plan.
+        plan = self._answer(_Question("solve", found.request, limit=limit), True)
+        if plan.text != found.text or not isinstance(plan, Plan):
+            raise Failed("debplan answers the same request with another plan; has an input changed?")
+        return dataclasses.replace(found, steps=plan.steps)
+
+    def _answer(self, question: _Question, is_called: bool) -> Union[Plan, Refutation, Undecided]:
+        """The answer to a request, by a call of its own or by the process that answers many."""
+        document = self._open().calls.document(question) if is_called else self._document(question)
+        return _read_by(lambda it: _answer_of(question.request or "", it), document)
+
+    def _with_recommended(self, plan: Plan, limit: Optional[int]) -> Plan:
+        """A plan of the request of this one with what new packages recommend too."""
+        tool = _recommending()
+
+        def ask(text: str) -> _Document:
+            try:
+                return self._document(_Question("solve", text, limit=limit))
+            except Refused as refused:
+                if refused.file != "request" or refused.number is None:
+                    raise
+                raise tool.NoGoal(refused.number) from None
+
+        found = tool.Recommending(self._world(tool), plan.request, plan.text, ask)
+        found.extend()
+        came, left_out = (tuple(Recommended(it["for"], it["relation"], tuple(it.get("goals", ())), it.get("why")) for it in told)
+                          for told in (found.told()["came"], found.told()["left_out"]))
+        answer = plan if found.document is None else _read_by(lambda it: _answer_of(found.text(), it), found.document)
+        assert isinstance(answer, Plan)
+        return dataclasses.replace(answer, request=found.text(), kept_back=plan.kept_back, came=came, left_out=left_out)
+
+    def _world(self, tool: Any) -> Any:
+        """What the status file and the indices have, which is read once."""
+        if self._read_world is None:
+            try:
+                self._read_world = tool.World(self._arch, self._folder / self._status, self._folder / self._sources, self._folder)
+            except OSError as error:
+                raise Failed(f"{error.filename}: {error.strerror}") from None
+        return self._read_world
 
     def check_plan(self, goals: Goals, plan: Union[str, Plan]) -> PlanVerdict:
         """Whether a plan is good for these goals: each step is legal when its turn comes, and the end fulfils them. The goals are texts,
@@ -796,22 +1075,21 @@ class Resolver:
             for package in broken:
                 print(package.name, package.version, *package.reasons, sep="\\n  ")
 
-        The program is called when the first of them is asked for, and ended by `close()` where no more are wanted. A name that no stanza
-        of the indices has is refused as `request: E17 UnknownName N`, N its number among the names."""
+        A call of the program of its own is begun when the first of them is asked for, and ended by `close()` of what yields them where
+        no more are wanted. A name that no stanza of the indices has is refused as `request: E17 UnknownName N`, N its number among the
+        names."""
         flags = _flags(all_versions=all_versions, without_essential=without_essential)
-        return _package_answers(self._documents(_Question("installable", names=names, limit=limit, flags=flags)))
+        return _package_answers(self._open().calls.documents(_Question("installable", names=names, limit=limit, flags=flags)))
+
+    def _open(self) -> _Batch:
+        """That by which it asks, while it is open."""
+        if self._batch is None:
+            raise ValueError("the Resolver is closed")
+        return self._batch
 
     def _document(self, question: _Question) -> _Document:
-        """The one document that answers a question."""
-        *others, document = self._documents(question)
-        if others:
-            raise Failed("debplan gave more than one answer")
-        return document
-
-    def _documents(self, question: _Question) -> Generator[_Document, None, None]:
-        if self._calls is None:
-            raise ValueError("the Resolver is closed")
-        return self._calls.documents(question)
+        """The document that answers a question, by the process that answers many."""
+        return self._open().document(question)
 
 
 def _flags(**given: bool) -> Tuple[str, ...]:

@@ -6,9 +6,12 @@ What is wanted is of docs/FORMATS.md, of Policy, or counted by hand. The last li
 Exit status: 0 where all pass, 1 where one doesn't."""
 from __future__ import annotations
 
+import concurrent.futures
+import json
 import os
 import pathlib
 import shutil
+import signal
 import subprocess
 import sys
 import tempfile
@@ -45,7 +48,8 @@ def status_of(*packages: str) -> str:
 INDEX = index_of("hello 2.10-3; Depends: libc6 (>= 2.34); Filename: pool/hello_2.10-3.deb; Size: 53080; SHA256: 2e6e", "libc6 2.36-9",
                  "exim 4; Provides: mta; Conflicts: mta", "postfix 3; Provides: mta; Conflicts: mta", "a 1; Depends: b", "b 1; Depends: a",
                  "p 2; Breaks: q (<< 2)", "q 2", "r 1; Depends: s | t", "s 1; Depends: t; Conflicts: t", "t 1; Depends: s",
-                 "needy 1; Depends: nowhere", "old 1", "old 2", "wants-old 1; Depends: old (<< 2)")
+                 "needy 1; Depends: nowhere", "old 1", "old 2", "wants-old 1; Depends: old (<< 2)",
+                 "mutt 1; Recommends: mta, urlview | pager, needy; Filename: pool/mutt_1.deb", "pager 1; Recommends: hello")
 STATUS = status_of("libc6 2.36-9", "p 1", "q 1", "left 1; Status: deinstall ok config-files", "leaf 1",
                    "held 1; Status: hold ok installed", "essential 1; Essential: yes")
 FILES = {"index": INDEX, "status": STATUS, "sources": "File: index\nSuite: stable\n",
@@ -79,19 +83,36 @@ class InRoom(unittest.TestCase):
         self.addCleanup(resolver.close)
         return resolver
 
+    def script(self, text: str) -> pathlib.Path:
+        """A program of sh that stands for debplan."""
+        path = self.room / "script"
+        path.write_text(f"#!/bin/sh\n{text}\n", encoding="utf-8")
+        path.chmod(0o755)
+        return path
+
+    def assert_is_gone(self, number: int) -> None:
+        """That no process of this number is there."""
+        with self.assertRaises(ProcessLookupError):
+            os.kill(number, 0)
+
 
 @unittest.skipIf(MISSING, str(MISSING))
 class Answers(InRoom):
     """What is read of each kind of answer."""
 
-    def test_a_plan_has_its_steps_and_what_the_index_says_of_the_archive(self) -> None:
+    def test_a_plan_has_its_steps(self) -> None:
         plan = self.over().solve("install hello")
         assert isinstance(plan, debplan.Plan)
-        unpack = debplan.Unpack("hello", "2.10-3", "pool/hello_2.10-3.deb", 53080, "2e6e")
-        self.assertEqual(plan.steps, (unpack, debplan.Configure(("hello",))))
-        self.assertEqual((plan.text, plan.request, plan.kept_back), (PLAN, "install hello\n", ()))
+        self.assertEqual(plan.steps, (debplan.Unpack("hello", "2.10-3"), debplan.Configure(("hello",))))
+        self.assertEqual((plan.text, plan.request, plan.kept_back, plan.came, plan.left_out), (PLAN, "install hello\n", (), (), ()))
         self.assertEqual(plan.counts, debplan.StepCounts(unpack=1, deconfigure=0, configure=1, remove=0, purge=0))
         self.assertTrue(plan.reasons)
+
+    def test_a_step_has_what_the_index_says_of_the_archive_where_that_is_asked_for(self) -> None:
+        plan = self.over().solve("install hello", archives=True)
+        assert isinstance(plan, debplan.Plan)
+        unpack = debplan.Unpack("hello", "2.10-3", "pool/hello_2.10-3.deb", 53080, "2e6e")
+        self.assertEqual((plan.steps, plan.text), ((unpack, debplan.Configure(("hello",))), PLAN))
 
     def test_the_steps_as_texts_are_the_lines_of_the_plan(self) -> None:
         for goals in (["install a"], ["upgrade p"], ["remove p", "purge leaf"], ["install hello", "upgrade-all", "no-remove"]):
@@ -100,7 +121,7 @@ class Answers(InRoom):
             self.assertEqual("".join(f"{line}\n" for line in ("plan 1", *plan.steps)), plan.text, goals)
 
     def test_what_an_index_does_not_say_of_an_archive_is_none(self) -> None:
-        plan = self.over().solve("install exim")
+        plan = self.over().solve("install exim", archives=True)
         assert isinstance(plan, debplan.Plan)
         self.assertEqual(plan.steps[0], debplan.Unpack("exim", "4", None, None, None))
 
@@ -170,6 +191,26 @@ class Answers(InRoom):
         self.assertTrue(answer.kept_back[0].startswith("Kept back: install needy (line 2)"))
         self.assertTrue(resolver.check_plan(answer.request, answer))
         self.assertFalse(resolver.check_plan(["install hello", "install postfix"], answer))
+
+    def test_what_is_recommended_is_asked_for_and_told(self) -> None:
+        wanted = ("install mutt\ninstall exim\ninstall pager\ninstall hello\n",
+                  (debplan.Recommended("mutt", "mta", ("install exim",)),
+                   debplan.Recommended("mutt", "urlview | pager", ("install pager",)),
+                   debplan.Recommended("pager", "hello", ("install hello",))))
+        resolver = self.over()
+        for archives, filename in ((False, None), (True, "pool/mutt_1.deb")):
+            plan = resolver.solve("install mutt", recommends=True, archives=archives)
+            assert isinstance(plan, debplan.Plan)
+            self.assertEqual((plan.request, plan.came), wanted)
+            self.assertEqual([(it.by, it.relation, it.goals) for it in plan.left_out], [("mutt", "needy", ())])
+            self.assertIn("nowhere", str(plan.left_out[0].why))
+            self.assertEqual([it.filename for it in plan.steps if isinstance(it, debplan.Unpack) and it.name == "mutt"], [filename])
+            self.assertTrue(resolver.check_plan(plan.request, plan))
+        self.assertIsInstance(resolver.solve("install needy", recommends=True), debplan.Refutation)
+        self.assertEqual(getattr(resolver.solve("install a", recommends=True), "came"), ())
+        kept = resolver.solve("install mutt", "install needy", recommends=True, keep_back=True)
+        self.assertEqual((kept.request, len(kept.kept_back) > 0), (wanted[0], True))
+        self.assertNotIn("recommending", sys.modules)
 
     def test_all_versions_stands_in_the_request(self) -> None:
         resolver = self.over()
@@ -335,34 +376,161 @@ class Refusals(InRoom):
         self.assertEqual((raised.exception.code, raised.exception.word, raised.exception.number), ("E6", "BadVersion", None))
 
     def test_wrong_words_of_a_call_are_a_failure(self) -> None:
-        with self.assertRaises(debplan.Failed) as raised:
-            self.over().solve("install hello", limit=-1)
-        self.assertEqual(raised.exception.status, 4)
+        for archives, status in ((False, None), (True, 4)):
+            with self.assertRaises(debplan.Failed) as raised:
+                self.over().solve("install hello", limit=-1, archives=archives)
+            self.assertEqual(raised.exception.status, status)
         with self.assertRaises(debplan.Failed):
             debplan.compare("1", "before", "2", program=BUILT)
 
 
+@unittest.skipIf(MISSING, str(MISSING))
+class Many(InRoom):
+    """Many questions to one process."""
+
+    def counted(self, begin: str = "", **options: Any) -> debplan.Resolver:
+        """A Resolver whose processes write down their numbers, behind some lines of sh."""
+        (self.room / "numbers").write_text("")
+        return self.over(program=self.script(f'echo $$ >> numbers\n{begin}\nexec "{BUILT}" "$@"'), **options)
+
+    def numbers(self) -> List[int]:
+        return [int(it) for it in (self.room / "numbers").read_text().split()]
+
+    def test_two_hundred_questions_are_answered_by_one_process_as_by_calls(self) -> None:
+        resolver, alone = self.counted(), self.over()
+        wanted = [alone.solve("install hello", archives=True).text, alone.solve("install needy", archives=True).text,
+                  alone.solve("install hello", "install needy", keep_back=True, archives=True).text, "yes\n", "no step 1 F9 WrongState\n",
+                  "yes\n", "hello 2.10-3 500\nnowhere none\n", alone.solve("install wants-old", all_versions=True, archives=True).text]
+        refuted = resolver.solve("install needy").text
+        asks: Tuple[Callable[[], str], ...] = (
+            lambda: resolver.solve("install hello").text, lambda: resolver.solve("install needy").text,
+            lambda: resolver.solve("install hello", "install needy", keep_back=True).text,
+            lambda: resolver.check_plan("install hello", PLAN).text,
+            lambda: resolver.check_plan("install hello", "plan 1\nconfigure hello\n").text,
+            lambda: resolver.check_refutation("install needy", refuted).text, lambda: resolver.candidate("hello", "nowhere").text,
+            lambda: resolver.solve("install wants-old", all_versions=True).text)
+        for number in range(200):
+            self.assertEqual(asks[number % len(asks)](), wanted[number % len(asks)], number)
+        self.assertEqual(len(self.numbers()), 1)
+
+    def test_a_refused_question_between_two_good_ones_ends_nothing(self) -> None:
+        resolver = self.counted()
+        for question, code in (("fetch x", "E16"), ("install nobody", "E17")):
+            self.assertEqual(resolver.solve("install hello").text, PLAN)
+            with self.assertRaises(debplan.Refused) as raised:
+                resolver.solve("install hello", question)
+            self.assertEqual((raised.exception.code, raised.exception.number), (code, 2))
+            with self.assertRaises(debplan.Failed):
+                resolver.solve("install hello", limit=-1)
+            self.assertEqual(resolver.solve("install hello").text, PLAN)
+        self.assertEqual(len(self.numbers()), 1)
+
+    def test_a_process_that_was_killed_between_two_questions_is_started_again(self) -> None:
+        resolver = self.counted()
+        self.assertEqual(resolver.solve("install hello").text, PLAN)
+        os.kill(self.numbers()[0], signal.SIGKILL)
+        os.waitid(os.P_PID, self.numbers()[0], os.WEXITED | os.WNOWAIT)
+        self.assertEqual(resolver.solve("install hello").text, PLAN)
+        self.assertEqual(len(self.numbers()), 2)
+        self.assert_is_gone(self.numbers()[0])
+
+    def test_a_process_that_dies_of_a_question_fails_with_its_last_words(self) -> None:
+        resolver = self.counted('if mkdir once 2> /dev/null; then echo at first >&2; read line; echo going down >&2; kill -9 $$; fi')
+        with self.assertRaisesRegex(debplan.Failed, "ended with the status -9: (at first|going down)$") as raised:
+            resolver.solve("install hello")
+        self.assertEqual(raised.exception.status, -9)
+        self.assertEqual(resolver.solve("install hello").text, PLAN)
+        (self.room / "once").rmdir()
+
+    def test_last_words_are_those_since_the_question(self) -> None:
+        answer = '{"id":1,"answer":"undecided","why":"limit","text":"","reasons":[]}'
+        resolver = self.over(program=self.script(f"echo at first >&2; read line; echo '{answer}'; read line; echo going down >&2; exit 7"))
+        self.assertIsInstance(resolver.solve("install hello"), debplan.Undecided)
+        with self.assertRaisesRegex(debplan.Failed, "ended with the status 7: going down$"):
+            resolver.solve("install hello")
+
+    def test_refused_inputs_are_refused_at_each_question_until_they_are_mended(self) -> None:
+        resolver = self.counted(status="status-of-later")
+        for _ in range(2):
+            with self.assertRaises(debplan.Refused) as raised:
+                resolver.solve("install hello")
+            self.assertEqual(str(raised.exception), "status: E5 Read")
+        (self.room / "status-of-later").write_text(STATUS)
+        self.assertEqual(raised.exception.reasons, ())
+        self.assertEqual(resolver.solve("install hello").text, PLAN)
+        (self.room / "status-of-later").unlink()
+
+    def test_long_questions_and_replies_go_through(self) -> None:
+        resolver, names = self.counted(), [f"name-{number}" for number in range(50_000)]
+        self.assertEqual(len(resolver.candidate(*names)), 50_000)
+        verdict = resolver.check_plan("install hello", PLAN + "deconfigure leaf\n" * 100_000)
+        self.assertEqual((verdict.counts.deconfigure, verdict.step), (100_000, 4))
+        self.assertEqual(len(self.numbers()), 1)
+
+    def test_what_no_line_can_have_is_a_call_of_its_own(self) -> None:
+        resolver = self.counted()
+        with self.assertRaises(debplan.Refused) as raised:
+            resolver.solve("install hello", "install \udcff")
+        self.assertEqual(str(raised.exception), "request: E16 BadRequest 2")
+        with mock.patch.object(debplan, "_QUESTION_BYTES", 1000):
+            self.assertEqual(resolver.solve(*["install hello"] * 100).text, PLAN)
+        self.assertEqual(resolver.solve("install hello").text, PLAN)
+        self.assertEqual(len(self.numbers()), 3)
+
+    def test_threads_get_their_own_answers(self) -> None:
+        resolver, names = self.counted(), ["hello", "a", "b", "needy", "leaf"] * 20
+        with concurrent.futures.ThreadPoolExecutor(4) as pool:
+            found = list(pool.map(lambda name: resolver.candidate(name).candidates[0].name, names))
+        self.assertEqual((found, len(self.numbers())), (names, 1))
+
+    def test_a_resolver_that_is_closed_or_forgotten_leaves_no_process(self) -> None:
+        for is_closed in (True, False):
+            resolver = self.counted()
+            resolver.solve("install hello")
+            if is_closed:
+                resolver.close()
+            else:
+                self.doCleanups()
+                del resolver
+            self.assert_is_gone(self.numbers()[0])
+
+    def test_an_interrupted_question_leaves_no_process(self) -> None:
+        def interrupt(*_: object) -> None:
+            raise KeyboardInterrupt
+
+        resolver = self.counted("if mkdir once 2> /dev/null; then read line; exec sleep 600; fi")
+        before = signal.signal(signal.SIGALRM, interrupt)
+        try:
+            signal.setitimer(signal.ITIMER_REAL, 2)
+            with self.assertRaises(KeyboardInterrupt):
+                resolver.solve("install hello")
+        finally:
+            signal.setitimer(signal.ITIMER_REAL, 0)
+            signal.signal(signal.SIGALRM, before)
+        for number in self.numbers():
+            self.assert_is_gone(number)
+        (self.room / "once").mkdir(exist_ok=True)
+        self.assertEqual(resolver.solve("install hello").text, PLAN)
+        (self.room / "once").rmdir()
+
+
 # A program that goes wrong, as a script of sh, and what it is asked.
 WRONG = {
-    "killed": ("kill -9 $$", -9), "killed in the middle": ("printf '{\"answer\":\"plan\",'; kill -9 $$", -9),
+    "killed": ("kill -9 $$", -9), "killed in the middle": ("printf '{\"id\":1,\"answer\":\"plan\",'; kill -9 $$", -9),
     "silent": ("exit 0", 0), "no JSON": ("echo plan 1", 0), "another JSON": ("echo '[]'", 0), "no newline": ("printf '{}'", 0),
-    "failing behind its answer": ("echo '{\"answer\":\"undecided\",\"why\":\"limit\",\"text\":\"\"}'; exit 9", 9),
+    "an answer to no question": ("echo '{\"answer\":\"undecided\",\"why\":\"limit\",\"text\":\"\"}'; exit 9", 9),
+    "the answer to another question": ("echo '{\"id\":2,\"answer\":\"undecided\",\"why\":\"limit\",\"text\":\"\"}'; exit 9", 9),
+    "two answers": ("printf '{\"id\":1}\\n{\"id\":1}\\n'; exit 8", 8), "a refusal of no question": ("echo '{\"refused\":\"x\"}'", 0),
 }
-OTHER_FORMS = ("{}", '{"answer":"maybe","text":"x"}', '{"answer":"plan","text":"x","steps":[{"action":"fetch","name":"x"}],"counts":{}}',
-               '{"answer":"plan","text":"x","steps":[{"action":"unpack"}],"counts":{}}', '{"answer":"refuted","text":"x","lines":[7]}',
-               '{"answer":"plan","text":"x","steps":7,"counts":{}}')
-NEWER = ('{"answer":"plan","text":"plan 1\\n","steps":[{"action":"remove","name":"x","colour":"red"}],"more":{},'
+OTHER_FORMS = ("", '"answer":"maybe","text":"x"', '"answer":"plan","text":"x","steps":[{"action":"fetch","name":"x"}],"counts":{}',
+               '"answer":"plan","text":"x","steps":[{"action":"unpack"}],"counts":{}', '"answer":"refuted","text":"x","lines":[7]',
+               '"answer":"plan","text":"x","steps":7,"counts":{}', '"refused":7', '"refused":"no refusal"')
+NEWER = ('{"id":1,"answer":"plan","text":"plan 1\\n","steps":[{"action":"remove","name":"x","colour":"red"}],"more":{},'
          '"counts":{"unpack":0,"deconfigure":0,"configure":0,"remove":1,"purge":0,"paint":0}}')
 
 
 class Calls(InRoom):
     """How the program is called, by scripts that stand for it."""
-
-    def script(self, text: str) -> pathlib.Path:
-        path = self.room / "script"
-        path.write_text(f"#!/bin/sh\n{text}\n", encoding="utf-8")
-        path.chmod(0o755)
-        return path
 
     def test_a_program_that_gives_no_answer_has_failed(self) -> None:
         for name, (script, status) in WRONG.items():
@@ -377,7 +545,7 @@ class Calls(InRoom):
     def test_an_answer_of_another_form_has_failed(self) -> None:
         for form in OTHER_FORMS:
             with self.assertRaises(debplan.Failed, msg=form):
-                self.over(program=self.script(f"echo '{form}'")).solve("install hello")
+                self.over(program=self.script(f"""echo '{{"id":1{form and ","}{form}}}'""")).solve("install hello")
 
     def test_members_that_are_not_known_are_passed_over(self) -> None:
         answer = self.over(program=self.script(f"printf '%s\\n' '{NEWER}'")).solve("remove x")
@@ -401,19 +569,38 @@ class Calls(InRoom):
         number = int((self.room / "pid").read_text())
         os.kill(number, 0)
         packages.close()
-        with self.assertRaises(ProcessLookupError):
-            os.kill(number, 0)
+        self.assert_is_gone(number)
 
     def test_the_words_of_a_call(self) -> None:
-        script = self.script('printf "%s\\n" "$@" > words; cat > given; echo "debplan: memory: E1 OutOfMemory" >&2; exit 5')
+        script = self.script('printf "%s\n" "$@" > words; cat > given; echo "debplan: memory: E1 OutOfMemory" >&2; exit 5')
         resolver = self.over(program=script, preferences="-p", target="next release")
         with self.assertRaises(debplan.Refused) as raised:
-            resolver.solve("install x", limit=7, keep_back=True)
+            resolver.solve("install x", limit=7, keep_back=True, archives=True)
         self.assertEqual((str(raised.exception), raised.exception.place, raised.exception.reasons), ("memory: E1 OutOfMemory", "", ()))
         self.assertEqual((self.room / "words").read_text().splitlines(), [
             "solve", "--format=json", "--explain", "--arch=amd64", "--status=status", "--sources=sources", "--preferences=-p",
             "--target=next release", "--limit=7", "--keep-back", "--request=-"])
         self.assertEqual((self.room / "given").read_text(), "install x\n")
+
+    def test_the_words_of_a_process_and_the_line_of_a_question(self) -> None:
+        script = self.script('printf "%s\n" "$@" >> words; read -r line; printf "%s" "$line" >> given; '
+                             'echo "debplan: memory: E1 OutOfMemory" >&2; exit 5')
+        asks: Tuple[Tuple[Callable[[debplan.Resolver], object], Dict[str, Any]], ...] = (
+            (lambda it: it.solve("install x", "# y", limit=7, keep_back=True),
+             {"ask": "solve", "goals": ["install x\n# y"], "limit": 7, "keep_back": True}),
+            (lambda it: it.solve(), {"ask": "solve", "goals": []}),
+            (lambda it: it.check_plan("install x", "plan 1\n"), {"ask": "check-plan", "goals": ["install x"], "plan": "plan 1\n"}),
+            (lambda it: it.check_refutation([], "\u00e9"), {"ask": "check-refutation", "goals": [], "refutation": "\u00e9"}),
+            (lambda it: it.candidate("x", "--y"), {"ask": "candidate", "names": ["x", "--y"]}))
+        for ask, wanted in asks:
+            for name in ("words", "given"):
+                (self.room / name).write_text("")
+            with self.assertRaises(debplan.Refused) as raised:
+                ask(self.over(program=script, preferences="-p", target="next release"))
+            self.assertEqual(str(raised.exception), "memory: E1 OutOfMemory")
+            self.assertEqual((self.room / "words").read_text().splitlines(), [
+                "batch", "--arch=amd64", "--status=status", "--sources=sources", "--preferences=-p", "--target=next release"])
+            self.assertEqual(json.loads((self.room / "given").read_text()), {"id": 1, **wanted})
 
     def test_a_program_that_is_missing_has_failed(self) -> None:
         with self.assertRaisesRegex(debplan.Failed, "there is no program"):

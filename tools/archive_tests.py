@@ -21,11 +21,24 @@ sys.dont_write_bytecode = True
 sys.path.insert(0, {tools!r})
 import common, exchange, json, surveys
 words = sys.argv[2:]
+for word in [it for it in words if it.startswith("--") and "=" in it]:
+    words[words.index(word):words.index(word) + 1] = word.split("=", 1)
 def value(name, default=None):
     return words[words.index(name) + 1] if name in words else default
-def document(answer, **members):
-    print(json.dumps({{"answer": answer, **members}}))
-    sys.exit(answer in ("no", "refuted"))
+def checked(line):
+    for it in stanzas:
+        if line == f"{{it['Package']}} {{it['Version']}} needs {{it.get('Depends')}}\\n":
+            pair, text = {{"number": 1, "name": it["Package"], "version": it["Version"]}}, it.get("Depends")
+            why = f"{{it['Package']}} {{it['Version']}} depends on {{text}}, but it isn't there."
+            return dict(answer="yes", text="yes\\n", reasons=[why],
+                        lines=[{{"line": 1, "premise": "depends", "pair": pair, "text": text}}])
+    return dict(answer="no", text="no line 1\\n", reasons=[], lines=[])
+def solved(goals):
+    found = chosen(list(common.clauses_of(goals[0].split("\\n")[0].removeprefix("install "))), [])
+    steps = [{{"action": "unpack", "name": it["Package"], "version": it["Version"], **dict.fromkeys(("filename", "size", "sha256"))}}
+             for it in found or ()]
+    counts = dict.fromkeys(("unpack", "deconfigure", "configure", "remove", "purge"), 0)
+    return dict(answer="plan" if found else "refuted", text="", steps=steps, counts=counts, lines=[])
 def chosen(clauses, taken):
     for it in stanzas if clauses else ():
         if any(common.matches(it, atom) for atom in clauses[0]):
@@ -36,19 +49,12 @@ def chosen(clauses, taken):
     return None if clauses else taken
 names = words[words.index("--") + 1:] if "--" in words else []
 stanzas = [it.fields for keys in common.stanzas_in(value("--sources")) for it in exchange.stanzas_in(keys["File"])]
-if sys.argv[1] == "check-refutation":
-    line = open(names[0]).read()
-    for it in stanzas:
-        if line == f"{{it['Package']}} {{it['Version']}} needs {{it.get('Depends')}}\\n":
-            pair, text = {{"name": it["Package"], "version": it["Version"]}}, it.get("Depends")
-            document("yes", text="yes\\n", reasons=[f"{{it['Package']}} {{it['Version']}} depends on {{text}}, but it isn't there."],
-                     lines=[{{"premise": "depends", "pair": pair, "text": text}}])
-    document("no", text="no line 1\\n", reasons=[], lines=[])
-if sys.argv[1] == "solve":
-    goal = words[words.index("--goal") + 1].removeprefix("install ")
-    found = chosen(list(common.clauses_of(goal)), [])
-    steps = [{{"action": "unpack", "name": it["Package"], "version": it["Version"]}} for it in found or ()]
-    document("plan" if found else "refuted", steps=steps)
+if sys.argv[1] == "batch":
+    for line in sys.stdin:
+        asked = json.loads(line)
+        found = checked(asked["refutation"]) if asked["ask"] == "check-refutation" else solved(asked["goals"])
+        print(json.dumps({{"id": asked["id"], **found}}), flush=True)
+    sys.exit(0)
 if any(name not in [it["Package"] for it in stanzas] for name in names):
     sys.stderr.write("debplan: request: E17 UnknownName 1\\n")
     sys.exit(3)

@@ -48,9 +48,10 @@ class Asking:
     def words(self):
         return [*flat(self.options), *(["--", *self.names] if self.names else [])]
 
-    def judging(self):
-        """The options with which a refutation is judged."""
-        return flat([("--status", NO_STATUS)] * (not self.has("--status")) + [it for it in self.options if it[0] in JUDGING])
+    def inputs_by_name(self):
+        """The options with which a refutation is judged, by their names without hyphens."""
+        self.needed("--arch"), self.needed("--sources")
+        return {name[2:]: self.value(name) for name in JUDGING}
 
     def inputs(self):
         """The files that are read: those that the options name, and the indices."""

@@ -5,6 +5,7 @@ A folder of inputs is what tools/collect-inputs writes: the files `status`, `sou
 perhaps `pins-left-out`, and beside them a `request` and a `plan`."""
 import argparse
 import collections
+import contextlib
 import functools
 import hashlib
 import json
@@ -19,6 +20,8 @@ import tempfile
 TOP = pathlib.Path(__file__).resolve().parent.parent
 # Where the module of Python stands in a repository; the Debian package has it among those of python3.
 sys.path.insert(1, str(TOP / "python"))
+import debplan
+
 RELATIONS = ("Pre-Depends", "Depends", "Conflicts", "Breaks", "Provides")
 # The states in which triggers are left to be processed (deb-triggers(5)), of what waits to be configured, and of what is there.
 TRIGGERED = ("triggers-awaited", "triggers-pending")
@@ -28,6 +31,8 @@ PRESENT = ("half-installed", *UNCONFIGURED, "installed")
 LEFT_OUT, WITHOUT_PINS = "pins-left-out", 6
 # The file that says which pins match nothing in the lists, and what stands behind one of which that was so before.
 UNMATCHED_PINS, AS_BEFORE = "pins-unmatched", " (as before)"
+# The codes of refusals that are about memory or a device, and no text.
+OF_DEVICES = ("E1", "E5")
 # How collect-inputs begins a line on such pins.
 TOLD_LEFT_OUT, TOLD_UNMATCHED = "preferences: left out: ", "preferences: matches nothing in the lists: "
 # apt's program that downloads and that reads its lists.
@@ -336,6 +341,18 @@ def explains(command):
     return "--explain" in run.stdout
 
 
+@contextlib.contextmanager
+def ending(place=""):
+    """Ends the tool where the module of Python raises an error, with what it is about, and the exit status that the program would have
+    (docs/FORMATS.md, sections 13 and 14)."""
+    try:
+        yield
+    except debplan.Refused as refused:
+        raise Failure("\n".join([f"{place}debplan: {refused}", *refused.reasons]), 5 if refused.code in OF_DEVICES else 3) from None
+    except debplan.Failed as failed:
+        raise Failure(f"{place}{failed}", failed.status if failed.status in (3, 4, 5) else 5) from None
+
+
 def document_of(run):
     """The document that a call of the program with --format json printed, without the sentences on an input that changes no answer;
     None where it printed nothing."""
@@ -345,8 +362,13 @@ def document_of(run):
         document = json.loads(run.stdout)
     except ValueError:
         raise Failure(f"{program()} ended with the status {run.returncode} in the middle of its answer") from None
-    document["reasons"] = [it for it in document["reasons"] if not UNMATCHED.fullmatch(f"{it}\n")]
+    document["reasons"] = without_unmatched(document["reasons"])
     return document
+
+
+def without_unmatched(sentences):
+    """Sentences on an answer, without those on an input that changes no answer."""
+    return [it for it in sentences if not UNMATCHED.fullmatch(f"{it}\n")]
 
 
 class Inputs:
@@ -420,6 +442,14 @@ class Inputs:
                              stderr=subprocess.PIPE, encoding="utf-8", errors="surrogateescape", check=False)
         run.stderr = UNMATCHED.sub("", run.stderr)
         return run
+
+    @contextlib.contextmanager
+    def resolver(self):
+        """By which many questions are asked about the folder over one reading. That it refuses one, or fails, ends the tool."""
+        pins = "preferences" if self.path("preferences").is_file() else None
+        how = {"arch": self.arch, "status": "status", "sources": "sources", "preferences": pins, "target": self.target}
+        with ending(), debplan.Resolver(folder=self.folder, program=program(), **how) as resolver:
+            yield resolver
 
     def candidates_of(self, names):
         """The candidate of each of these names that has one."""

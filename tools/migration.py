@@ -6,6 +6,7 @@ import sys
 import tempfile
 
 import common
+import debplan
 import differences
 import exchange
 import reports
@@ -97,10 +98,10 @@ class Check:
         write_stanzas(both, [*self.sources_after(), {"File": self.options.other, **BELOW}])
         with refutations_of(self.asking, True) as folder:
             difference = self.difference(str(sources), folder)
-            lines, count = differences.explained(difference), self.options.processors
-            asking, along = self.asking.over(str(sources)), Along(self.asking.over(str(both)), folder, self)
-            reasons = reports.each(count, lambda line: [*reports.reasons_of(asking, folder, line), *along.sentences(line)], lines)
-            return difference, dict(zip(lines, reasons)), along.found
+            with reports.Judge(self.asking.over(str(sources))) as judge, reports.Judge(self.asking.over(str(both))) as helper:
+                along = Along(helper, folder, self)
+                reasons = {line: [*judge.reasons_of(folder, line), *along.sentences(line)] for line in differences.explained(difference)}
+            return difference, reasons, along.found
 
 
 def write_stanzas(path, stanzas):
@@ -120,8 +121,8 @@ class Along:
     """What a plan for a broken package takes of the other index, where this stands beside the new one and isn't wished for: `found` are
     the sources. It is what one plan takes, and perhaps not the least."""
 
-    def __init__(self, asking, folder, check):
-        self.asking, self.folder, self.found = asking, folder, set()
+    def __init__(self, judge, folder, check):
+        self.judge, self.folder, self.found = judge, folder, set()
         has = set(map(exchange.pair_of, check.after))
         others = {exchange.pair_of(fields): fields for fields in check.counting(check.changed.other)}
         self.others = {pair: exchange.source_version_of(fields) for pair, fields in others.items() if pair not in has}
@@ -129,11 +130,11 @@ class Along:
     def sentences(self, line):
         """What would have to come along for a package in this version, or else in another one, as a sentence; none where nothing helps."""
         for request in self.requests(line):
-            document = self.solved(request, surveys.written(line))
-            if document["answer"] == "undecided":
-                return [f"what would have to come along is undecided ({document['why']})"]
-            if document["answer"] == "plan":
-                return self.needed(document["steps"])
+            answer = self.judge.solved([*request, "all-versions"], surveys.written(line))
+            if isinstance(answer, debplan.Undecided):
+                return [f"what would have to come along is undecided ({answer.why})"]
+            if isinstance(answer, debplan.Plan):
+                return self.needed(answer.steps)
         return []
 
     def requests(self, line):
@@ -144,14 +145,9 @@ class Along:
         first, *rest = reports.read(path).splitlines()
         return [[first, *rest], [f"install {line.name}", *rest]] if line.version else [[first, *rest]]
 
-    def solved(self, lines, place):
-        """The answer to the request of these lines."""
-        goals = [word for line in (*lines, "all-versions") for word in ("--goal", line)]
-        return reports.document_of(["solve", *self.asking.judging(), "--format", "json", *goals], place)
-
     def needed(self, steps):
         """The sentence on the sources of what the steps take of the other index."""
-        pairs = [exchange.pair_of({"Package": it["name"], "Version": it["version"]}) for it in steps if it["action"] == "unpack"]
+        pairs = [exchange.pair_of({"Package": it.name, "Version": it.version}) for it in steps if isinstance(it, debplan.Unpack)]
         needed = sorted({self.others[pair] for pair in pairs if pair in self.others})
         self.found |= {name for name, _ in needed}
         return [f"needs {', '.join(f'{name} {version}' for name, version in needed)}"] if needed else []

@@ -1,17 +1,17 @@
 """What the new packages of a plan recommend (Policy 7.2), as goals of its request. A goal is kept only where the program finds a plan
 of the request with it that removes nothing more and still installs what was found, and so on with what came in. Decided here is what
-is asked for next and whether a plan keeps what another one has; each plan is the program's, for the request that belongs to it."""
+is asked for next and whether a plan keeps what another one has; each plan is the program's, for the request that belongs to it. It is
+asked for by `solve(.., recommends=True)` of python/debplan.py."""
 import collections
 import functools
+import pathlib
 import re
 
 import changes
 import common
 import exchange
-from common import Failure
 
 PRIORITIES = ("required", "important", "standard", "optional", "extra")
-REFUSED = re.compile(r"request: E1[67] \w+ (\d+)")
 CLOSING = "This is about "
 # The field Provides of a stanza, and the name of each of its items.
 PROVIDES = re.compile(rb"^Provides:(.*(?:\n[ \t].*)*)", re.MULTILINE)
@@ -23,16 +23,26 @@ Choice = collections.namedtuple("Choice", "name lines fields")
 Verdict = collections.namedtuple("Verdict", "why blamed is_alone request document end", defaults=(False, None, None, None))
 
 
+class NoGoal(Exception):
+    """A request is refused for one of its lines, which is counted from 1."""
+
+    def __init__(self, line):
+        super().__init__(line)
+        self.line = line
+
+
 # What there is
 
 
-class Archive:
-    """The stanzas of the indices by the name of their package. The indices are read once."""
+class World:
+    """What the status file has, and the stanzas of the indices by the name of their package. They are read once; paths in the sources
+    file begin in the folder."""
 
-    def __init__(self, inputs):
-        self.arch, self.texts, self.known = inputs.arch, collections.defaultdict(list), {}
-        for path in inputs.indices():
-            for text in exchange.SEPARATOR.split(path.read_bytes()):
+    def __init__(self, arch, status, sources, folder):
+        self.arch, self.before = arch, common.Database(status)
+        self.texts, self.known = collections.defaultdict(list), {}
+        for keys in common.stanzas_in(sources):
+            for text in exchange.SEPARATOR.split(pathlib.Path(folder, keys["File"]).read_bytes()) if "File" in keys else ():
                 self.texts[common.name_in(text)].append(text)
 
     def of(self, name):
@@ -102,15 +112,15 @@ class Having:
 
 
 class End:
-    """What a plan changes, and what it leaves installed."""
+    """What a plan changes, which is a text, and what it leaves installed."""
 
-    def __init__(self, archive, before, document):
-        steps = [line.split(" ") for line in document["text"].splitlines()[1:] if not line.startswith("end ")]
-        self.changes = changes.Changes(before, steps)
+    def __init__(self, world, plan):
+        before = world.before
+        self.changes = changes.Changes(before, [line.split(" ") for line in plan.splitlines()[1:] if not line.startswith("end ")])
         changed = {*self.changes.unpacked, *(it.name for it in self.changes.removed)}
         staying = [fields for name, fields in before.records.items() if before.version(name) and name not in changed]
-        unpacked = [archive.stanza(*pair) for pair in self.changes.unpacked.items()]
-        self.having = Having(archive.arch, [*staying, *unpacked])
+        unpacked = [world.stanza(*pair) for pair in self.changes.unpacked.items()]
+        self.having = Having(world.arch, [*staying, *unpacked])
 
     def lost(self, other):
         """What another plan doesn't keep of this one, in a few words; nothing where it removes nothing more and installs all that
@@ -133,15 +143,15 @@ class End:
 class Wish:
     """A clause that a new package recommends, and why what was asked for so that it is met can't be had."""
 
-    def __init__(self, by, clause, archive):
-        self.by, self.clause, self.archive, self.whys = by, clause, archive, []
+    def __init__(self, by, clause, world):
+        self.by, self.clause, self.world, self.whys = by, clause, world, []
 
     @functools.cached_property
     def choices(self):
         """What may still be asked for, the first alternative first."""
         found = []
         for atom in self.clause:
-            choices = list(self.archive.choices(atom))
+            choices = list(self.world.choices(atom))
             self.whys += [] if choices else [f"no index has {common.written([atom])}"]
             found += choices
         return found
@@ -166,20 +176,20 @@ def same_lines(wishes):
 
 def last_reason(document, lines):
     """Why a request is refuted, in the last sentence, which says where the reasons end. Nobody but this tool asks for these lines."""
-    sentences = [it for it in document["reasons"] if not it.startswith(CLOSING)]
+    sentences = [it for it in document["reasons"] if not it.startswith(CLOSING) and not common.UNMATCHED.fullmatch(f"{it}\n")]
     asked = [f"You ask for {line.removeprefix('install ')}, but " for line in lines]
     last = sentences[-1].rstrip(".") if sentences else "it is refuted"
     return next((last.removeprefix(it) for it in asked if last.startswith(it)), last)
 
 
 class Recommending:
-    """A request with its plan, which grow by what is recommended. `ask` has the program answer the text of a request with
-    `--format json`, and returns how it ended."""
+    """A request with its plan, which is a text; both grow by what is recommended. `ask` has the program answer the text of a request,
+    and returns the document, or raises NoGoal. `document` is that of the last plan, once there is another one than at first."""
 
-    def __init__(self, inputs, request, document, ask):
-        self.archive, self.before, self.ask = Archive(inputs), common.Database(inputs.path("status")), ask
-        self.request, self.document = [line for line in request.splitlines() if line.strip()], document
-        self.end, self.wishes, self.came = End(self.archive, self.before, document), {}, []
+    def __init__(self, world, request, plan, ask):
+        self.world, self.ask, self.document = world, ask, None
+        self.request = [line for line in request.splitlines() if line.strip()]
+        self.end, self.wishes, self.came = End(world, plan), {}, []
 
     def extend(self):
         """Asks for what new packages recommend, and for what those recommend that came by it, until nothing comes."""
@@ -191,14 +201,14 @@ class Recommending:
     def wishes_of(self, new):
         """What a new package recommends."""
         if new.name not in self.wishes:
-            clauses = common.clauses_in(self.archive.stanza(new.name, new.new), "Recommends")
-            self.wishes[new.name] = [Wish(new.name, clause, self.archive) for clause in clauses]
+            clauses = common.clauses_in(self.world.stanza(new.name, new.new), "Recommends")
+            self.wishes[new.name] = [Wish(new.name, clause, self.world) for clause in clauses]
         return self.wishes[new.name]
 
     def wished(self):
         """The clauses that nothing meets of what is left installed, for which something may be asked for. A clause that is met by what
         is asked for before it can wait."""
-        hoped, found = Having(self.archive.arch), []
+        hoped, found = Having(self.world.arch), []
         for wish in (wish for new in self.end.changes.new for wish in self.wishes_of(new)):
             if not self.end.having.meets(wish.clause) and wish.choices and not hoped.meets(wish.clause):
                 hoped.add(wish.choices[0].fields)
@@ -238,15 +248,15 @@ class Recommending:
         """Whether the request with these wishes has a plan that keeps what was found."""
         asked = dict.fromkeys(line for wish in wishes for line in wish.lines())
         request = [*self.request, *(line for line in asked if line not in self.request)]
-        run = self.ask("".join(f"{line}\n" for line in request))
-        document = common.document_of(run)
-        if document is None:
-            return Verdict("that is no goal", by_lines(wishes, refused_in(request, run)), True)
+        try:
+            document = self.ask("".join(f"{line}\n" for line in request))
+        except NoGoal as refused:
+            return Verdict("that is no goal", by_lines(wishes, {request[refused.line - 1]}), True)
         if document["answer"] == "refuted":
             return Verdict(last_reason(document, asked), by_lines(wishes, named_in(request, document)), True)
         if document["answer"] != "plan":
             return Verdict(document["text"].strip(), wishes)
-        end = End(self.archive, self.before, document)
+        end = End(self.world, document["text"])
         unmet = [wish for wish in wishes if not end.having.meets(wish.clause)]
         if unmet:
             return Verdict(f"{unmet[0].choices[0].name} doesn't provide it in the version that is chosen", unmet[:1])
@@ -276,12 +286,10 @@ def named_in(request, document):
     return {goals[line["goal"] - 1] for line in document["lines"] if line.get("premise") == "goal"}
 
 
-def refused_in(request, run):
-    """The line of a request for which it is refused."""
-    found = REFUSED.search(run.stderr)
-    if not found:
-        raise Failure(run.stderr.strip() or f"{common.program()} ended without an answer", run.returncode if run.returncode > 0 else 69)
-    return {request[int(found.group(1)) - 1]}
+def members_of(plan):
+    """What came by a plan of python/debplan.py and what was left out, as a member of a document."""
+    return {"came": [{"for": it.by, "relation": it.relation, "goals": list(it.goals)} for it in plan.came],
+            "left_out": [{"for": it.by, "relation": it.relation, "why": it.why} for it in plan.left_out]}
 
 
 def lines_on(told):

@@ -1,12 +1,12 @@
 """Refutations of broken packages: judged, explained, and put into folders that say over which indices they are. The options with which
 they are judged are those of an `Asking` of tools/archive-check."""
-import concurrent.futures
-import json
+import dataclasses
 import pathlib
 import time
 from collections import namedtuple
 
 import common
+import debplan
 import exchange
 import failing
 import surveys
@@ -26,15 +26,6 @@ Verdict = namedtuple("Verdict", "said sentences relations")
 Index = namedtuple("Index", "sum suite codename path")
 
 
-def each(count, function, items):
-    """Yields what a function answers of each item, of which so many are asked at once."""
-    pool = concurrent.futures.ThreadPoolExecutor(count)
-    try:
-        yield from pool.map(function, items)
-    finally:
-        pool.shutdown(cancel_futures=True)
-
-
 def read(path):
     with open(path, encoding="utf-8", errors="surrogateescape", newline="") as file:
         return file.read()
@@ -43,40 +34,54 @@ def read(path):
 # Judging
 
 
-def judged(asking, request, refutation):
-    """What check-refutation says of a refutation. What it refuses is refused."""
-    words = ["check-refutation", *asking.judging(), "--request", str(request), "--format", "json", "--", str(refutation)]
-    document = document_of(words, refutation)
-    sentences = [it for it in document["reasons"] if not common.UNMATCHED.fullmatch(f"{it}\n")]
-    return Verdict(document["text"].strip(), sentences, failing.relations_in(document))
+class Judge:
+    """Has refutations judged, and requests solved, by one process over the inputs that the options of an Asking name. What that refuses
+    ends the tool, with the place that it's about."""
+
+    def __init__(self, asking):
+        self.resolver = debplan.Resolver(program=common.program(), **asking.inputs_by_name())
+
+    def __enter__(self):
+        return self
+
+    def __exit__(self, *_):
+        self.resolver.close()
+
+    def judged(self, request, refutation):
+        """What is said of a refutation, of the files of its request and of itself."""
+        with common.ending(f"{refutation}: "):
+            verdict = self.resolver.check_refutation(read(request), read(refutation))
+        sentences = common.without_unmatched(verdict.reasons)
+        return Verdict(verdict.text.strip(), sentences, failing.relations_in({"lines": premises_of(verdict), "reasons": sentences}))
+
+    def judged_of(self, folder, line):
+        """The same of the refutation of a package, in a folder that `debplan installable` wrote it into."""
+        request, refutation = (pathlib.Path(folder, f"{surveys.file_name(line)}.{kind}") for kind in FILES[:2])
+        for path in (request, refutation):
+            if not path.is_file():
+                raise Failure(f"{path}: is missing, so nothing says why {surveys.written(line)} is broken")
+        return self.judged(request, refutation)
+
+    def reasons_of(self, folder, line):
+        """Why a package is broken, in sentences; or why nothing says so."""
+        try:
+            verdict = self.judged_of(folder, line)
+        except Failure as failure:
+            if failure.status in REFUSED:
+                raise
+            return [str(failure)]
+        return verdict.sentences if verdict.said == "yes" else [f"its refutation isn't accepted with these OPTIONS: {verdict.said}"]
+
+    def solved(self, lines, place):
+        """The answer to the request of these lines."""
+        with common.ending(f"{place}: "):
+            return self.resolver.solve(*lines)
 
 
-def document_of(words, place):
-    """The document that the program prints to these words, where it answers. What it refuses is refused by the place that it's about."""
-    run = common.run_of([common.program(), *words])
-    if run.returncode not in (0, 1, 2):
-        raise Failure(f"{place}: {common.last_words(run)}", run.returncode if run.returncode in REFUSED else REFUSED[-1])
-    return json.loads(run.stdout)
-
-
-def judged_of(asking, folder, line):
-    """The same of the refutation of a package, in a folder that `debplan installable` wrote it into."""
-    request, refutation = (pathlib.Path(folder, f"{surveys.file_name(line)}.{kind}") for kind in FILES[:2])
-    for path in (request, refutation):
-        if not path.is_file():
-            raise Failure(f"{path}: is missing, so nothing says why {surveys.written(line)} is broken")
-    return judged(asking, request, refutation)
-
-
-def reasons_of(asking, folder, line):
-    """Why a package is broken, in sentences; or why nothing says so."""
-    try:
-        verdict = judged_of(asking, folder, line)
-    except Failure as failure:
-        if failure.status in REFUSED:
-            raise
-        return [str(failure)]
-    return verdict.sentences if verdict.said == "yes" else [f"its refutation isn't accepted with these OPTIONS: {verdict.said}"]
+def premises_of(verdict):
+    """The premises of a refutation, as a document has them."""
+    lines = [it for it in verdict.lines if isinstance(it, debplan.Premise)]
+    return [{"premise": it.kind, **{name: value for name, value in dataclasses.asdict(it).items() if value is not None}} for it in lines]
 
 
 # The indices
@@ -115,7 +120,7 @@ def now():
     return time.strftime("%Y-%m-%dT%H:%M:%SZ", time.gmtime())
 
 
-def write_report(asking, survey, when, folder, report, count):
+def write_report(asking, survey, when, folder, report):
     """Writes a folder for each broken package, from the folder of all refutations, and the survey with its date beside them. What is
     told stays told where that can't be done."""
     broken = [line for line in survey.told() if line.state == "broken"]
@@ -124,11 +129,12 @@ def write_report(asking, survey, when, folder, report, count):
         texts = {INDICES: "".join("\t".join(index) + "\n" for index in indices)}
         stanzas = stanzas_of([index.path for index in indices], broken, asking.needed("--arch"))
         report.mkdir(parents=True, exist_ok=True)
-        for line, verdict in zip(broken, each(count, lambda line: judged_of(asking, folder, line), broken)):
-            stanza = {"stanza": stanzas[surveys.key_of(line)]} if line.version else {}
-            files = pathlib.Path(folder, surveys.file_name(line))
-            refutation = with_indices(read(f"{files}.{FILES[1]}"), indices)
-            write_folder(report / files.name, files, verdict, {FILES[1]: refutation, **texts, **stanza})
+        with Judge(asking) as judge:
+            for line in broken:
+                stanza = {"stanza": stanzas[surveys.key_of(line)]} if line.version else {}
+                files = pathlib.Path(folder, surveys.file_name(line))
+                refutation = with_indices(read(f"{files}.{FILES[1]}"), indices)
+                write_folder(report / files.name, files, judge.judged_of(folder, line), {FILES[1]: refutation, **texts, **stanza})
         write_texts(report, {**texts, WHEN: f"{when}\n", SURVEY: survey.text()})
     except OSError as error:
         raise Failure(f"{report}: the report isn't whole: {error.filename}: {error.strerror}", REFUSED[-1]) from None
@@ -179,14 +185,14 @@ def folders_in(folder):
     return found
 
 
-def verified(asking, folder, indices):
+def verified(judge, folder, indices, sources):
     """What is said of the refutation of a package: which indices are others than those that it is about, or the judge's word."""
     known = indices_in(folder / INDICES)
     if len(known) != len(indices):
-        return [f"is about {len(known)} indices, and {asking.value('--sources')} names {len(indices)}"]
+        return [f"is about {len(known)} indices, and {sources} names {len(indices)}"]
     others = [f"index {number}, {new.path}, is another one than {written(old)}: its SHA256 is {new.sum} and not {old.sum}"
               for number, (old, new) in enumerate(zip(known, indices), 1) if old.sum != new.sum]
     if others:
         return others
-    said = judged(asking, folder / FILES[0], folder / FILES[1]).said
+    said = judge.judged(folder / FILES[0], folder / FILES[1]).said
     return [said] if said == "yes" else [f"{said}, and the indices are those of the report: another input or option may be another one"]

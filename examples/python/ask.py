@@ -4,7 +4,7 @@ import debplan
 with debplan.Resolver(arch="amd64", status="status", sources="sources") as resolver:
     for goals in (["install hello"], ["install exim4-daemon-light", "install postfix"], ["install cowsay"]):
         try:
-            answer = resolver.solve(*goals)
+            answer = resolver.solve(*goals, archives=True)
         except debplan.Refused as refused:
             print("refused:", refused)
             continue
