@@ -54,6 +54,8 @@ _REFUSED = re.compile(r"(.+): (E\d+) ([A-Z]\w*)(?: (.*))?")
 _REFUSAL = re.compile(f"debplan: {_REFUSED.pattern}")
 _TOP = pathlib.Path(__file__).resolve().parent.parent
 _LEFT_OUT = "pins-left-out"
+# The architecture of the package dpkg in a status file.
+_DPKG = re.compile(r"^Package: dpkg\n(?:.+\n)*?Architecture: (\S+)$", re.MULTILINE)
 # How many bytes a question to `debplan batch` may have (docs/FORMATS.md, section 20), of which some are left for its newline.
 _QUESTION_BYTES = 67_108_864 - 16
 # How long a process that broke off has to end by itself, in seconds.
@@ -856,11 +858,15 @@ def _said_by(words: List[str], env: Optional[Dict[str, str]] = None) -> Tuple[in
 
 def _arch_of(root: Optional[Path]) -> str:
     """The architecture of a machine: that of the environment, or that of its dpkg."""
-    listed = pathlib.Path(root or "/") / "var/lib/dpkg/arch-native"
+    folder = pathlib.Path(root or "/") / "var/lib/dpkg"
     if os.environ.get("ARCH"):
         return os.environ["ARCH"]
-    if root is not None and listed.is_file():
-        return listed.read_text(encoding="ascii").strip()
+    if root is not None and (folder / "arch-native").is_file():
+        return (folder / "arch-native").read_text(encoding="ascii").strip()
+    if root is not None and (folder / "status").is_file():
+        of_dpkg = _DPKG.search((folder / "status").read_text(encoding="utf-8", errors="replace"))
+        if of_dpkg:
+            return of_dpkg.group(1)
     status, said, _ = _said_by(["dpkg", "--print-architecture"])
     if status:
         raise Failed(f"dpkg --print-architecture ended with the status {status}", status)
@@ -930,14 +936,14 @@ class Resolver:
         """A Resolver over this Debian machine, or over the system in the folder `root`: apt's lists, the status file and the pins, which
         collect-inputs writes into `folder`, again only where they have changed, or without it into a temporary one that goes away at
         the end. `apt-get update` has to have been run. Without `pins` those of the machine don't count. ARCH, STATUS and APT_CONFIG of
-        the environment count as for collect-inputs.
+        the environment count as for collect-inputs, which reads a `root` without apt too.
 
             with debplan.Resolver.of_machine() as resolver:
                 for line in resolver.pins_left_out:
                     print("not counted:", line)
                 answer = resolver.solve("upgrade-all", keep_back=True)
 
-        Raises Failed where apt, dpkg or collect-inputs is missing, or the inputs can't be collected."""
+        Raises Failed where apt or dpkg is missing and no `root` is named, collect-inputs is missing, or the inputs can't be collected."""
         with contextlib.ExitStack() as stack:
             to = stack.enter_context(tempfile.TemporaryDirectory(prefix="debplan-inputs-")) if folder is None else folder
             of = arch or _arch_of(root)

@@ -654,6 +654,15 @@ class Machines(InRoom):
         self.assertTrue(to.is_dir())
         self.assertEqual((self.room / "words").read_text(), f"--if-changed --no-pins --root {self.room} {to}\n")
 
+    def test_of_another_root_the_architecture_is_that_of_its_dpkg(self) -> None:
+        (self.room / "var/lib/dpkg").mkdir(parents=True)
+        status = "Package: libc6\nArchitecture: amd64\n\nPackage: dpkg\nStatus: install ok installed\nArchitecture: arm64\n"
+        (self.room / "var/lib/dpkg/status").write_text(status, encoding="utf-8")
+        with mock.patch.dict(os.environ):
+            os.environ.pop("ARCH", None)
+            self.of_machine(f'echo "$ARCH" > "{self.room}/words"; for to; do :; done; cd "$to"; touch status sources', root=self.room)
+        self.assertEqual((self.room / "words").read_text(), "arm64\n")
+
     def test_inputs_that_cannot_be_collected_are_a_failure(self) -> None:
         with self.assertRaisesRegex(debplan.Failed, "the inputs can't be collected: no lists") as raised:
             self.of_machine("echo no lists >&2; exit 69", arch="amd64")

@@ -37,6 +37,10 @@ OF_DEVICES = ("E1", "E5")
 TOLD_LEFT_OUT, TOLD_UNMATCHED = "preferences: left out: ", "preferences: matches nothing in the lists: "
 # apt's program that downloads and that reads its lists.
 HELPER = "/usr/lib/apt/apt-helper"
+# Where apt has what is read of a machine, if its settings don't say otherwise (apt.conf(5), "DIRECTORIES").
+PLACES = {"Dir::State::lists/d": "var/lib/apt/lists/", "Dir::State::status/f": "var/lib/dpkg/status",
+          "Dir::Etc::sourcelist/f": "etc/apt/sources.list", "Dir::Etc::sourceparts/d": "etc/apt/sources.list.d/",
+          "Dir::Etc::preferences/f": "etc/apt/preferences", "Dir::Etc::preferencesparts/d": "etc/apt/preferences.d/"}
 # A sentence of the program on an input that changes no answer: a record of the preferences, or an index.
 UNMATCHED = re.compile(r"^(?:Record \d+ of the preferences matches nothing|Index \d+ adds no version): .*\n", re.MULTILINE)
 NAME = re.compile(r"[A-Za-z0-9][A-Za-z0-9+.-]*")
@@ -123,7 +127,8 @@ def said_by(words, limit=None, env=None):
 
 
 class Machine:
-    """A machine whose apt and dpkg are asked: this one, or the root of another system below a folder."""
+    """A machine whose apt and dpkg are asked: this one, or the root of another system below a folder. Where this machine has no apt, the
+    root is as apt's own settings would have it."""
 
     def __init__(self, root=None):
         self.root = pathlib.Path(root or "/").resolve()
@@ -136,16 +141,26 @@ class Machine:
             self.config.flush()
             self.env = {"APT_CONFIG": self.config.name}
 
+    def has_apt(self):
+        """Whether there is an apt to be asked."""
+        return bool(shutil.which("apt-get")) and os.path.exists(HELPER)
+
     def says(self, *words, limit=None):
         """What a program of apt says of the machine."""
         return said_by(words, limit, self.env)
 
     def arch(self):
-        """The architecture of dpkg."""
-        if self.env:
-            listed = self.root / "var/lib/dpkg/arch-native"
-            return os.environ.get("ARCH") or (listed.read_text().strip() if listed.is_file() else native_architecture())
-        return native_architecture()
+        """The architecture of dpkg; of another system the one for which it has dpkg installed."""
+        listed = self.root / "var/lib/dpkg/arch-native"
+        if os.environ.get("ARCH") or not self.env:
+            return native_architecture()
+        return listed.read_text().strip() if listed.is_file() else self.arch_of_dpkg() or native_architecture()
+
+    def arch_of_dpkg(self):
+        """The architecture of the package dpkg in the status file; None where that has no such package."""
+        path = self.root / PLACES["Dir::State::status/f"]
+        stanzas = stanzas_named(path, {"dpkg"}) if path.is_file() else ()
+        return next((fields["Architecture"] for fields in stanzas if "Architecture" in fields), None)
 
     def status(self):
         """The status file."""
@@ -153,11 +168,19 @@ class Machine:
 
     def setting(self, name):
         """A setting of apt's configuration; empty where there is none."""
+        if not self.has_apt():
+            return str(self.root / PLACES[name]) if name in PLACES else ""
         return self.says("apt-config", "shell", "it", name).partition("=")[2].strip().strip("'")
+
+    def settings(self):
+        """All settings as a text."""
+        return self.says("apt-config", "dump") if self.has_apt() else ""
 
 
 def native_architecture():
     """The architecture that is asked about: that of the environment, or else of this machine's dpkg."""
+    if not os.environ.get("ARCH") and not shutil.which("dpkg"):
+        raise Failure("dpkg is missing, which says the architecture: name it in ARCH", 69)
     return os.environ.get("ARCH") or said_by(["dpkg", "--print-architecture"]).strip()
 
 
@@ -384,6 +407,10 @@ class Inputs:
 
     def path(self, name):
         return self.folder / name
+
+    def request(self):
+        """The text of the request."""
+        return self.path("request").read_text(encoding="utf-8", errors="surrogateescape")
 
     def sources(self):
         """The stanzas of the sources file."""
