@@ -25,8 +25,24 @@ pub(crate) enum Cause<'c, 'a, 'i> {
     Provided(Vec<u32>),
     /// The indices have the name, but in no version that fits.
     Unfit,
-    /// No index has the name.
+    /// No index has the name, but this version of a package there provides it, in no version that fits.
+    UnfitElsewhere(&'i [u8], Version<'i>),
+    /// No index has the name, and nothing there provides it.
     Missing,
+}
+
+// Whether an index has the name, or who provides it there, where nothing that is admitted has or provides it.
+fn cause_of_left_out<'c, 'a, 'i>(
+    teller: &Teller<'c, '_, '_, 'a, 'i>,
+    wanted: &Wanted<'_>,
+) -> Result<Cause<'c, 'a, 'i>, AllocError> {
+    if is_listed(teller, wanted.name) {
+        return Ok(Cause::Unfit);
+    }
+    match teller.elsewhere(&wanted.in_any_version())? {
+        Some((name, version)) => Ok(Cause::UnfitElsewhere(name, version)),
+        None => Ok(Cause::Missing),
+    }
 }
 
 // Who provides the name where no pair has it, among the pairs or in the indices, and else whether an index has it.
@@ -38,13 +54,10 @@ fn cause_of_unnamed<'c, 'a, 'i>(
         return Ok(Cause::Elsewhere(name, version));
     }
     let providing = teller.providing(wanted.name)?;
-    if !providing.is_empty() {
-        return Ok(Cause::Provided(providing));
-    }
-    if is_listed(teller, wanted.name) {
-        Ok(Cause::Unfit)
+    if providing.is_empty() {
+        cause_of_left_out(teller, wanted)
     } else {
-        Ok(Cause::Missing)
+        Ok(Cause::Provided(providing))
     }
 }
 
@@ -143,6 +156,11 @@ pub(crate) fn push_cause(
             push_provider(teller, text, name, numbers.as_slice())
         }
         Cause::Unfit => push_about(text, b"no index has a version of ", name, b" that fits"),
+        Cause::UnfitElsewhere(provider, version) => {
+            push_about(text, b"no index has a package ", name, b", and ")?;
+            push_versioned(text, *provider, version)?;
+            text.extend_from_slice(b" provides it in no version that fits")
+        }
         Cause::Missing => push_about(text, b"there is no package ", name, b" in any index"),
     }
 }

@@ -46,6 +46,15 @@ impl<'q> Wanted<'q> {
         }
     }
 
+    /// The same in any version.
+    pub(crate) fn in_any_version(&self) -> Wanted<'q> {
+        Wanted {
+            name: self.name,
+            restriction: None,
+            is_foreign: self.is_foreign,
+        }
+    }
+
     /// Whether the version meets the restriction, if there is one.
     pub(crate) fn is_met_by(&self, version: &Version<'_>) -> bool {
         match &self.restriction {
