@@ -11,7 +11,7 @@
 
 Nothing is solved or judged here: each answer is the program's own, whose JSON (docs/FORMATS.md, section 19) is read into frozen
 dataclasses. A process of `debplan batch` reads the inputs at the first question and answers it and those behind it; what it can't
-answer, as `installable`, is a call of its own. What is proved of the program's answers is proved of the `text` of these, for the inputs
+answer, as `installable` of a whole archive, is a call of its own. What is proved of the program's answers is proved of the `text` of these, for the inputs
 as they were read; that this module reads the JSON as it should is tested. `reasons` are sentences, whose words aren't promised.
 
 Names and versions are texts as Debian has them, sizes are bytes, and lines, steps and goals are counted from 1. What the program
@@ -652,6 +652,12 @@ class _Batch:
             raise self._explained(self._refusal_in(reply), question)
         return reply
 
+    def packages(self, question: _Question) -> Generator[_Document, None, None]:
+        """The documents that answer a question about packages, the last of which has the counts. Raises Refused and Failed."""
+        reply = self.document(question)
+        yield from _read_by(_packages_in, reply)
+        yield {**reply, "text": reply["text"][reply["text"][:-1].rfind("\n") + 1:]}
+
     def _reply_to(self, line: bytes) -> _Document:
         """The reply to a question, which gets a number. Where there is none the process is ended, also where this is interrupted: what
         it would still say belongs to no other question."""
@@ -689,6 +695,11 @@ class _Batch:
         if self._process is not None:
             self._process.end()
         self._process = None
+
+
+def _packages_in(document: _Document) -> List[_Document]:
+    """The objects of packages in a document."""
+    return list(document["packages"])
 
 
 def _line_with(question: _Question) -> Optional[bytes]:
@@ -1081,11 +1092,12 @@ class Resolver:
             for package in broken:
                 print(package.name, package.version, *package.reasons, sep="\\n  ")
 
-        A call of the program of its own is begun when the first of them is asked for, and ended by `close()` of what yields them where
-        no more are wanted. A name that no stanza of the indices has is refused as `request: E17 UnknownName N`, N its number among the
+        With names it is a question to the process that answers others too. Without, a call of the program of its own is begun when the
+        first of them is asked for, and ended by `close()` of what yields them where no more are wanted. A name that no stanza of the indices has is refused as `request: E17 UnknownName N`, N its number among the
         names."""
         flags = _flags(all_versions=all_versions, without_essential=without_essential)
-        return _package_answers(self._open().calls.documents(_Question("installable", names=names, limit=limit, flags=flags)))
+        asked, question = self._open(), _Question("installable", names=names, limit=limit, flags=flags)
+        return _package_answers(asked.packages(question) if names else asked.calls.documents(question))
 
     def _open(self) -> _Batch:
         """That by which it asks, while it is open."""

@@ -306,6 +306,14 @@ class Names(InRoom):
             self.assertTrue(resolver.check_refutation(package.request, package.refutation))
         self.assertEqual(len(found), 2)
 
+    def test_packages_of_names_are_asked_about_by_the_process_that_answers_others(self) -> None:
+        with self.over() as resolver:
+            resolver.solve("install hello")
+            with mock.patch.object(debplan, "_started", side_effect=AssertionError("a call of its own")):
+                counts = list(resolver.installable("hello", "needy", all_versions=True, without_essential=True, limit=10))[-1]
+        assert isinstance(counts, debplan.PackageCounts)
+        self.assertEqual((counts.checked, counts.text), (2, "checked 2, broken 1\n"))
+
     def test_all_packages_are_asked_about_and_more_versions_help(self) -> None:
         names = [getattr(it, "name", "counts") for it in self.over(status=None).installable()]
         self.assertEqual(names, ["needy", "r", "s", "t", "wants-old", "counts"])

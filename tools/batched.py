@@ -10,9 +10,12 @@ import documents
 
 # The options of what is read before a request, which `batch` has too; those of a question; and those that change no reply.
 READ = ("arch", "status", "sources", "preferences", "target")
-OPTIONS = [*(f"{name}=" for name in (*READ, "request", "goal", "limit", "refutation-format", "format", "request-out")), "explain", "keep-back"]
+OPTIONS = [*(f"{name}=" for name in (*READ, "request", "goal", "limit", "refutation-format", "format", "request-out")), "explain", "keep-back",
+           "all-versions", "without-essential"]
 JUDGED = {"check-plan": "plan", "check-refutation": "refutation"}
-KINDS = ("candidate", "solve", *JUDGED)
+KINDS = ("candidate", "installable", "solve", *JUDGED)
+# The status file of `installable` where none is named.
+NO_STATUS = "/dev/null"
 # A refusal of what is read before a request, which ends `batch` before its first reply.
 BEFORE = re.compile(rb"debplan: (status|sources|index [0-9]+|preferences): ")
 # What is asked of `batch`: the question, what its command printed, and its answer as a document.
@@ -26,7 +29,7 @@ def question_of(words, text_at):
         given, others = getopt.gnu_getopt(words[1:], "", OPTIONS)
     except getopt.GetoptError:
         return None
-    options = {name[2:]: value for name, value in given}
+    options = {**({"status": NO_STATUS} if words[0] == "installable" else {}), **{name[2:]: value for name, value in given}}
     question = {"ask": words[0], **asked(words[0], options, [value for name, value in given if name == "--goal"], others, text_at)}
     if None in question.values():
         return None
@@ -37,6 +40,9 @@ def asked(kind, options, goals, others, text_at):
     """The members of a question, of which one is None where it can't be asked."""
     if kind == "candidate":
         return {"names": others}
+    if kind == "installable":
+        flags = {name.replace("-", "_"): True for name in ("all-versions", "without-essential") if name in options}
+        return {**flags, **({"names": others} if others else {}), **({"limit": int(options["limit"])} if "limit" in options else {})}
     members = request_of(goals if goals else lines_of(text_at(options["request"])))
     if kind in JUDGED:
         text = text_at(others[0])
@@ -66,11 +72,18 @@ def without_archives(found):
     return {**found, "steps": steps} if "steps" in found else found
 
 
+def answer_in(ask):
+    """The members of the document of a command. Of `installable`, which writes one for each line, they are those of the last one, with all
+    lines as text, and the objects of the others."""
+    *others, last = map(json.loads, ask.document[1].splitlines())
+    return {**last, "packages": others, "text": ask.printed[1].decode("utf-8", "replace")} if ask.question["ask"] == "installable" else last
+
+
 def wanted_reply(name, ask):
     """The members of the reply to a question that has this `id`."""
     if not ask.printed[1]:
         return {"id": name, "refused": ask.printed[2].partition(b"\n")[0].decode("utf-8", "replace").removeprefix("debplan: ")}
-    return {**without_archives(json.loads(ask.document[1])), "id": name}
+    return {**without_archives(answer_in(ask)), "id": name}
 
 
 def reply_faults(name, ask, line):

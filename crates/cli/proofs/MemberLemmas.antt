@@ -1,18 +1,11 @@
--- Members of documents: strings of lines and objects of names, one more behind those so far, and members that are put to others.
+-- Members of documents: objects of names, one more behind those so far, and members that are put to others.
 use Rattle.std.proofs.Common.{◌≡◌, ◌∙◌, ◌++◌, ℕ, List, [], ◌∷◌, Option, ap, append_assoc, arith, length, refl, sym}
-use Rattle.std.specs.List.{flat_map}
 use Rattle.candidates.specs.Offer.{Offer}
-use Rattle.cli.specs.Members.{AreAddedIn, AreMembersIn, line_data, name_data, names_data}
+use Rattle.cli.specs.Members.{AreAddedIn, AreMembersIn, AreOfAnswered, AreOfKept, name_data, names_data, with_left}
 use Rattle.command_line.specs.declared.call.Format.{Format}
 use Rattle.command_line.specs.declared.call.Format.TheVariants as format
+use Rattle.keep_back.specs.declared.keep_back.KeptBack.{KeptBack}
 use Rattle.serde_json.specs.Data.{Data, Members}
-
--- the string of one more line
-pub one_part : (old after : List Data) (line : List ℕ) (lines more : List (List ℕ)) → after ≡ old ++ line_data line → lines ≡ line ∷ more
-    → after ++ flat_map line_data more ≡ old ++ flat_map line_data lines
-one_part old after line lines more e first = ap (λ (ds : List Data). ds ++ flat_map line_data more) e
-    ∙ append_assoc old (line_data line) (flat_map line_data more)
-    ∙ sym (ap (λ (ls : List (List ℕ)). old ++ flat_map line_data ls) first)
 
 -- the object of one more name
 pub one_name : (old after : List Data) (value : Data) (name : List ℕ) (candidate : Option Offer) (names more : List (List ℕ))
@@ -30,8 +23,8 @@ none_left [] rest none = refl
 none_left (name ∷ names) [] none = refl
 none_left (name ∷ names) (candidate ∷ rest) none = absurd (omega (arith, none))
 
--- members to which more are put are those beside others
-pub added : (written : Format) (first more : Members → Members) (old new : Members) → AreMembersIn written first old
-    → AreAddedIn written more old new → AreMembersIn written (λ others. more (first others)) new
-added format.Text first more old new are put = tt
-added format.Json first more old new are put = (are.0, put ∙ ap more are.1)
+-- members to which what is left of a request is put
+pub added : (written : Format) (kept : KeptBack) (old new : Members) → AreMembersIn written (AreOfAnswered kept.answered) old
+    → AreAddedIn written (with_left kept.request kept.notes) old new → AreMembersIn written (AreOfKept kept) new
+added format.Text kept old new are put = tt
+added format.Json kept old new are put = (old, are, put)

@@ -3,7 +3,6 @@ use Rattle.std.proofs.Common.{◌≡◌, Err, Global, IfOk, List, Ok, Result, Ve
 use Rattle.candidates.specs.Inputs.{indices_of}
 use Rattle.cli.proofs.ResultLemmas.{if_ok}
 use Rattle.cli.specs.Batch.{IsRefusedReply, IsReplyOf, IsReplyWhere, with_id}
-use Rattle.cli.specs.Members.{AreBeside}
 use Rattle.documents.specs.Document.{IsLineOf, object_with}
 use Rattle.inputs.proofs.ReadAsLemmas.{read-asking}
 use Rattle.inputs.specs.ReadAs.{AreReadAs, asking, start_of}
@@ -25,27 +24,27 @@ read_before texts before request read = record {
   };
 }
 
--- a document of these members beside others, and of the value, is such a reply
-pub reply_beside : {E : Type 0} (id : Data) (text : List ℕ) (with_these : Members → Members) (all : Members) (r : Result (Vec ℕ Global) E)
-    → AreBeside with_these all → IfOk r (λ reply. IsLineOf (object_with text (with_id id all)) reply.items)
-    → IfOk r (λ reply. IsReplyOf id text with_these reply.items)
-reply_beside id text with_these all r beside made =
-    if_ok r (λ reply. IsLineOf (object_with text (with_id id all)) reply.items) (λ reply. IsReplyOf id text with_these reply.items)
-    (λ reply is. (beside.0, subst (λ (ms : Members). IsLineOf (object_with text (with_id id ms)) reply.items) beside.1 is)) made
+-- a document of such members and of the value is such a reply
+pub reply_beside : {E : Type 0} (id : Data) (text : List ℕ) (Are : Members → Type 0) (all : Members) (r : Result (Vec ℕ Global) E)
+    → Are all → IfOk r (λ reply. IsLineOf (object_with text (with_id id all)) reply.items)
+    → IfOk r (λ reply. IsReplyOf id text Are reply.items)
+reply_beside id text Are all r are made =
+    if_ok r (λ reply. IsLineOf (object_with text (with_id id all)) reply.items) (λ reply. IsReplyOf id text Are reply.items)
+    (λ reply is. (all, are, is)) made
 
-module _ {A E : Type 0} (id : Data) (Says : Result A Refusal → Type 0) (text_of : A → List ℕ) (with_answer : A → Members → Members) where
+module _ {A E : Type 0} (id : Data) (Says : Result A Refusal → Type 0) (text_of : A → List ℕ) (AreOf : A → Members → Type 0) where
   -- the reply of an answer that is said
   pub replied_ok : (said : Result A Refusal) (answer : A) (r : Result (Vec ℕ Global) E) → said ≡ Ok answer → Says said
-      → IfOk r (λ reply. IsReplyOf id (text_of answer) (with_answer answer) reply.items)
-      → IfOk r (λ reply. IsReplyWhere id Says text_of with_answer reply.items)
+      → IfOk r (λ reply. IsReplyOf id (text_of answer) (AreOf answer) reply.items)
+      → IfOk r (λ reply. IsReplyWhere id Says text_of AreOf reply.items)
   replied_ok said answer r is says made =
-      if_ok r (λ reply. IsReplyOf id (text_of answer) (with_answer answer) reply.items)
-      (λ reply. IsReplyWhere id Says text_of with_answer reply.items)
+      if_ok r (λ reply. IsReplyOf id (text_of answer) (AreOf answer) reply.items)
+      (λ reply. IsReplyWhere id Says text_of AreOf reply.items)
       (λ reply replies. (Ok answer, subst Says is says, replies)) made
 
   -- the reply of a refusal that is said
   pub replied_err : (said : Result A Refusal) (refused : Refusal) (r : Result (Vec ℕ Global) E) → said ≡ Err refused → Says said
-      → IfOk r (λ reply. IsRefusedReply id reply.items) → IfOk r (λ reply. IsReplyWhere id Says text_of with_answer reply.items)
+      → IfOk r (λ reply. IsRefusedReply id reply.items) → IfOk r (λ reply. IsReplyWhere id Says text_of AreOf reply.items)
   replied_err said refused r is says made =
-      if_ok r (λ reply. IsRefusedReply id reply.items) (λ reply. IsReplyWhere id Says text_of with_answer reply.items)
+      if_ok r (λ reply. IsRefusedReply id reply.items) (λ reply. IsReplyWhere id Says text_of AreOf reply.items)
       (λ reply replies. (Err refused, subst Says is says, replies)) made

@@ -1,8 +1,9 @@
 -- Questions that are answered one after the other over one reading (docs/FORMATS.md, "Many questions").
-use Rattle.std.specs.Prelude.{◌≡◌, ◌⊎◌, ℕ, List, Option, None, Some, Result, Ok, Err, codes}
+use Rattle.std.specs.Prelude.{◌≡◌, ◌⊎◌, ℕ, Bool, List, Option, None, Some, Result, Ok, Err, codes}
 use Rattle.std.specs.Option.{unwrap_or}
 use Rattle.candidates.specs.Offer.{Offer}
-use Rattle.cli.specs.Members.{with_answered, with_candidates, with_kept, with_plan, with_refutation}
+use Rattle.cli.specs.Members.{AreOfAnswered, AreOfCandidates, AreOfKept, AreOfPlan, AreOfRefutation}
+use Rattle.cli.specs.Packages.{IsSaidOfSurvey}
 use Rattle.cli_engine.specs.Answer.{IsSaidOfNames}
 use Rattle.cli_engine.specs.Meaning.{IsSaid}
 use Rattle.cli_engine.specs.Refuted.{IsSaidOf}
@@ -10,6 +11,7 @@ use Rattle.cli_engine.specs.Solution.{IsSaidOfRequest}
 use Rattle.cli_engine.specs.declared.check.JudgedPlan.{JudgedPlan}
 use Rattle.cli_engine.specs.declared.check_refutation.JudgedRefutation.{JudgedRefutation}
 use Rattle.cli_engine.specs.declared.solve.Answered.{Answered}
+use Rattle.command_line.specs.Asked.{Survey}
 use Rattle.conversation.specs.Conversation.{AreHeard}
 use Rattle.conversation.specs.declared.ended.Ended.{Ended}
 use Rattle.documents.specs.Document.{IsLineOf, object_with, refused_with}
@@ -17,11 +19,13 @@ use Rattle.inputs.specs.Before.{IsRefusalBefore}
 use Rattle.inputs.specs.ReadAs.{asking}
 use Rattle.inputs.specs.Texts.{Found, Texts}
 use Rattle.inputs.specs.declared.refusal.Refusal.{Refusal}
+use Rattle.installable.specs.declared.answer.Surveyed.{Surveyed}
 use Rattle.keep_back.specs.KeptBack.{IsSaidOfKept}
 use Rattle.keep_back.specs.declared.keep_back.KeptBack.{KeptBack}
 use Rattle.outcomes.specs.Answer.{candidate_lines, refutation_line, solved_text, verdict_line}
 use Rattle.outcomes.specs.Exit.{exit_of_ended}
 use Rattle.outcomes.specs.Outcome.{IsOutcomeOfRefusal}
+use Rattle.outcomes.specs.Survey.{survey_text, with_survey}
 use Rattle.outcomes.specs.declared.exit.Exit.TheVariants as exit
 use Rattle.outcomes.specs.declared.outcome.Outcome.{Outcome}
 use Rattle.outcomes.specs.declared.outcome.Outcome.TheVariants as outcome
@@ -35,36 +39,53 @@ use Rattle.serde_json.specs.Data.{Data, Members, no_members, null, put}
 abbrev pub with_id : Data → Members → Members
 with_id id others = put (codes "id") id others
 
--- the reply is the document of this text with these members beside others, and with the value
-abbrev pub IsReplyOf : Data → List ℕ → (Members → Members) → List ℕ → Type 0
-IsReplyOf id text with_these reply = (others : Members) × IsLineOf (object_with text (with_id id (with_these others))) reply
+-- the reply is the document of this text with such members and the value
+abbrev pub IsReplyOf : Data → List ℕ → (Members → Type 0) → List ℕ → Type 0
+IsReplyOf id text Are reply = (all : Members) × Are all × IsLineOf (object_with text (with_id id all)) reply
 
 -- the reply is the document of a refusal in some words, with the value
 abbrev pub IsRefusedReply : Data → List ℕ → Type 0
 IsRefusedReply id reply = (words : List ℕ) × IsLineOf (refused_with words (with_id id no_members)) reply
 
 -- the reply is that of what is said: the document of the answer, or of the refusal
-abbrev pub IsReplyOfSaid : {A : Type 0} → Data → (A → List ℕ) → (A → Members → Members) → Result A Refusal → List ℕ → Type 0
-IsReplyOfSaid id text_of with_answer (Ok answer) reply = IsReplyOf id (text_of answer) (with_answer answer) reply
-IsReplyOfSaid id text_of with_answer (Err refused) reply = IsRefusedReply id reply
+abbrev pub IsReplyOfSaid : {A : Type 0} → Data → (A → List ℕ) → (A → Members → Type 0) → Result A Refusal → List ℕ → Type 0
+IsReplyOfSaid id text_of AreOf (Ok answer) reply = IsReplyOf id (text_of answer) (AreOf answer) reply
+IsReplyOfSaid id text_of AreOf (Err refused) reply = IsRefusedReply id reply
 
 -- something is said so, and the reply is that of it
-abbrev pub IsReplyWhere : {A : Type 0} → Data → (Result A Refusal → Type 0) → (A → List ℕ) → (A → Members → Members) → List ℕ → Type 0
-IsReplyWhere {A} id Says text_of with_answer reply = (said : Result A Refusal) × Says said × IsReplyOfSaid id text_of with_answer said reply
+abbrev pub IsReplyWhere : {A : Type 0} → Data → (Result A Refusal → Type 0) → (A → List ℕ) → (A → Members → Type 0) → List ℕ → Type 0
+IsReplyWhere {A} id Says text_of AreOf reply = (said : Result A Refusal) × Says said × IsReplyOfSaid id text_of AreOf said reply
+
+-- all packages of these names, or all packages where there are none
+abbrev pub survey_of : List (List ℕ) → Bool → Bool → ℕ → Survey
+survey_of names all_versions without_essential limit = record {
+  names = names;
+  asks_all_versions = all_versions;
+  without_essential = without_essential;
+  shard = record { number = 1; of = 1 };
+  limit = limit;
+}
+
+-- the members are those of the answers about packages
+abbrev pub AreOfSurvey : Surveyed → Members → Type 0
+AreOfSurvey surveyed all = all ≡ with_survey surveyed no_members
 
 -- the reply to each question is that of what is said by the texts with its request in the place of theirs, as where it is asked alone
 abbrev pub IsReplyTo : Texts → ℕ → Data → Asks → List ℕ → Type 0
 IsReplyTo texts limit id (ask.solve request own names_pairs) reply =
-    IsReplyWhere {A = Answered} id (IsSaidOfRequest (asking request texts) (unwrap_or own limit) names_pairs) solved_text with_answered reply
+    IsReplyWhere {A = Answered} id (IsSaidOfRequest (asking request texts) (unwrap_or own limit) names_pairs) solved_text AreOfAnswered reply
 IsReplyTo texts limit id (ask.keep_back request own) reply =
-    IsReplyWhere {A = KeptBack} id (IsSaidOfKept (asking request texts) (unwrap_or own limit)) (λ kept. solved_text kept.answered) with_kept reply
+    IsReplyWhere {A = KeptBack} id (IsSaidOfKept (asking request texts) (unwrap_or own limit)) (λ kept. solved_text kept.answered) AreOfKept reply
 IsReplyTo texts limit id (ask.check_plan request plan) reply =
-    IsReplyWhere {A = JudgedPlan} id (IsSaid (asking request texts) (Some plan)) (λ judged. verdict_line judged.verdict) with_plan reply
+    IsReplyWhere {A = JudgedPlan} id (IsSaid (asking request texts) (Some plan)) (λ judged. verdict_line judged.verdict) AreOfPlan reply
 IsReplyTo texts limit id (ask.check_refutation request refutation) reply =
     IsReplyWhere {A = JudgedRefutation} id (IsSaidOf (asking request texts) (Some refutation)) (λ judged. refutation_line judged.verdict)
-    with_refutation reply
+    AreOfRefutation reply
 IsReplyTo texts limit id (ask.candidate names) reply =
-    IsReplyWhere {A = List (Option Offer)} id (IsSaidOfNames texts names) (candidate_lines names) (with_candidates names) reply
+    IsReplyWhere {A = List (Option Offer)} id (IsSaidOfNames texts names) (candidate_lines names) (AreOfCandidates names) reply
+IsReplyTo texts limit id (ask.installable names all_versions without_essential own) reply =
+    IsReplyWhere {A = Surveyed} id (IsSaidOfSurvey texts (survey_of names all_versions without_essential (unwrap_or own limit)))
+    survey_text AreOfSurvey reply
 
 -- the reply to what a line is read as: to the question, or where it is none a refusal without a value
 abbrev pub IsReplyToRead : Texts → ℕ → Option Question → List ℕ → Type 0

@@ -4,7 +4,7 @@ use Rattle.candidates.specs.Offer.{Offer}
 use Rattle.cli.specs.Applied.{IsOutcomeOfPlanTaken}
 use Rattle.cli.specs.Batch.{IsOutcomeOfBatch}
 use Rattle.cli.specs.Files.{Files, judged_at, shelved_at}
-use Rattle.cli.specs.Members.{AreMembersOf, with_answered, with_candidates, with_plan, with_refutation}
+use Rattle.cli.specs.Members.{AreMembersOf, AreOfAnswered, AreOfCandidates, AreOfPlan, AreOfRefutation}
 use Rattle.cli.specs.Packages.{IsOutcomeOfPackages}
 use Rattle.cli.specs.Places.{comparison_of, texts_for}
 use Rattle.cli.specs.Possible.{IsOutcomeOfPossible}
@@ -42,28 +42,28 @@ IsSaidOfVersions version relation other (Err refused) = comparison_refusal versi
 -- The outcomes, each in the format that is asked for
 
 -- it is what is printed, in this format, of something that is said, and in a document with these members of an answer
-abbrev pub IsPrintedOf : {A : Type 0} → (Result A Refusal → Type 0) → (Result A Refusal → Outcome → Type 0) → (A → Members → Members)
+abbrev pub IsPrintedOf : {A : Type 0} → (Result A Refusal → Type 0) → (Result A Refusal → Outcome → Type 0) → (A → Members → Type 0)
     → Format → Outcome → Type 0
-IsPrintedOf {A} Says Prints with_answer written found = (said : Result A Refusal) × (plain : Outcome) × (members : Members)
-    × Says said × Prints said plain × AreMembersOf with_answer written said members × IsOutcomeIn written members plain found
+IsPrintedOf {A} Says Prints AreOf written found = (said : Result A Refusal) × (plain : Outcome) × (members : Members)
+    × Says said × Prints said plain × AreMembersOf AreOf written said members × IsOutcomeIn written members plain found
 
 -- the outcome is that of what is said of the names by the texts
 abbrev pub IsOutcomeOfNames : Texts → List Text → Format → Outcome → Type 0
 IsOutcomeOfNames texts names =
-    IsPrintedOf {A = List (Option Offer)} (IsSaidOfNames texts names) (IsOutcomeOfCandidates names) (with_candidates names)
+    IsPrintedOf {A = List (Option Offer)} (IsSaidOfNames texts names) (IsOutcomeOfCandidates names) (AreOfCandidates names)
 
 -- the outcome is that of what is said of the request by the texts
 abbrev pub IsOutcomeOfRequest : Texts → ℕ → Bool → Format → Outcome → Type 0
 IsOutcomeOfRequest texts limit names_pairs =
-    IsPrintedOf {A = Answered} (IsSaidOfRequest texts limit names_pairs) IsOutcomeOfSolved with_answered
+    IsPrintedOf {A = Answered} (IsSaidOfRequest texts limit names_pairs) IsOutcomeOfSolved AreOfAnswered
 
 -- the outcome is that of what is said of the plan by the texts
 abbrev pub IsOutcomeOfPlanJudged : Texts → Found → Format → Outcome → Type 0
-IsOutcomeOfPlanJudged texts plan = IsPrintedOf {A = JudgedPlan} (IsSaid texts plan) IsOutcomeOfPlan with_plan
+IsOutcomeOfPlanJudged texts plan = IsPrintedOf {A = JudgedPlan} (IsSaid texts plan) IsOutcomeOfPlan AreOfPlan
 
 -- the outcome is that of what is said of the refutation by the texts
 abbrev pub IsOutcomeOfLines : Texts → Found → Format → Outcome → Type 0
-IsOutcomeOfLines texts lines = IsPrintedOf {A = JudgedRefutation} (IsSaidOf texts lines) IsOutcomeOfRefutation with_refutation
+IsOutcomeOfLines texts lines = IsPrintedOf {A = JudgedRefutation} (IsSaidOf texts lines) IsOutcomeOfRefutation AreOfRefutation
 
 -- the outcome is that of what is said of the versions
 abbrev pub IsOutcomeOfVersions : Text → Comparison → Text → Outcome → Type 0

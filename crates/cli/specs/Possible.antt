@@ -1,6 +1,6 @@
 -- What is printed of as much of a request as can be.
 use Rattle.std.specs.Prelude.{◌≡◌, ◌⊎◌, ℕ, List, Option, None, Some, Result, Ok, Err}
-use Rattle.cli.specs.Members.{AreMembersIn, with_kept}
+use Rattle.cli.specs.Members.{AreMembersIn, AreOfKept}
 use Rattle.cli.specs.declared.possible.Left.{Left}
 use Rattle.command_line.specs.declared.call.Format.{Format}
 use Rattle.inputs.specs.Texts.{Texts}
@@ -24,7 +24,7 @@ IsPrintedOfPut (Err e) printed found = IsRequestUnwritten found
 -- it is printed of the answer to what is left, in this format, and in a document with the members of both
 abbrev pub IsPrintedOfKept : Format → KeptBack → Outcome → Type 0
 IsPrintedOfKept written kept printed = (plain : Outcome) × (members : Members) × IsOutcomeOfSolved (Ok kept.answered) plain
-    × AreMembersIn written (with_kept kept) members × IsOutcomeIn written members plain printed
+    × AreMembersIn written (AreOfKept kept) members × IsOutcomeIn written members plain printed
 
 -- something is said of as much of the request as can be, and this is what is printed and written of it, or the refusal
 abbrev pub IsSaidOfLeft : Texts → ℕ → Format → Result Left Refusal → Type 0

@@ -3,13 +3,14 @@ ghost use Rattle.std.specs.Prelude.{◌≡◌, IfOk, OnOk, is_some, map};
 ghost use Rattle.std.specs.List.{list_all};
 ghost use Rattle.std.specs.Option.{option_copied};
 ghost use Rattle.cli.specs.Members as Spec;
-ghost use Rattle.cli.specs.Members.{AreBeside, AreMembersIn};
+ghost use Rattle.cli.specs.Members.{AreMembersIn};
 ghost use Rattle.serde_json.specs.View.{members_view, view};
 
-use crate::members::push_value;
 use cli_engine::Candidate;
 use command_line::Format;
-use documents::{Members, candidate_value, no_candidate_value, put_sentences, put_text};
+use documents::{
+    Members, candidate_value, no_candidate_value, push_value, put_sentences, put_text,
+};
 use serde_json::Value;
 use std::alloc::{AllocError, Global};
 
@@ -23,7 +24,7 @@ pub(crate) fn members_of_names(
     sentences: &[u8],
 ) -> Result<Members, AllocError>
     ensures { IfOk result (λ members. AreMembersIn format
-        (Spec.with_candidates (map (λ name. name.now) names.now) candidates.now)
+        (Spec.AreOfCandidates (map (λ name. name.now) names.now) candidates.now)
         (members_view members.map.entries)) }
 {
     match format {
@@ -39,9 +40,8 @@ fn names_members(
     candidates: &[Option<Candidate>],
     sentences: &[u8],
 ) -> Result<Members, AllocError>
-    ensures { IfOk result (λ members. AreBeside
-        (Spec.with_candidates (map (λ name. name.now) names.now) candidates.now)
-        (members_view members.map.entries)) }
+    ensures { IfOk result (λ members. Spec.AreOfCandidates
+        (map (λ name. name.now) names.now) candidates.now (members_view members.map.entries)) }
 {
     let mut members = Members::new(alloc);
     put_sentences(alloc, &mut members, sentences)?;

@@ -1,6 +1,5 @@
 //! Questions that are heard and replied to one after the other, over one reading.
-ghost use Rattle.std.specs.Prelude.{◌≡◌, OnOk, refl};
-ghost use Rattle.std.specs.Io.KnownBytes.{Appends};
+ghost use Rattle.std.specs.Prelude.{◌≡◌, refl};
 ghost use Rattle.conversation.specs.Conversation.{AreAnswered};
 ghost use Rattle.conversation.specs.Turn.{IsReplied, IsTurn};
 ghost use Rattle.cli.specs.Batch.{question_bytes};
@@ -9,10 +8,10 @@ ghost use Rattle.inputs.specs.ReadAs.{IsListed};
 ghost use Rattle.text_lines.specs.Lines.{left_of};
 
 use crate::reply::reply_to;
-use conversation::{Ended, Talk};
+use cli_engine::idle_text;
+use conversation::{Ended, Talk, write_reply};
 use inputs::{Before, Question, Refusal, Shelf, Source, listed_in};
 use std::alloc::{AllocError, Global};
-use std::io;
 use std::io::Write;
 use std::marker::PhantomData;
 use text_lines::{HearError, Heard};
@@ -41,20 +40,13 @@ pub(crate) fn questions_of<'o, T, W>(_talk: &Talk<'o, T, W>, limit: u32) -> Ques
     }
 }
 
-// Writes the reply, and hands it on where the writer keeps it back.
-fn write_reply<W: Write>(out: &mut W, reply: &[u8]) -> io::Result<()>
-    ensures { OnOk result (Appends (W.contents out.old) (W.contents out.new) reply.now) }
-{
-    out.write_all(reply)?;
-    out.flush()
-}
-
 // Replies to the question of this number over what is read.
 fn reply_on<'i, 'a, W: Write>(
     alloc: Global,
     before: &Before<'_, '_, '_, '_, '_, '_, 'i, 'a>,
     listing: &Listing<'_, 'i, 'a>,
     limit: u32,
+    idle: &[u8],
     number: usize,
     line: &[u8],
     out: &mut W,
@@ -62,7 +54,7 @@ fn reply_on<'i, 'a, W: Write>(
     requires { IsListed before.now listing.now }
     ensures { IsReplied (IsReplyOver before.now limit) line.now (W.contents out.old) (W.contents out.new) result }
 {
-    match reply_to(alloc, before, listing, limit, number, line) {
+    match reply_to(alloc, before, listing, limit, idle, number, line) {
         Ok(reply) => match write_reply(out, reply.as_slice()) {
             Ok(()) => Ok(()),
             Err(_) => Err(Ended::Unwritten),
@@ -77,6 +69,7 @@ fn turn<'i, 'a, T: Source, W: Write>(
     before: &Before<'_, '_, '_, '_, '_, '_, 'i, 'a>,
     listing: &Listing<'_, 'i, 'a>,
     limit: u32,
+    idle: &[u8],
     number: usize,
     talk: &mut Talk<'_, T, W>,
 ) -> Option<Ended>
@@ -92,6 +85,7 @@ fn turn<'i, 'a, T: Source, W: Write>(
                 before,
                 listing,
                 limit,
+                idle,
                 number,
                 line.as_slice(),
                 &mut *talk.out,
@@ -106,6 +100,7 @@ fn turn<'i, 'a, T: Source, W: Write>(
                 before,
                 listing,
                 limit,
+                idle,
                 number,
                 line.as_slice(),
                 &mut *talk.out,
@@ -127,6 +122,7 @@ fn answered<'i, 'a, T: Source, W: Write>(
     before: &Before<'_, '_, '_, '_, '_, '_, 'i, 'a>,
     listing: &Listing<'_, 'i, 'a>,
     limit: u32,
+    idle: &[u8],
     talk: &mut Talk<'_, T, W>,
 ) -> Ended
     requires { IsListed before.now listing.now }
@@ -135,7 +131,7 @@ fn answered<'i, 'a, T: Source, W: Write>(
     ensures held { talk.new.out.ghost_name ≡ talk.old.out.ghost_name }
 {
     for number in 1..usize::MAX {
-        if let Some(ended) = turn(alloc, before, listing, limit, number, talk) {
+        if let Some(ended) = turn(alloc, before, listing, limit, idle, number, talk) {
             return ended;
         }
     }
@@ -162,7 +158,8 @@ impl<'o, T: Source + Drop, W: Write> Question for Questions<'o, T, W> {
         talk: &mut Talk<'o, T, W>,
     ) -> Result<Ended, Refusal> {
         let listing = listed_in(alloc, before, false)?;
-        Ok(answered(alloc, before, &listing, self.limit, talk))
+        let idle = idle_text(alloc, before)?;
+        Ok(answered(alloc, before, &listing, self.limit, idle.as_slice(), talk))
     }
 
     ghost refuses = { λ _ _ _ _ _ is. is };

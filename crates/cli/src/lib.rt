@@ -23,6 +23,7 @@ mod program;
 mod refutations;
 mod refuted;
 mod reply;
+mod reply_of_packages;
 mod request;
 mod told;
 mod versions;

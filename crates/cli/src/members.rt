@@ -1,8 +1,9 @@
-//! What a document has of an answer beside its text, where one is asked for. What is promised of it is put last.
-ghost use Rattle.std.specs.Prelude.{◌≡◌, ◌∷◌, ◌++◌, [], IfOk, OnOk, map};
+//! What a document has of an answer beside its text, where one is asked for. The sentences, of which nothing is promised, are put first.
+ghost use Rattle.std.specs.Prelude.{◌≡◌, IfOk, OnOk};
 ghost use Rattle.cli.specs.Members as Spec;
-ghost use Rattle.cli.specs.Members.{AreBeside, AreMembersIn};
-ghost use Rattle.serde_json.specs.View.{members_view, view};
+ghost use Rattle.cli.specs.Members.{AreMembersIn, members_in};
+ghost use Rattle.documents.specs.Steps.{AreWithSteps};
+ghost use Rattle.serde_json.specs.View.{members_view};
 
 use crate::archives::archives_of;
 use cli_engine::{
@@ -14,7 +15,6 @@ use documents::{
 };
 use inputs::Shelf;
 use rules::Step;
-use serde_json::{Value, push};
 use std::alloc::{AllocError, Global};
 
 /// The members of the answer about a plan, where it is written as a document: the steps, with the fields of the stanzas that they
@@ -28,7 +28,7 @@ pub(crate) fn members_of_plan<S: Shelf>(
     sentences: &[u8],
 ) -> Result<Members, AllocError>
     ensures members { IfOk result (λ members.
-        AreMembersIn format (Spec.with_plan judged.now) (members_view members.map.entries)) }
+        AreMembersIn format (Spec.AreOfPlan judged.now) (members_view members.map.entries)) }
     ensures held { S.holds shelf.old shelf.new }
 {
     match format {
@@ -46,10 +46,11 @@ fn plan_members<S: Shelf>(
     sentences: &[u8],
 ) -> Result<Members, AllocError>
     ensures members { IfOk result (λ members.
-        AreBeside (Spec.with_plan judged.now) (members_view members.map.entries)) }
+        Spec.AreOfPlan judged.now (members_view members.map.entries)) }
     ensures held { S.holds shelf.old shelf.new }
 {
     let mut members = Members::new(alloc);
+    put_sentences(alloc, &mut members, sentences)?;
     put_plan(
         alloc,
         shelf,
@@ -57,7 +58,6 @@ fn plan_members<S: Shelf>(
         judged.steps.as_slice(),
         &mut members,
     )?;
-    put_sentences(alloc, &mut members, sentences)?;
     put_verdict(alloc, &mut members, &judged.verdict)?;
     Ok(members)
 }
@@ -73,7 +73,7 @@ pub(crate) fn members_of_answered<S: Shelf>(
     sentences: &[u8],
 ) -> Result<Members, AllocError>
     ensures members { IfOk result (λ members.
-        AreMembersIn format (Spec.with_answered answered) (members_view members.map.entries)) }
+        AreMembersIn format (Spec.AreOfAnswered answered) (members_view members.map.entries)) }
     ensures held { S.holds shelf.old shelf.new }
 {
     match format {
@@ -91,7 +91,7 @@ fn answered_members<S: Shelf>(
     sentences: &[u8],
 ) -> Result<Members, AllocError>
     ensures members { IfOk result (λ members.
-        AreBeside (Spec.with_answered answered) (members_view members.map.entries)) }
+        Spec.AreOfAnswered answered (members_view members.map.entries)) }
     ensures held { S.holds shelf.old shelf.new }
 {
     let Answered {
@@ -99,9 +99,9 @@ fn answered_members<S: Shelf>(
         members,
         ..
     } = answered;
-    let mut members = members.unwrap_or(Members::new(alloc));
-    put_solution(alloc, shelf, settings, &solved, &mut members)?;
+    let mut members = members_or_none(alloc, members);
     put_sentences(alloc, &mut members, sentences)?;
+    put_solution(alloc, shelf, settings, &solved, &mut members)?;
     put_solved(alloc, &solved, &mut members)?;
     Ok(members)
 }
@@ -115,7 +115,7 @@ pub(crate) fn members_of_refutation(
     sentences: &[u8],
 ) -> Result<Members, AllocError>
     ensures { IfOk result (λ members.
-        AreMembersIn format (Spec.with_refutation judged) (members_view members.map.entries)) }
+        AreMembersIn format (Spec.AreOfRefutation judged) (members_view members.map.entries)) }
 {
     match format {
         Format::Text => Ok(Members::new(alloc)),
@@ -130,10 +130,10 @@ fn refutation_members(
     sentences: &[u8],
 ) -> Result<Members, AllocError>
     ensures { IfOk result (λ members.
-        AreBeside (Spec.with_refutation judged) (members_view members.map.entries)) }
+        Spec.AreOfRefutation judged (members_view members.map.entries)) }
 {
     let JudgedRefutation { verdict, members } = judged;
-    let mut members = members.unwrap_or(Members::new(alloc));
+    let mut members = members_or_none(alloc, members);
     put_sentences(alloc, &mut members, sentences)?;
     put_bad_line(alloc, &mut members, bad_line(&verdict))?;
     Ok(members)
@@ -173,6 +173,16 @@ fn undecided_word(why: &Undecided) -> &'static str
     }
 }
 
+// The members that were made, or none.
+fn members_or_none(alloc: Global, made: Option<Members>) -> Members
+    ensures { members_view result.map.entries ≡ members_in made }
+{
+    match made {
+        Some(members) => members,
+        None => Members::new(alloc),
+    }
+}
+
 // Puts the steps of what is answered to a request, if that is a plan.
 fn put_solution<S: Shelf>(
     alloc: Global,
@@ -181,7 +191,8 @@ fn put_solution<S: Shelf>(
     solved: &Solved,
     members: &mut Members,
 ) -> Result<(), AllocError>
-    ensures { S.holds shelf.old shelf.new }
+    ensures steps { OnOk result (Spec.AreStepped solved.now (members_view members.old.map.entries) (members_view members.new.map.entries)) }
+    ensures held { S.holds shelf.old shelf.new }
 {
     match solved {
         Solved::Plan(steps) => put_plan(alloc, shelf, settings, steps.as_slice(), members),
@@ -197,15 +208,9 @@ fn put_plan<S: Shelf>(
     steps: &[Step],
     members: &mut Members,
 ) -> Result<(), AllocError>
-    ensures { S.holds shelf.old shelf.new }
+    ensures steps { OnOk result (AreWithSteps steps.now (members_view members.old.map.entries) (members_view members.new.map.entries)) }
+    ensures held { S.holds shelf.old shelf.new }
 {
     let archives = archives_of(alloc, shelf, settings, steps)?;
     put_steps(alloc, members, steps, &archives)
-}
-
-/// Puts the value behind the others. Memory alone can fail.
-pub(crate) fn push_value(values: &mut Vec<Value>, value: Value) -> Result<(), AllocError>
-    ensures { OnOk result (map view values.new.items ≡ map view values.old.items ++ view value ∷ []) }
-{
-    push(values, value)
 }

@@ -2,7 +2,7 @@
 ghost use Rattle.std.specs.Prelude.{◌≡◌, IfOk, Some, map};
 ghost use Rattle.cli.specs.Calls.{IsOutcomeOfNames, texts_at};
 ghost use Rattle.cli.specs.Files.{Files};
-ghost use Rattle.cli.specs.Members.{AreMembersOf, with_candidates};
+ghost use Rattle.cli.specs.Members.{AreMembersOf, AreOfCandidates};
 ghost use Rattle.serde_json.specs.View.{members_view};
 
 use crate::arguments::Arguments;
@@ -27,7 +27,7 @@ fn members_of(
     sentences: &[u8],
 ) -> Result<Members, AllocError>
     ensures { IfOk result (λ members. AreMembersOf
-        (with_candidates (map (λ name. name.now) names.now)) format answer.now
+        (AreOfCandidates (map (λ name. name.now) names.now)) format answer.now
         (members_view members.map.entries)) }
 {
     match answer {

@@ -31,8 +31,8 @@ fn shard_of(words: ShardWords) -> Shard
     }
 }
 
-// The question that the words ask; reasons are wanted where it is explained or its answer is a document.
-fn question_of<'n>(survey: &'n Survey<'n>, arguments: &Arguments<'_>) -> Installable<'n>
+/// The question that the words ask, and whether reasons are wanted.
+pub(crate) fn question_of<'n>(survey: &'n Survey<'n>, explains: bool) -> Installable<'n>
     ensures { IsQuestionOf (survey_by survey.now) result }
 {
     Installable {
@@ -41,7 +41,7 @@ fn question_of<'n>(survey: &'n Survey<'n>, arguments: &Arguments<'_>) -> Install
         without_essential: survey.without_essential,
         shard: shard_of(survey.shard),
         limit: survey.limit,
-        explains: arguments.explains || is_document(arguments.format),
+        explains,
     }
 }
 
@@ -189,7 +189,7 @@ pub(crate) fn outcome_of_packages<H: Host>(
         at was result (H.files host.new) (H.kept host.new) }
 {
     notes.wanted = arguments.explains;
-    let question = question_of(survey, arguments);
+    let question = question_of(survey, arguments.explains || is_document(arguments.format));
     let said = said_of_packages(alloc, host, arguments, &question, notes)?;
     tell_survey(alloc, &said, notes)?;
     outcome_of_said(alloc, host, folder, arguments.format, &said)

@@ -2,7 +2,7 @@
 ghost use Rattle.std.specs.Prelude.{◌≡◌, IfOk, Some};
 ghost use Rattle.cli.specs.Calls.{IsOutcomeOfLines, texts_at};
 ghost use Rattle.cli.specs.Files.{Files, judged_at};
-ghost use Rattle.cli.specs.Members.{AreMembersOf, with_refutation};
+ghost use Rattle.cli.specs.Members.{AreMembersOf, AreOfRefutation};
 ghost use Rattle.serde_json.specs.View.{members_view};
 
 use crate::arguments::Arguments;
@@ -25,7 +25,7 @@ fn members_of(
     sentences: &[u8],
 ) -> Result<Members, AllocError>
     ensures { IfOk result (λ members.
-        AreMembersOf with_refutation format answer (members_view members.map.entries)) }
+        AreMembersOf AreOfRefutation format answer (members_view members.map.entries)) }
 {
     match answer {
         Ok(judged) => members_of_refutation(alloc, format, judged, sentences),

@@ -1,7 +1,7 @@
 //! The reply to a question of many: a line of JSON.
 ghost use Rattle.std.specs.Prelude.{◌≡◌, IfOk, List, codes, map, string_bytes};
 ghost use Rattle.cli.specs.Batch.{IsRefusedReply, IsReplyOf, IsReplyTo, IsReplyToLine, IsReplyWhere};
-ghost use Rattle.cli.specs.Members.{with_answered, with_candidates, with_kept, with_plan, with_refutation};
+ghost use Rattle.cli.specs.Members.{AreOfAnswered, AreOfCandidates, AreOfKept, AreOfPlan, AreOfRefutation};
 ghost use Rattle.cli_engine.specs.Answer.{IsSaidOfNames};
 ghost use Rattle.cli_engine.specs.Meaning.{IsSaid};
 ghost use Rattle.cli_engine.specs.Refuted.{IsSaidOf};
@@ -18,6 +18,7 @@ ghost use Rattle.serde_json.specs.View.{members_view, view};
 use crate::candidate_members::members_of_names;
 use crate::left_members::put_left;
 use crate::members::{members_of_answered, members_of_plan, members_of_refutation};
+use crate::reply_of_packages::reply_to_installable;
 use crate::told::{tell_undecided, tell_unfinished};
 use cli_engine::{
     Answered, Candidate, Candidates, GivenPlan, GivenRefutation, JudgedPlan, JudgedRefutation,
@@ -33,8 +34,8 @@ use serde_json::Value;
 use std::alloc::{AllocError, Global};
 use universe_build::Listing;
 
-// No texts: of a reply nothing is read a second time.
-fn no_texts<'t>() -> MemoryShelf<'t, 't> {
+/// No texts: of a reply nothing is read a second time.
+pub(crate) fn no_texts<'t>() -> MemoryShelf<'t, 't> {
     let inputs = Inputs {
         status: &[],
         sources: &[],
@@ -45,11 +46,12 @@ fn no_texts<'t>() -> MemoryShelf<'t, 't> {
     MemoryShelf::new(inputs, None)
 }
 
-// Notes that are wanted: a document has them.
-fn wanted(alloc: Global) -> Notes {
+// Notes that are wanted, since a document has them; what is told of inputs that change no answer is known before.
+fn wanted(alloc: Global, idle: &[u8]) -> Result<Notes, AllocError> {
     let mut notes = Notes::new(alloc);
     notes.wanted = true;
-    notes
+    notes.idle = Some(idle.to_vec(alloc)?);
+    Ok(notes)
 }
 
 // The answer over the request with this text.
@@ -69,8 +71,13 @@ fn answer_over<'i, 'a, Q: OverRequest>(
     question.answer(alloc, before, &requested, beside)
 }
 
-// The reply with this text and these members.
-fn reply_of(alloc: Global, id: Value, text: &[u8], members: Members) -> Result<Vec<u8>, AllocError>
+/// The reply with this text and these members. Memory alone can fail.
+pub(crate) fn reply_of(
+    alloc: Global,
+    id: Value,
+    text: &[u8],
+    members: Members,
+) -> Result<Vec<u8>, AllocError>
     ensures { IfOk result (λ reply. IsLineOf
         (object_with text.now (put (codes "id") (view id) (members_view members.map.entries))) reply.items) }
 {
@@ -88,8 +95,12 @@ fn refused_reply(alloc: Global, id: Value, words: &[u8]) -> Result<Vec<u8>, Allo
     refused_document(alloc, members, words)
 }
 
-// The reply of a refusal.
-fn reply_of_refusal(alloc: Global, id: Value, refusal: &Refusal) -> Result<Vec<u8>, AllocError>
+/// The reply of a refusal. Memory alone can fail.
+pub(crate) fn reply_of_refusal(
+    alloc: Global,
+    id: Value,
+    refusal: &Refusal,
+) -> Result<Vec<u8>, AllocError>
     ensures { IfOk result (λ reply. IsRefusedReply (view id) reply.items) }
 {
     let words = refusal.to_string(alloc)?;
@@ -114,7 +125,7 @@ fn reply_of_answered(
     sentences: &[u8],
 ) -> Result<Vec<u8>, AllocError>
     ensures { IfOk result (λ reply.
-        IsReplyOf (view id) (Lines.solved_text answered) (with_answered answered) reply.items) }
+        IsReplyOf (view id) (Lines.solved_text answered) (AreOfAnswered answered) reply.items) }
 {
     let text = solved_text(alloc, &answered)?;
     let mut shelf = no_texts();
@@ -138,7 +149,7 @@ fn reply_of_kept(
     sentences: &[u8],
 ) -> Result<Vec<u8>, AllocError>
     ensures { IfOk result (λ reply.
-        IsReplyOf (view id) (Lines.solved_text kept.answered) (with_kept kept) reply.items) }
+        IsReplyOf (view id) (Lines.solved_text kept.answered) (AreOfKept kept) reply.items) }
 {
     let text = solved_text(alloc, &kept.answered)?;
     let KeptBack {
@@ -175,7 +186,7 @@ fn reply_of_judged(
     sentences: &[u8],
 ) -> Result<Vec<u8>, AllocError>
     ensures { IfOk result (λ reply.
-        IsReplyOf (view id) (Lines.verdict_line judged.now.verdict) (with_plan judged.now) reply.items) }
+        IsReplyOf (view id) (Lines.verdict_line judged.now.verdict) (AreOfPlan judged.now) reply.items) }
 {
     let text = verdict_line(alloc, &judged.verdict)?;
     let mut shelf = no_texts();
@@ -191,7 +202,7 @@ fn reply_of_lines(
     sentences: &[u8],
 ) -> Result<Vec<u8>, AllocError>
     ensures { IfOk result (λ reply.
-        IsReplyOf (view id) (Lines.refutation_line judged.verdict) (with_refutation judged) reply.items) }
+        IsReplyOf (view id) (Lines.refutation_line judged.verdict) (AreOfRefutation judged) reply.items) }
 {
     let text = refutation_line(alloc, &judged.verdict)?;
     let members = members_of_refutation(alloc, Format::Json, judged, sentences)?;
@@ -203,6 +214,7 @@ fn reply_to_solve<'i, 'a>(
     alloc: Global,
     before: &Before<'_, '_, '_, '_, '_, '_, 'i, 'a>,
     listing: &Listing<'_, 'i, 'a>,
+    idle: &[u8],
     id: Value,
     request: &[u8],
     limit: u32,
@@ -210,14 +222,14 @@ fn reply_to_solve<'i, 'a>(
 ) -> Result<Vec<u8>, AllocError>
     requires { IsListed before.now listing.now }
     ensures { (texts : Texts) → AreReadAs texts before.now → IfOk result (λ reply. IsReplyWhere (view id)
-        (IsSaidOfRequest (asking request.now texts) limit names_pairs) Lines.solved_text with_answered reply.items) }
+        (IsSaidOfRequest (asking request.now texts) limit names_pairs) Lines.solved_text AreOfAnswered reply.items) }
 {
     let question = Solve {
         limit,
         names_pairs,
         has_document: true,
     };
-    let mut notes = wanted(alloc);
+    let mut notes = wanted(alloc, idle)?;
     match answer_over(alloc, &question, before, listing, request, &mut notes) {
         Ok(answered) => {
             tell_undecided(&answered.solved, &mut notes)?;
@@ -231,14 +243,15 @@ fn reply_to_solve<'i, 'a>(
 fn reply_to_keep_back(
     alloc: Global,
     before: &Before<'_, '_, '_, '_, '_, '_, '_, '_>,
+    idle: &[u8],
     id: Value,
     request: Vec<u8>,
     limit: u32,
 ) -> Result<Vec<u8>, AllocError>
     ensures { (texts : Texts) → AreReadAs texts before.now → IfOk result (λ reply. IsReplyWhere (view id)
-        (IsSaidOfKept (asking request.items texts) limit) (λ kept. Lines.solved_text kept.answered) with_kept reply.items) }
+        (IsSaidOfKept (asking request.items texts) limit) (λ kept. Lines.solved_text kept.answered) AreOfKept reply.items) }
 {
-    let mut notes = wanted(alloc);
+    let mut notes = wanted(alloc, idle)?;
     let mut shelf = no_texts();
     match keep(alloc, &mut shelf, before, request, limit, true, &mut notes) {
         Ok(kept) => {
@@ -254,16 +267,17 @@ fn reply_to_plan<'i, 'a>(
     alloc: Global,
     before: &Before<'_, '_, '_, '_, '_, '_, 'i, 'a>,
     listing: &Listing<'_, 'i, 'a>,
+    idle: &[u8],
     id: Value,
     request: &[u8],
     plan: &[u8],
 ) -> Result<Vec<u8>, AllocError>
     requires { IsListed before.now listing.now }
     ensures { (texts : Texts) → AreReadAs texts before.now → IfOk result (λ reply. IsReplyWhere (view id)
-        (IsSaid (asking request.now texts) (Some plan.now)) (λ judged. Lines.verdict_line judged.verdict) with_plan reply.items) }
+        (IsSaid (asking request.now texts) (Some plan.now)) (λ judged. Lines.verdict_line judged.verdict) AreOfPlan reply.items) }
 {
     let question = GivenPlan { plan };
-    let mut notes = wanted(alloc);
+    let mut notes = wanted(alloc, idle)?;
     match answer_over(alloc, &question, before, listing, request, &mut notes) {
         Ok(judged) => {
             tell_unfinished(&judged, &mut notes)?;
@@ -278,6 +292,7 @@ fn reply_to_refutation<'i, 'a>(
     alloc: Global,
     before: &Before<'_, '_, '_, '_, '_, '_, 'i, 'a>,
     listing: &Listing<'_, 'i, 'a>,
+    idle: &[u8],
     id: Value,
     request: &[u8],
     refutation: &[u8],
@@ -285,10 +300,10 @@ fn reply_to_refutation<'i, 'a>(
     requires { IsListed before.now listing.now }
     ensures { (texts : Texts) → AreReadAs texts before.now → IfOk result (λ reply. IsReplyWhere (view id)
         (IsSaidOf (asking request.now texts) (Some refutation.now)) (λ judged. Lines.refutation_line judged.verdict)
-        with_refutation reply.items) }
+        AreOfRefutation reply.items) }
 {
     let question = GivenRefutation { refutation };
-    let mut notes = wanted(alloc);
+    let mut notes = wanted(alloc, idle)?;
     match answer_over(alloc, &question, before, listing, request, &mut notes) {
         Ok(judged) => reply_of_lines(alloc, id, judged, notes.text.as_slice()),
         Err(refusal) => reply_of_refusal(alloc, id, &refusal),
@@ -304,7 +319,7 @@ fn reply_of_names(
     sentences: &[u8],
 ) -> Result<Vec<u8>, AllocError>
     ensures { IfOk result (λ reply. IsReplyOf (view id) (Lines.candidate_lines (map (λ name. name.now) names.now) candidates.now)
-        (with_candidates (map (λ name. name.now) names.now) candidates.now) reply.items) }
+        (AreOfCandidates (map (λ name. name.now) names.now) candidates.now) reply.items) }
 {
     let text = candidate_lines(alloc, names, candidates)?;
     let members = members_of_names(alloc, Format::Json, names, candidates, sentences)?;
@@ -315,18 +330,19 @@ fn reply_of_names(
 fn reply_to_names(
     alloc: Global,
     before: &Before<'_, '_, '_, '_, '_, '_, '_, '_>,
+    idle: &[u8],
     id: Value,
     names: &[&str],
 ) -> Result<Vec<u8>, AllocError>
     ensures { (texts : Texts) → AreReadAs texts before.now → IfOk result (λ reply. IsReplyWhere (view id)
         (IsSaidOfNames texts (map (λ name. name.now) names.now)) (Lines.candidate_lines (map (λ name. name.now) names.now))
-        (with_candidates (map (λ name. name.now) names.now)) reply.items) }
+        (AreOfCandidates (map (λ name. name.now) names.now)) reply.items) }
 {
     let question = Candidates {
         names,
         tells_versions: false,
     };
-    let mut notes = wanted(alloc);
+    let mut notes = wanted(alloc, idle)?;
     let candidates = question.over(alloc, before, &mut notes)?;
     reply_of_names(
         alloc,
@@ -337,8 +353,8 @@ fn reply_to_names(
     )
 }
 
-// The names as they are read of a command line.
-fn words_of<'n>(alloc: Global, names: &'n [String]) -> Result<Vec<&'n str>, AllocError>
+/// The names as they are read of a command line. Memory alone can fail.
+pub(crate) fn words_of<'n>(alloc: Global, names: &'n [String]) -> Result<Vec<&'n str>, AllocError>
     ensures { IfOk result (λ words. map (λ word. word.now) words.items ≡ map string_bytes names.entry.now) }
 {
     let mut words = Vec::with_capacity(alloc, names.len())?;
@@ -352,15 +368,16 @@ fn words_of<'n>(alloc: Global, names: &'n [String]) -> Result<Vec<&'n str>, Allo
 fn reply_to_strings(
     alloc: Global,
     before: &Before<'_, '_, '_, '_, '_, '_, '_, '_>,
+    idle: &[u8],
     id: Value,
     names: &[String],
 ) -> Result<Vec<u8>, AllocError>
     ensures { (texts : Texts) → AreReadAs texts before.now → IfOk result (λ reply. IsReplyWhere (view id)
         (IsSaidOfNames texts (map string_bytes names.now)) (Lines.candidate_lines (map string_bytes names.now))
-        (with_candidates (map string_bytes names.now)) reply.items) }
+        (AreOfCandidates (map string_bytes names.now)) reply.items) }
 {
     let words = words_of(alloc, names)?;
-    reply_to_names(alloc, before, id, words.as_slice())
+    reply_to_names(alloc, before, idle, id, words.as_slice())
 }
 
 // The reply to what is asked.
@@ -369,6 +386,7 @@ fn reply_to_ask<'i, 'a>(
     before: &Before<'_, '_, '_, '_, '_, '_, 'i, 'a>,
     listing: &Listing<'_, 'i, 'a>,
     limit: u32,
+    idle: &[u8],
     id: Value,
     ask: Ask,
 ) -> Result<Vec<u8>, AllocError>
@@ -385,6 +403,7 @@ fn reply_to_ask<'i, 'a>(
             alloc,
             before,
             listing,
+            idle,
             id,
             request.as_slice(),
             own.unwrap_or(limit),
@@ -393,11 +412,12 @@ fn reply_to_ask<'i, 'a>(
         Ask::KeepBack {
             request,
             limit: own,
-        } => reply_to_keep_back(alloc, before, id, request, own.unwrap_or(limit)),
+        } => reply_to_keep_back(alloc, before, idle, id, request, own.unwrap_or(limit)),
         Ask::CheckPlan { request, plan } => reply_to_plan(
             alloc,
             before,
             listing,
+            idle,
             id,
             request.as_slice(),
             plan.as_slice(),
@@ -409,11 +429,27 @@ fn reply_to_ask<'i, 'a>(
             alloc,
             before,
             listing,
+            idle,
             id,
             request.as_slice(),
             refutation.as_slice(),
         ),
-        Ask::Candidate { names } => reply_to_strings(alloc, before, id, names.as_slice()),
+        Ask::Candidate { names } => reply_to_strings(alloc, before, idle, id, names.as_slice()),
+        Ask::Installable {
+            names,
+            all_versions,
+            without_essential,
+            limit: own,
+        } => reply_to_installable(
+            alloc,
+            before,
+            id,
+            names.as_slice(),
+            all_versions,
+            without_essential,
+            own,
+            limit,
+        ),
     }
 }
 
@@ -424,6 +460,7 @@ pub(crate) fn reply_to<'i, 'a>(
     before: &Before<'_, '_, '_, '_, '_, '_, 'i, 'a>,
     listing: &Listing<'_, 'i, 'a>,
     limit: u32,
+    idle: &[u8],
     number: usize,
     line: &[u8],
 ) -> Result<Vec<u8>, AllocError>
@@ -431,7 +468,7 @@ pub(crate) fn reply_to<'i, 'a>(
     ensures { (texts : Texts) → AreReadAs texts before.now → IfOk result (λ reply. IsReplyToLine texts limit line.now reply.items) }
 {
     match question_of(alloc, line)? {
-        Ok(Posed { id, ask }) => reply_to_ask(alloc, before, listing, limit, id, ask),
+        Ok(Posed { id, ask }) => reply_to_ask(alloc, before, listing, limit, idle, id, ask),
         Err(mistake) => reply_of_mistake(alloc, number, &mistake),
     }
 }

@@ -2,7 +2,7 @@
 ghost use Rattle.std.specs.Prelude.{◌≡◌, IfOk, Some};
 ghost use Rattle.cli.specs.Calls.{IsOutcomeOfRequest, texts_at};
 ghost use Rattle.cli.specs.Files.{Files};
-ghost use Rattle.cli.specs.Members.{AreMembersOf, with_answered};
+ghost use Rattle.cli.specs.Members.{AreMembersOf, AreOfAnswered};
 ghost use Rattle.serde_json.specs.View.{members_view};
 
 use crate::arguments::Arguments;
@@ -36,7 +36,7 @@ fn members_of<S: Shelf>(
     sentences: &[u8],
 ) -> Result<Members, AllocError>
     ensures members { IfOk result (λ members.
-        AreMembersOf with_answered format answer (members_view members.map.entries)) }
+        AreMembersOf AreOfAnswered format answer (members_view members.map.entries)) }
     ensures held { S.holds shelf.old shelf.new }
 {
     match answer {

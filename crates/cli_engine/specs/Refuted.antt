@@ -13,9 +13,10 @@ use Rattle.refutecheck.specs.declared.verdict.Verdict.TheVariants as verdict
 use Rattle.rules.specs.Database.{Record}
 use Rattle.rules.specs.Sound.{IsAcceptable}
 use Rattle.rules.specs.Universe.{Universe}
-use Rattle.written_refutation.specs.Judged.{IsWrittenAccepted, IsWrittenVerdict}
+use Rattle.written_refutation.specs.Judged.{IsWrittenAccepted, IsWrittenVerdict, lines_of}
 use Rattle.written_refutation.specs.Written.{read_written}
 use Rattle.written_refutation.specs.declared.written.WrittenRefutation.{WrittenRefutation}
+use Rattle.cli_engine.specs.Solution.{HasLines}
 use Rattle.cli_engine.specs.declared.check_refutation.JudgedRefutation.{JudgedRefutation}
 
 -- what a refutation is read as, whose pairs have numbers or are named
@@ -60,10 +61,12 @@ abbrev pub RefutationHasOneAnswer : Type 0
 RefutationHasOneAnswer = (texts : Texts) (refutation : Found) (first second : Verdict)
     → IsRefutationAnswer texts refutation first → IsRefutationAnswer texts refutation second → first ≡ second
 
--- the verdict is true of the refutation, and where it is yes no set of admitted pairs is acceptable
+-- the verdict is true of the refutation, where it is yes no set of admitted pairs is acceptable, and where a document has lines they are
+-- those by numbers
 pub record IsJudgedRefutation (texts : Texts) (refutation : Found) (judged : JudgedRefutation) : Type 0 where
   pub answer : IsRefutationAnswer texts refutation judged.verdict
   pub refuted : judged.verdict ≡ verdict.Yes → AreRefuted texts
+  pub lines : HasLines answer.universe (lines_of answer.universe.pairs answer.written).lines judged.members
 
 -- what is said of a refutation: its answer, or the first refusal
 abbrev pub IsSaidOf : Texts → Found → Result JudgedRefutation Refusal → Type 0

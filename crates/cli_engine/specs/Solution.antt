@@ -1,12 +1,17 @@
 -- What is answered to a request by the texts, and which refusal comes first.
-use Rattle.std.specs.Prelude.{◌≡◌, ◌⊎◌, ℕ, Bool, true, false, List, Option, Some, None, Result, Ok, Err}
+use Rattle.std.specs.Prelude.{◌≡◌, ◌⊎◌, ℕ, Bool, true, false, List, Option, Some, None, Result, Ok, Err, ⊤}
+use Rattle.documents.specs.Lines.{AreWithLines}
+use Rattle.documents.specs.declared.members.Members.{Members as Made}
 use Rattle.inputs.specs.Meaning.{Denotes, DenotesAsked}
 use Rattle.inputs.specs.Reading.{out_of_memory}
 use Rattle.inputs.specs.Refused.{IsRefusal}
 use Rattle.inputs.specs.Texts.{Texts}
 use Rattle.inputs.specs.declared.refusal.Refusal.{Refusal}
+use Rattle.refutation.specs.declared.line.Line.{Line}
 use Rattle.rules.specs.Database.{Record}
 use Rattle.rules.specs.Universe.{Pair, Universe}
+use Rattle.serde_json.specs.Data.{no_members}
+use Rattle.serde_json.specs.View.{members_view}
 use Rattle.solver.specs.Solvable.{IsSolvable}
 use Rattle.solver.specs.Solved.{IsSolved}
 use Rattle.solver.specs.declared.solved.Solved.{Solved}
@@ -21,14 +26,26 @@ naming_for true pairs (solved.Refuted lines) = Some (naming_text pairs lines)
 naming_for true pairs (solved.Plan steps) = None
 naming_for true pairs (solved.Undecided why) = None
 
+-- what a document has of the lines of a refutation, where it has them: they are those of this one
+abbrev pub HasLines : Universe → List Line → Option Made → Type 0
+HasLines u lines None = ⊤
+HasLines u lines (Some made) = AreWithLines u lines no_members (members_view made.map.entries)
+
+-- the same where the answer is a refutation; another one has none
+abbrev pub HasSolvedLines : Universe → Solved → Option Made → Type 0
+HasSolvedLines u (solved.Refuted lines) made = HasLines u lines made
+HasSolvedLines u (solved.Plan steps) made = made ≡ None
+HasSolvedLines u (solved.Undecided why) made = made ≡ None
+
 -- the answer is true of the universe and the start that the texts denote, by this limit of the search, says whether the request asks
--- for all versions, and has the text of a refutation with its pairs named where that is asked for
+-- for all versions, has the text of a refutation with its pairs named where that is asked for, and its lines where a document has them
 pub record IsSolution (texts : Texts) (limit : ℕ) (names_pairs : Bool) (found : Answered) : Type 0 where
   pub universe : Universe
   pub start : List Record
   pub denoted : DenotesAsked texts universe start found.asks_all_versions
   pub holds : IsSolved universe start limit found.solved
   pub naming : found.naming ≡ naming_for names_pairs universe.pairs found.solved
+  pub lines : HasSolvedLines universe found.solved found.members
 
 -- what texts denote can be solved
 abbrev pub MeaningIsSolvable : Type 0

@@ -37,7 +37,7 @@ pub use offered::Candidate;
 pub use plan::read_steps;
 pub use refutecheck::Verdict as RefutationVerdict;
 pub use refuted::tell_solved;
-pub use requested::tell_refused;
+pub use requested::{idle_text, tell_refused};
 pub use rules::{Reason, Rule, Verdict};
 pub use solve::{Answered, Solve, solve_over};
 pub use solver::{Solved, Undecided};

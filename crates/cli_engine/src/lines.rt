@@ -1,6 +1,6 @@
 //! The lines of a refutation, as a document of an answer has them.
 ghost use Rattle.std.specs.Prelude.{◌≡◌, IfOk, is_some};
-ghost use Rattle.cli_engine.specs.Solution.{naming_for};
+ghost use Rattle.cli_engine.specs.Solution.{HasLines, HasSolvedLines, naming_for};
 
 use crate::solve::Answered;
 use documents::{Members, put_lines};
@@ -19,7 +19,8 @@ pub(crate) fn members_of(
     refutation: &Refutation,
     has_document: bool,
 ) -> Result<Option<Members>, AllocError>
-    ensures { IfOk result (λ members. is_some members ≡ has_document) }
+    ensures there { IfOk result (λ members. is_some members ≡ has_document) }
+    ensures lines { IfOk result (HasLines universe.now refutation.now) }
 {
     if !has_document {
         return Ok(None);
@@ -51,6 +52,22 @@ fn naming_of(
     }
 }
 
+// What a document has of the lines where the answer is a refutation.
+fn solved_members(
+    alloc: Global,
+    universe: &Universe<'_, '_>,
+    solved: &Solved,
+    has_document: bool,
+) -> Result<Option<Members>, AllocError>
+    ensures { IfOk result (HasSolvedLines universe.now solved.now) }
+{
+    match solved {
+        Solved::Refuted(refutation) => members_of(alloc, universe, refutation, has_document),
+        Solved::Plan(_) => Ok(None),
+        Solved::Undecided(_) => Ok(None),
+    }
+}
+
 /// What is answered where the request of the universe is solved so, with the text of a refutation whose pairs are named, where that is
 /// asked for, and what a document has of its lines, where there is to be one. Memory alone can fail.
 pub fn answered(
@@ -64,12 +81,10 @@ pub fn answered(
     ensures solved { IfOk result (λ answered. answered.solved ≡ solved) }
     ensures asks { IfOk result (λ answered. answered.asks_all_versions ≡ asks_all_versions) }
     ensures naming { IfOk result (λ answered. answered.naming ≡ naming_for names_pairs universe.now.pairs solved) }
+    ensures lines { IfOk result (λ answered. HasSolvedLines universe.now answered.solved answered.members) }
 {
     let naming = naming_of(alloc, universe, &solved, names_pairs)?;
-    let members = match &solved {
-        Solved::Refuted(refutation) => members_of(alloc, universe, refutation, has_document)?,
-        Solved::Plan(_) | Solved::Undecided(_) => None,
-    };
+    let members = solved_members(alloc, universe, &solved, has_document)?;
     Ok(Answered {
         solved,
         asks_all_versions,

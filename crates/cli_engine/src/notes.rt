@@ -11,6 +11,8 @@ pub struct Notes {
     pub wanted: bool,
     /// The sentences so far, each a line of its own.
     pub text: Vec<u8>,
+    /// Those on inputs that change no answer, where they are known before: they depend on what is read before a request alone.
+    pub idle: Option<Vec<u8>>,
 }
 
 impl Notes {
@@ -22,6 +24,7 @@ impl Notes {
         Notes {
             wanted: false,
             text: Vec::new(alloc),
+            idle: None,
         }
     }
 

@@ -12,7 +12,29 @@ use index::Index;
 use inputs::{Before, Fault, Input, Part, Refusal, Requested, Shelf, read_part, requested_in};
 use std::alloc::{AllocError, Global};
 
-/// Tells which of the inputs change no answer, where that is wanted. Costs what `hints::idle_inputs` costs. Memory alone can fail.
+/// The sentences on inputs that change no answer, each a line. Costs what `hints::idle_inputs` costs. Memory alone can fail.
+pub fn idle_text(
+    alloc: Global,
+    before: &Before<'_, '_, '_, '_, '_, '_, '_, '_>,
+) -> Result<Vec<u8>, AllocError> {
+    let records = before.status_file.records(alloc)?;
+    idle_inputs(alloc, records.as_slice(), before.indices, before.prefs)
+}
+
+// The same, as the notes have them where they are known before.
+fn idle_in(
+    alloc: Global,
+    before: &Before<'_, '_, '_, '_, '_, '_, '_, '_>,
+    notes: &Notes,
+) -> Result<Vec<u8>, AllocError> {
+    match &notes.idle {
+        Some(text) => text.as_slice().to_vec(alloc),
+        None => idle_text(alloc, before),
+    }
+}
+
+/// Tells which of the inputs change no answer, where that is wanted. Where the notes don't have it, it costs what `hints::idle_inputs`
+/// costs. Memory alone can fail.
 pub(crate) fn tell_idle_inputs(
     alloc: Global,
     before: &Before<'_, '_, '_, '_, '_, '_, '_, '_>,
@@ -23,8 +45,7 @@ pub(crate) fn tell_idle_inputs(
     if !notes.wanted {
         return Ok(());
     }
-    let records = before.status_file.records(alloc)?;
-    let text = idle_inputs(alloc, records.as_slice(), before.indices, before.prefs)?;
+    let text = idle_in(alloc, before, notes)?;
     notes.add(text.as_slice())
 }
 

@@ -1,15 +1,20 @@
 -- What a document is: a line of JSON (RFC 8259) that has the text of an answer as one of its members.
-use Rattle.std.specs.Prelude.{◌≡◌, ◌≤◌, ◌++◌, ℕ, List, Some, codes}
+use Rattle.std.specs.Prelude.{◌≡◌, ◌≤◌, ◌++◌, ℕ, List, Option, None, Some, codes}
 use Rattle.std.specs.Str.Lossy.{utf8_lossy}
 use Rattle.json.specs.Lex.{tokens}
 use Rattle.json.specs.Print.{print}
-use Rattle.serde_json.specs.Data.{Data, Members, depth, object, put, string}
+use Rattle.serde_json.specs.Data.{Data, Members, depth, null, object, put, string}
 use Rattle.serde_json.specs.Read.{max_depth, read}
 use Rattle.serde_json.specs.Written.{IsInOrder}
 
 -- the JSON string of bytes: each part of them that isn't UTF-8 is a replacement character (Unicode 3.9)
 abbrev pub text_data : List ℕ → Data
 text_data bytes = string (utf8_lossy bytes)
+
+-- the JSON string of bytes, or null where there are none
+abbrev pub text_or_null : Option (List ℕ) → Data
+text_or_null None = null
+text_or_null (Some bytes) = text_data bytes
 
 -- the line is the JSON text of this value, with each member and item once and in order and no space between tokens, and a newline
 -- behind it; read again it is the value, where that nests no deeper than texts may

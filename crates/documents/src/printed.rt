@@ -8,13 +8,24 @@ use crate::texts::text_value;
 use serde_json::Value;
 use std::alloc::{AllocError, Global};
 
-// The JSON text of the value as a line.
-fn line_of(alloc: Global, value: &Value) -> Result<Vec<u8>, AllocError>
+/// The JSON text of the value as a line. Memory alone can fail. Linear in all of it.
+pub fn line_of(alloc: Global, value: &Value) -> Result<Vec<u8>, AllocError>
     ensures { IfOk result (λ printed. IsLineOf (view value.now) printed.items) }
 {
     let mut line = value.to_string(alloc)?.into_bytes();
     line.extend_from_slice(b"\n")?;
     Ok(line)
+}
+
+/// The object that has these members and, as `text`, the text, with U+FFFD in the place of each part that isn't UTF-8. Memory alone can
+/// fail.
+pub fn text_object(alloc: Global, members: Members, text: &[u8]) -> Result<Value, AllocError>
+    ensures { IfOk result (λ value. view value ≡ object_with text.now (members_view members.map.entries)) }
+{
+    let mut all = members;
+    let text = text_value(alloc, text)?;
+    all.put(alloc, "text", text)?;
+    Ok(all.into_value())
 }
 
 /// The document of a text with these members: a line of JSON whose object has them and, as `text`, the text, with U+FFFD in the place
@@ -23,10 +34,7 @@ pub fn document(alloc: Global, members: Members, text: &[u8]) -> Result<Vec<u8>,
     ensures line { IfOk result (λ printed. IsLineOf (object_with text.now (members_view members.map.entries)) printed.items) }
     ensures document { IfOk result (λ printed. IsDocumentOf text.now printed.items) }
 {
-    let mut all = members;
-    let text = text_value(alloc, text)?;
-    all.put(alloc, "text", text)?;
-    line_of(alloc, &all.into_value())
+    line_of(alloc, &text_object(alloc, members, text)?)
 }
 
 /// The document of a refusal in these words with these members: a line of JSON whose object has them and, as `refused`, the words, with

@@ -1,7 +1,8 @@
 // Bytes as JSON strings.
 ghost use Rattle.std.specs.Prelude.{◌≡◌, IfOk, OnOk};
 ghost use Rattle.serde_json.specs.View.{members_view, view};
-ghost use Rattle.documents.specs.Document.{text_data};
+ghost use Rattle.std.specs.Option.{option_map};
+ghost use Rattle.documents.specs.Document.{text_data, text_or_null};
 ghost use Rattle.documents.specs.Objects.{with_text};
 
 use crate::members::Members;
@@ -9,7 +10,7 @@ use serde_json::Value;
 use std::alloc::{AllocError, Global};
 
 /// The bytes as a JSON string, with U+FFFD in the place of each part that isn't UTF-8. Memory alone can fail.
-pub(crate) fn text_value(alloc: Global, bytes: &[u8]) -> Result<Value, AllocError>
+pub fn text_value(alloc: Global, bytes: &[u8]) -> Result<Value, AllocError>
     ensures { IfOk result (λ value. view value ≡ text_data bytes.now) }
 {
     let text = String::from_utf8_lossy(alloc, bytes)?;
@@ -31,7 +32,9 @@ pub fn put_text(
 }
 
 /// The bytes as a JSON string, or `null` where there are none.
-pub(crate) fn text_or_null(alloc: Global, bytes: Option<&[u8]>) -> Result<Value, AllocError> {
+pub(crate) fn text_or_null(alloc: Global, bytes: Option<&[u8]>) -> Result<Value, AllocError>
+    ensures { IfOk result (λ value. view value ≡ text_or_null (option_map (λ part. part.now) bytes.entry)) }
+{
     match bytes {
         None => Ok(Value::Null),
         Some(bytes) => text_value(alloc, bytes),

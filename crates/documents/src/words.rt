@@ -1,12 +1,17 @@
-// The words of clauses and goals.
+// The words of atoms, clauses and goals.
+ghost use Rattle.std.specs.Prelude.{◌≡◌, ◌++◌, IfOk, OnOk, codes};
+ghost use Rattle.std.specs.List.{flat_map};
+ghost use Rattle.documents.specs.Words as Spec;
 
-use debversion::{Op, Version};
+use debversion::Op;
 use relation::{Atom, Clause};
 use rules::{Goal, Restriction};
 use std::alloc::{AllocError, Global};
 
 // The operator as relation fields have it (Policy 7.1).
-fn spelled(op: Op) -> &'static [u8] {
+fn spelled(op: Op) -> &'static [u8]
+    ensures { result.now ≡ Spec.op_text op }
+{
     match op {
         Op::StrictlyEarlier => b"<<",
         Op::EarlierOrEqual => b"<=",
@@ -17,7 +22,10 @@ fn spelled(op: Op) -> &'static [u8] {
 }
 
 // Writes a restriction behind a name: ` (>= 2)`.
-fn push_restriction(text: &mut Vec<u8>, op: Op, version: &[u8]) -> Result<(), AllocError> {
+fn push_restriction(text: &mut Vec<u8>, op: Op, version: &[u8]) -> Result<(), AllocError>
+    ensures { OnOk result (text.new.items
+        ≡ text.old.items ++ Spec.restriction_text (record { op = op; version = version.now })) }
+{
     text.extend_from_slice(b" (")?;
     text.extend_from_slice(spelled(op))?;
     text.extend_from_slice(b" ")?;
@@ -26,7 +34,9 @@ fn push_restriction(text: &mut Vec<u8>, op: Op, version: &[u8]) -> Result<(), Al
 }
 
 // Writes an atom: `foo (>= 2)`.
-fn push_atom(text: &mut Vec<u8>, atom: &Atom<'_>) -> Result<(), AllocError> {
+fn push_atom(text: &mut Vec<u8>, atom: &Atom<'_>) -> Result<(), AllocError>
+    ensures { OnOk result (text.new.items ≡ text.old.items ++ Spec.atom_text atom.now) }
+{
     text.extend_from_slice(atom.name())?;
     match atom.restriction() {
         None => Ok(()),
@@ -34,27 +44,58 @@ fn push_atom(text: &mut Vec<u8>, atom: &Atom<'_>) -> Result<(), AllocError> {
     }
 }
 
+// Writes one more alternative: ` | bar`.
+fn push_other(text: &mut Vec<u8>, atom: &Atom<'_>) -> Result<(), AllocError>
+    ensures { OnOk result (text.new.items ≡ text.old.items ++ Spec.other_text atom.now) }
+{
+    text.extend_from_slice(b" | ")?;
+    push_atom(text, atom)
+}
+
+// Writes the alternatives behind the first one.
+fn push_others(text: &mut Vec<u8>, atoms: &[Atom<'_>]) -> Result<(), AllocError>
+    ensures { OnOk result (text.new.items ≡ text.old.items ++ flat_map Spec.other_text atoms.now) }
+{
+    for atom in atoms {
+        push_other(text, atom)?;
+    }
+    Ok(())
+}
+
 /// The text of an atom. Memory alone can fail.
-pub(crate) fn atom_text(alloc: Global, atom: &Atom<'_>) -> Result<Vec<u8>, AllocError> {
+pub(crate) fn atom_text(alloc: Global, atom: &Atom<'_>) -> Result<Vec<u8>, AllocError>
+    ensures { IfOk result (λ text. text.items ≡ Spec.atom_text atom.now) }
+{
     let mut text = Vec::new(alloc);
     push_atom(&mut text, atom)?;
     Ok(text)
 }
 
-/// The text of a clause: `foo (>= 2) | bar`. Memory alone can fail.
-pub(crate) fn clause_text(alloc: Global, clause: &Clause<'_>) -> Result<Vec<u8>, AllocError> {
-    let mut text = Vec::new(alloc);
-    for (place, atom) in clause.as_slice().iter().enumerate() {
-        if place > 0 {
-            text.extend_from_slice(b" | ")?;
+// The text of the alternatives of a clause.
+fn atoms_text(alloc: Global, atoms: &[Atom<'_>]) -> Result<Vec<u8>, AllocError>
+    ensures { IfOk result (λ text. text.items ≡ Spec.clause_text atoms.now) }
+{
+    match atoms {
+        [] => Ok(Vec::new(alloc)),
+        [first, others @ ..] => {
+            let mut text = atom_text(alloc, first)?;
+            push_others(&mut text, others)?;
+            Ok(text)
         }
-        push_atom(&mut text, atom)?;
     }
-    Ok(text)
+}
+
+/// The text of a clause: `foo (>= 2) | bar`. Memory alone can fail.
+pub(crate) fn clause_text(alloc: Global, clause: &Clause<'_>) -> Result<Vec<u8>, AllocError>
+    ensures { IfOk result (λ text. text.items ≡ Spec.clause_text clause.now) }
+{
+    atoms_text(alloc, clause.as_slice())
 }
 
 /// The line of a goal, as a request has it. Memory alone can fail.
-pub(crate) fn goal_text(alloc: Global, goal: &Goal) -> Result<Vec<u8>, AllocError> {
+pub(crate) fn goal_text(alloc: Global, goal: &Goal) -> Result<Vec<u8>, AllocError>
+    ensures { IfOk result (λ text. text.items ≡ Spec.goal_text goal.now) }
+{
     match goal {
         Goal::Install(name, restriction) => install_text(alloc, name.as_bytes(), restriction),
         Goal::Remove(name) => named_text(alloc, b"remove ", name.as_bytes()),
@@ -65,20 +106,34 @@ pub(crate) fn goal_text(alloc: Global, goal: &Goal) -> Result<Vec<u8>, AllocErro
     }
 }
 
-fn named_text(alloc: Global, word: &[u8], name: &[u8]) -> Result<Vec<u8>, AllocError> {
+fn named_text(alloc: Global, word: &[u8], name: &[u8]) -> Result<Vec<u8>, AllocError>
+    ensures { IfOk result (λ text. text.items ≡ word.now ++ name.now) }
+{
     let mut text = word.to_vec(alloc)?;
     text.extend_from_slice(name)?;
     Ok(text)
+}
+
+// Writes the restriction, if there is one.
+fn push_any(text: &mut Vec<u8>, restriction: &Option<Restriction>) -> Result<(), AllocError>
+    ensures { OnOk result (text.new.items ≡ text.old.items ++ Spec.any_restriction_text restriction.now) }
+{
+    match restriction {
+        None => Ok(()),
+        Some(restriction) => {
+            push_restriction(text, restriction.op, restriction.version.as_bytes())
+        }
+    }
 }
 
 fn install_text(
     alloc: Global,
     name: &[u8],
     restriction: &Option<Restriction>,
-) -> Result<Vec<u8>, AllocError> {
+) -> Result<Vec<u8>, AllocError>
+    ensures { IfOk result (λ text. text.items ≡ codes "install " ++ (name.now ++ Spec.any_restriction_text restriction.now)) }
+{
     let mut text = named_text(alloc, b"install ", name)?;
-    if let Some(restriction) = restriction {
-        push_restriction(&mut text, restriction.op, restriction.version.as_bytes())?;
-    }
+    push_any(&mut text, restriction)?;
     Ok(text)
 }

@@ -111,24 +111,17 @@ impl<'n> Installable<'n> {
         let text = lines_beside(alloc, names.as_slice(), self.asks_all_versions)?;
         Ok(text)
     }
-}
 
-impl<'n> Question for Installable<'n> {
-    type Answer = Surveyed;
-
-    type Beside = ();
-
-    ghost says = { λ question texts _ _ result _. IsSaidOfPackages texts question result };
-
-    ghost keeps = { λ _ _ _ _ _. Unit {0} };
-
-    fn answer<S: Shelf>(
+    /// Answers it over what the texts before a request are read as. Nothing is read from the shelf: it is shown how far the answer is.
+    pub fn over<S: Shelf>(
         &self,
         alloc: Global,
         shelf: &mut S,
         before: &Before<'_, '_, '_, '_, '_, '_, '_, '_>,
-        _beside: &mut (),
-    ) -> Result<Surveyed, Refusal> {
+    ) -> Result<Surveyed, Refusal>
+        ensures said { (texts : Texts) → AreReadAs texts before.now → IsSaidOfPackages texts self.now result }
+        ensures read { IsReadBy S.Shelf shelf.old result shelf.new }
+    {
         check_names(before.indices, self.names)?;
         let beside = self.beside(alloc, before.indices)?;
         let ordered = stanzas_asked(alloc, before.indices, self.names)?;
@@ -148,6 +141,26 @@ impl<'n> Question for Installable<'n> {
             base,
             packages: Items::new(answers),
         })
+    }
+}
+
+impl<'n> Question for Installable<'n> {
+    type Answer = Surveyed;
+
+    type Beside = ();
+
+    ghost says = { λ question texts _ _ result _. IsSaidOfPackages texts question result };
+
+    ghost keeps = { λ _ _ _ _ _. Unit {0} };
+
+    fn answer<S: Shelf>(
+        &self,
+        alloc: Global,
+        shelf: &mut S,
+        before: &Before<'_, '_, '_, '_, '_, '_, '_, '_>,
+        _beside: &mut (),
+    ) -> Result<Surveyed, Refusal> {
+        self.over(alloc, shelf, before)
     }
 
     ghost refuses = { λ _ _ _ _ _ is. inl is };

@@ -4,6 +4,7 @@ use Rattle.std.specs.Prelude.{OnOk, Result, Ok, Err}
 use Rattle.std.specs.List.{remove}
 use Rattle.std.proofs.lemmas.List.{append-nil, append_assoc, length-map}
 use Rattle.cli_engine.specs.Refuted.{AreRefuted}
+use Rattle.cli_engine.specs.Solution.{HasSolvedLines}
 use Rattle.inputs.specs.ReadAs.{AreReadAs, asking, start_of}
 use Rattle.inputs.specs.Reading.{out_of_memory}
 use Rattle.inputs.specs.Texts.{Texts}
@@ -179,9 +180,10 @@ left-rest before texts request lines place kept read there out is = (
 pub is-kept : (before : Before) (texts : Texts) (limit : ℕ) (kept : Kept) (back : KeptBack) → AreReadAs texts before
     → (lines : List (List ℕ)) × IsLeft texts lines kept.places.items kept.request.items
     → IsSolvedRequest before limit kept.request.items kept.solved → back.answered.solved ≡ kept.solved.solved
-    → back.answered.asks_all_versions ≡ kept.solved.requested.asks_all_versions → back.answered.naming ≡ None → back.request ≡ kept.request.items
+    → back.answered.asks_all_versions ≡ kept.solved.requested.asks_all_versions → back.answered.naming ≡ None
+    → HasSolvedLines kept.solved.requested.universe back.answered.solved back.answered.members → back.request ≡ kept.request.items
     → back.left_out ≡ kept.places.items → IsKeptBack texts limit back
-is-kept before texts limit kept back read left is same asks naming request places = record {
+is-kept before texts limit kept back read left is same asks naming has request places = record {
   lines = left.0;
   left = rw (request, places) left.1;
   holds = record {
@@ -190,6 +192,7 @@ is-kept before texts limit kept back read left is same asks naming request place
     denoted = rw (request, asks) (is.asked texts read);
     holds = rw same is.holds;
     naming = naming;
+    lines = has;
   };
 }
 

@@ -4,6 +4,7 @@ ghost use Rattle.std.specs.Prelude.{◌≡◌, ◌≢◌, IfErr, IfOk, None, Som
 ghost use Rattle.std.proofs.Common.{rules};
 ghost use mathlib.Core.Logic.{inl};
 ghost use Rattle.cli_engine.specs.Good.{IsGoodIfPlan};
+ghost use Rattle.cli_engine.specs.Solution.{HasSolvedLines};
 ghost use Rattle.inputs.specs.Meaning.{DenotesAsked};
 ghost use Rattle.inputs.specs.ReadAs.{AreReadAs, IsOver, asking, start_of};
 ghost use Rattle.inputs.specs.ReadBy.{IsUntouched};
@@ -83,6 +84,8 @@ fn tell_kept<'a>(
     ensures solved { IfOk result (λ kept_back. kept_back.answered.solved ≡ kept.entry.solved.solved) }
     ensures asks { IfOk result (λ kept_back. kept_back.answered.asks_all_versions ≡ kept.entry.solved.requested.asks_all_versions) }
     ensures naming { IfOk result (λ kept_back. kept_back.answered.naming ≡ None) }
+    ensures lines { IfOk result (λ kept_back.
+        HasSolvedLines kept.entry.solved.requested.universe kept_back.answered.solved kept_back.answered.members) }
     ensures request { IfOk result (λ kept_back. kept_back.request ≡ kept.entry.request.items) }
     ensures left_out { IfOk result (λ kept_back. kept_back.left_out ≡ kept.entry.places.items) }
     ensures unasked { notes.old.wanted ≡ false → notes.new ≡ notes.old }

@@ -1,17 +1,18 @@
--- Documents of texts, one more behind those so far.
-use Rattle.std.proofs.Common.{◌≡◌, ◌∙◌, ◌++◌, ℕ, List, [], ◌∷◌, ap, append_assoc, append-nil, refl, subst, sym}
-use Rattle.documents.specs.Document.{IsDocumentOf}
-use Rattle.outcomes.specs.Survey.{AreDocumentsOf}
+-- Lines of JSON values, one more behind those so far.
+use Rattle.std.proofs.Common.{◌≡◌, ◌∙◌, ◌++◌, ℕ, List, [], ◌∷◌, ap, append_assoc, append-nil, refl, sym}
+use Rattle.documents.specs.Document.{IsLineOf}
+use Rattle.outcomes.specs.Survey.{AreJsonLines}
+use Rattle.serde_json.specs.Data.{Data}
 
--- one more document behind the others
-pub one_document : (texts : List (List ℕ)) (text old new printed : List ℕ) → AreDocumentsOf texts old → IsDocumentOf text printed
-    → new ≡ old ++ printed → AreDocumentsOf (texts ++ text ∷ []) new
-one_document [] text old new printed are is e =
+-- one more line behind the others
+pub one_line : (values : List Data) (value : Data) (old new printed : List ℕ) → AreJsonLines values old → IsLineOf value printed
+    → new ≡ old ++ printed → AreJsonLines (values ++ value ∷ []) new
+one_line [] value old new printed are is e =
     (printed, [], e ∙ ap (λ (t : List ℕ). t ++ printed) are ∙ sym (append-nil printed), is, refl)
-one_document (first ∷ texts) text old new printed are is e = (
+one_line (first ∷ values) value old new printed are is e = (
   are.0,
   are.1 ++ printed,
   e ∙ ap (λ (t : List ℕ). t ++ printed) are.2 ∙ append_assoc are.0 are.1 printed,
   are.3,
-  one_document texts text are.1 (are.1 ++ printed) printed are.4 is refl,
+  one_line values value are.1 (are.1 ++ printed) printed are.4 is refl,
 )

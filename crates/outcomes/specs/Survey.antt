@@ -3,17 +3,22 @@ use Rattle.std.specs.Prelude.{◌≡◌, ◌==◌, ◌||◌, ℕ, Bool, true, fa
 use Rattle.std.specs.List.{filter, flat_map, list_any}
 use Rattle.command_line.specs.declared.call.Format.{Format}
 use Rattle.command_line.specs.declared.call.Format.TheVariants as format
-use Rattle.documents.specs.Document.{IsDocumentOf}
+use Rattle.documents.specs.Document.{IsLineOf, object_with, text_data}
+use Rattle.documents.specs.Objects.{with_number, with_text}
+use Rattle.documents.specs.TextLines.{lines_data}
 use Rattle.inputs.specs.declared.refusal.Refusal.{Refusal}
 use Rattle.installable.specs.declared.answer.Installability.{Installability}
 use Rattle.installable.specs.declared.answer.Installability.TheVariants as answer
 use Rattle.installable.specs.declared.answer.PackageAnswer.{PackageAnswer}
+use Rattle.installable.specs.declared.answer.Refuted.{Refuted}
 use Rattle.installable.specs.declared.answer.Surveyed.{Surveyed}
 use Rattle.outcomes.specs.Outcome.{IsOutcomeOfRefusal}
 use Rattle.outcomes.specs.declared.exit.Exit.{Exit}
 use Rattle.outcomes.specs.declared.exit.Exit.TheVariants as exit
 use Rattle.outcomes.specs.declared.outcome.Outcome.{Outcome}
 use Rattle.outcomes.specs.declared.outcome.Outcome.TheVariants as outcome
+use Rattle.serde_json.specs.Data.{Data, Members, array, no_members, null, object, put}
+use Rattle.serde_json.specs.View.{items_of}
 
 -- the request has no acceptable selection
 abbrev pub is_broken : Installability → Bool
@@ -62,32 +67,58 @@ counts_line answers = codes "checked " ++ (decimal (length answers)
 abbrev pub survey_text : Surveyed → List ℕ
 survey_text surveyed = line_of (codes "base") surveyed.base ++ (flat_map package_line surveyed.packages ++ counts_line surveyed.packages)
 
--- the line of a request of this subject by itself, if there is one
-abbrev pub lines_by : List ℕ → Installability → List (List ℕ)
-lines_by subject answer.Installable = []
-lines_by subject (answer.Broken refuted) = line_of subject (answer.Broken refuted) ∷ []
-lines_by subject (answer.Limit limit) = line_of subject (answer.Limit limit) ∷ []
-lines_by subject answer.Unchecked = line_of subject answer.Unchecked ∷ []
+-- What a document has of the answers
+
+-- the members with the name and the version of a package
+abbrev pub with_package : PackageAnswer → Members → Members
+with_package answered others = put (codes "version") (text_data answered.version) (put (codes "name") (text_data answered.name) others)
+
+-- the members of what stands beside each package: it has neither a name nor a version
+abbrev pub without_package : Members → Members
+without_package others = put (codes "version") null (put (codes "name") null others)
+
+-- the members with a request that can't be met, its refutation and the reasons
+abbrev pub with_refuted : Refuted → Members → Members
+with_refuted refuted others = put (codes "reasons") (lines_data refuted.reasons) (put (codes "refutation") (text_data refuted.refutation)
+    (put (codes "request") (text_data refuted.request) (with_text (codes "answer") (codes "broken") others)))
+
+-- the members with why it isn't known whether a request can be met, in a word
+abbrev pub with_why : List ℕ → Members → Members
+with_why word others = with_text (codes "why") word (with_text (codes "answer") (codes "undecided") others)
+
+-- the members with what is answered to a request
+abbrev pub with_installability : Installability → Members → Members
+with_installability answer.Installable others = others
+with_installability (answer.Broken refuted) others = with_refuted refuted others
+with_installability (answer.Limit limit) others = with_why (codes "limit") others
+with_installability answer.Unchecked others = with_why (codes "unchecked") others
+
+-- the object of the line of a request of this subject, beside these members
+abbrev pub object_of : List ℕ → Members → Installability → Data
+object_of subject members answered = object_with (line_of subject answered) (with_installability answered members)
+
+-- the request has an acceptable selection
+abbrev pub is_met : Installability → Bool
+is_met answer.Installable = true
+is_met answered = false
+
+-- the same, by itself, if there is a line
+abbrev pub objects_by : List ℕ → Members → Installability → List Data
+objects_by subject members answered = if is_met answered then [] else object_of subject members answered ∷ []
 
 -- so of a package
-abbrev pub package_lines : PackageAnswer → List (List ℕ)
-package_lines found = lines_by (named found) found.installability
+abbrev pub package_objects : PackageAnswer → List Data
+package_objects answered = objects_by (named answered) (with_package answered no_members) answered.installability
 
--- the lines, each by itself
-abbrev pub survey_lines : Surveyed → List (List ℕ)
-survey_lines surveyed =
-    lines_by (codes "base") surveyed.base ++ (flat_map package_lines surveyed.packages ++ counts_line surveyed.packages ∷ [])
+-- the objects of the lines of what stands beside each package and of the packages, in their order
+abbrev pub answer_objects : Surveyed → List Data
+answer_objects surveyed =
+    objects_by (codes "base") (without_package no_members) surveyed.base ++ flat_map package_objects surveyed.packages
 
--- documents of these texts stand one behind another
-abbrev pub AreDocumentsOf : List (List ℕ) → List ℕ → Type 0
-AreDocumentsOf [] printed = printed ≡ []
-AreDocumentsOf (text ∷ texts) printed =
-    (first : List ℕ) × (rest : List ℕ) × (printed ≡ first ++ rest) × IsDocumentOf text first × AreDocumentsOf texts rest
-
--- the answers about packages are printed in this format: as their lines, or as a document of each line
-abbrev pub IsSurveyIn : Format → Surveyed → List ℕ → Type 0
-IsSurveyIn format.Text surveyed printed = printed ≡ survey_text surveyed
-IsSurveyIn format.Json surveyed printed = AreDocumentsOf (survey_lines surveyed) printed
+-- how many packages are asked about, broken and undecided
+abbrev pub survey_counts_data : List PackageAnswer → Data
+survey_counts_data answers = object (with_number (codes "undecided") (length (undecided_of answers))
+    (with_number (codes "checked") (length answers) (with_number (codes "broken") (length (broken_of answers)) no_members)))
 
 -- undecided where a request is, no where one has no selection, and success where each has one
 abbrev pub exit_of_survey : Surveyed → Exit
@@ -95,6 +126,40 @@ exit_of_survey surveyed =
     if is_undecided surveyed.base || list_any (λ found. is_undecided found.installability) surveyed.packages then exit.Undecided
     else if is_broken surveyed.base || list_any (λ found. is_broken found.installability) surveyed.packages then exit.No
     else exit.Success
+
+-- how all requests are answered, in a word
+abbrev pub answer_word : Exit → List ℕ
+answer_word exit.Success = codes "yes"
+answer_word exit.Undecided = codes "undecided"
+answer_word other = codes "no"
+
+-- the members with whether all can be installed, and with how many packages are so
+abbrev pub with_counts : Surveyed → Members → Members
+with_counts surveyed others =
+    put (codes "counts") (survey_counts_data surveyed.packages) (with_text (codes "answer") (answer_word (exit_of_survey surveyed)) others)
+
+-- the object of the last line
+abbrev pub counts_object : Surveyed → Data
+counts_object surveyed = object_with (counts_line surveyed.packages) (with_counts surveyed no_members)
+
+-- the objects of all lines, in their order
+abbrev pub survey_objects : Surveyed → List Data
+survey_objects surveyed = answer_objects surveyed ++ counts_object surveyed ∷ []
+
+-- the members of one document of the answers: the objects of the lines before the last one are one of them
+abbrev pub with_survey : Surveyed → Members → Members
+with_survey surveyed others = put (codes "packages") (array (items_of (answer_objects surveyed))) (with_counts surveyed others)
+
+-- lines of these values stand one behind another
+abbrev pub AreJsonLines : List Data → List ℕ → Type 0
+AreJsonLines [] printed = printed ≡ []
+AreJsonLines (value ∷ values) printed =
+    (first : List ℕ) × (rest : List ℕ) × (printed ≡ first ++ rest) × IsLineOf value first × AreJsonLines values rest
+
+-- the answers about packages are printed in this format: as their lines, or as a line of the object of each of them
+abbrev pub IsSurveyIn : Format → Surveyed → List ℕ → Type 0
+IsSurveyIn format.Text surveyed printed = printed ≡ survey_text surveyed
+IsSurveyIn format.Json surveyed printed = AreJsonLines (survey_objects surveyed) printed
 
 -- the outcome is that of the answers about packages: they on standard output, in this format, a refusal's line on standard error
 abbrev pub IsOutcomeOfSurvey : Format → Result Surveyed Refusal → Outcome → Type 0

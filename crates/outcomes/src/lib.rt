@@ -30,3 +30,4 @@ pub use printing::{print, print_ended, refuse_for_memory};
 pub use survey::{
     exit_of_survey, outcome_of_survey, outcome_of_surveyed, outcome_of_unwritten_file, survey_text,
 };
+pub use survey_documents::members_of_survey;

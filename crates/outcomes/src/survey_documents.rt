@@ -1,182 +1,237 @@
 //! What is printed of packages that are asked about, as JSON texts: one for each line.
-ghost use Rattle.std.specs.Prelude.{◌≡◌, ◌++◌, ◌∷◌, [], IfOk, List, OnOk, ℕ};
+ghost use Rattle.std.specs.Prelude.{◌≡◌, ◌++◌, IfOk, OnOk, map};
 ghost use Rattle.std.specs.List.{flat_map};
+ghost use Rattle.documents.specs.Document.{object_with};
 ghost use Rattle.outcomes.specs.Survey as Spec;
-ghost use Rattle.outcomes.specs.Survey.{AreDocumentsOf};
+ghost use Rattle.outcomes.specs.Survey.{AreJsonLines};
+ghost use Rattle.serde_json.specs.Data.{no_members};
+ghost use Rattle.serde_json.specs.View.{members_view, view};
 
 use crate::exit::Exit;
 use crate::survey::{
     count_broken, count_undecided, counts_line, exit_of_survey, named, push_found,
 };
-use documents::{Members, document, put_sentences, put_text, put_undecided};
+use documents::{
+    Members, line_of, push_value, put_sentences, put_text, put_undecided, text_object, text_value,
+};
 use installable::{Installability, PackageAnswer, Refuted, Surveyed};
 use serde_json::{Value, json};
 use std::alloc::{AllocError, Global};
 
-// The bytes as a string, with U+FFFD in the place of each part that isn't UTF-8.
-fn string_of(alloc: Global, bytes: &[u8]) -> Result<Value, AllocError> {
-    Ok(Value::String(String::from_utf8_lossy(alloc, bytes)?))
-}
-
-// Puts the name and the version of the package; what stands beside each package has neither.
-fn put_package(
-    alloc: Global,
-    members: &mut Members,
-    package: Option<&PackageAnswer>,
-) -> Result<(), AllocError> {
-    match package {
-        Some(found) => {
-            let version = string_of(alloc, found.version.as_bytes())?;
-            members.put(alloc, "name", string_of(alloc, found.name.as_bytes())?)?;
-            members.put(alloc, "version", version)
-        }
-        None => {
-            members.put(alloc, "name", Value::Null)?;
-            members.put(alloc, "version", Value::Null)
-        }
-    }
-}
-
 // Puts the request, its refutation and the reasons.
-fn put_refuted(alloc: Global, members: &mut Members, refuted: &Refuted) -> Result<(), AllocError> {
-    let refutation = string_of(alloc, refuted.refutation.as_slice())?;
+fn put_refuted(alloc: Global, members: &mut Members, refuted: &Refuted) -> Result<(), AllocError>
+    ensures { OnOk result (members_view members.new.map.entries
+        ≡ Spec.with_refuted refuted.now (members_view members.old.map.entries)) }
+{
+    let request = text_value(alloc, refuted.request.as_slice())?;
+    let refutation = text_value(alloc, refuted.refutation.as_slice())?;
     put_text(alloc, members, "answer", "broken")?;
-    members.put(
-        alloc,
-        "request",
-        string_of(alloc, refuted.request.as_slice())?,
-    )?;
+    members.put(alloc, "request", request)?;
     members.put(alloc, "refutation", refutation)?;
     put_sentences(alloc, members, refuted.reasons.as_slice())
 }
 
-// What the document of a request has beside its line: of that of a package, or of what stands beside each.
-fn members_of(
+// Puts what is answered to a request.
+fn put_installability(
     alloc: Global,
-    package: Option<&PackageAnswer>,
-    found: &Installability,
-) -> Result<Members, AllocError> {
-    let mut members = Members::new(alloc);
-    put_package(alloc, &mut members, package)?;
-    match found {
-        Installability::Installable => {}
-        Installability::Broken(refuted) => put_refuted(alloc, &mut members, refuted)?,
-        Installability::Limit(_) => put_undecided(alloc, &mut members, "limit")?,
-        Installability::Unchecked => put_undecided(alloc, &mut members, "unchecked")?,
+    members: &mut Members,
+    installability: &Installability,
+) -> Result<(), AllocError>
+    ensures { OnOk result (members_view members.new.map.entries
+        ≡ Spec.with_installability installability.now (members_view members.old.map.entries)) }
+{
+    match installability {
+        Installability::Installable => Ok(()),
+        Installability::Broken(refuted) => put_refuted(alloc, members, refuted),
+        Installability::Limit(_) => put_undecided(alloc, members, "limit"),
+        Installability::Unchecked => put_undecided(alloc, members, "unchecked"),
     }
-    Ok(members)
 }
 
-// What the last document has beside its line: whether all can be installed, and how many packages are so.
-fn members_of_counts(alloc: Global, surveyed: &Surveyed) -> Result<Members, AllocError> {
-    let packages = surveyed.packages.as_slice();
-    let checked = packages.len();
-    let broken = count_broken(packages);
-    let undecided = count_undecided(packages);
-    let answer = match exit_of_survey(surveyed) {
-        Exit::Success => "yes",
-        Exit::Undecided => "undecided",
-        _ => "no",
-    };
+// The members of what stands beside each package: it has neither a name nor a version.
+fn members_of_base(alloc: Global) -> Result<Members, AllocError>
+    ensures { IfOk result (λ members. members_view members.map.entries ≡ Spec.without_package no_members) }
+{
     let mut members = Members::new(alloc);
-    put_text(alloc, &mut members, "answer", answer)?;
-    let counts = json!(in alloc; {"broken": broken, "checked": checked, "undecided": undecided})?;
-    members.put(alloc, "counts", counts)?;
+    members.put(alloc, "name", Value::Null)?;
+    members.put(alloc, "version", Value::Null)?;
     Ok(members)
 }
 
-// Writes the document of the line with these members.
-fn push_document(
-    alloc: Global,
-    text: &mut Vec<u8>,
-    line: &[u8],
-    members: Members,
-) -> Result<(), AllocError>
-    ensures { OnOk result ((lines : List (List ℕ)) → AreDocumentsOf lines text.old.items
-        → AreDocumentsOf (lines ++ line.now ∷ []) text.new.items) }
+// The members with the name and the version of a package.
+fn members_of_package(alloc: Global, answer: &PackageAnswer) -> Result<Members, AllocError>
+    ensures { IfOk result (λ members. members_view members.map.entries ≡ Spec.with_package answer.now no_members) }
 {
-    let printed = document(alloc, members, line)?;
-    text.extend_from_slice(printed.as_slice())?;
-    Ok(())
+    let name = text_value(alloc, answer.name.as_bytes())?;
+    let version = text_value(alloc, answer.version.as_bytes())?;
+    let mut members = Members::new(alloc);
+    members.put(alloc, "name", name)?;
+    members.put(alloc, "version", version)?;
+    Ok(members)
 }
 
-// Writes the document of the line that a request of this subject has, which isn't met.
-fn push_line(
+// The object of the line of a request of this subject, beside these members.
+fn object_of(
     alloc: Global,
-    text: &mut Vec<u8>,
     subject: &[u8],
-    package: Option<&PackageAnswer>,
-    found: &Installability,
-) -> Result<(), AllocError>
-    ensures { OnOk result ((lines : List (List ℕ)) → AreDocumentsOf lines text.old.items
-        → AreDocumentsOf (lines ++ Spec.line_of subject.now found.now ∷ []) text.new.items) }
+    members: Members,
+    installability: &Installability,
+) -> Result<Value, AllocError>
+    ensures { IfOk result (λ value.
+        view value ≡ Spec.object_of subject.now (members_view members.map.entries) installability.now) }
 {
+    let mut all = members;
+    put_installability(alloc, &mut all, installability)?;
     let mut line = Vec::new(alloc);
-    push_found(&mut line, subject, found)?;
-    let members = members_of(alloc, package, found)?;
-    push_document(alloc, text, line.as_slice(), members)
+    push_found(&mut line, subject, installability)?;
+    text_object(alloc, all, line.as_slice())
 }
 
-// Writes the document of the line that a request of this subject has, if it has one.
+// Puts the object of the line of a request of this subject behind the others, if it has a line.
 fn push_answer(
     alloc: Global,
-    text: &mut Vec<u8>,
+    objects: &mut Vec<Value>,
     subject: &[u8],
-    package: Option<&PackageAnswer>,
-    found: &Installability,
+    members: Members,
+    installability: &Installability,
 ) -> Result<(), AllocError>
-    ensures { OnOk result ((lines : List (List ℕ)) → AreDocumentsOf lines text.old.items
-        → AreDocumentsOf (lines ++ Spec.lines_by subject.now found.now) text.new.items) }
+    ensures { OnOk result (map view objects.new.items ≡ map view objects.old.items
+        ++ Spec.objects_by subject.now (members_view members.map.entries) installability.now) }
 {
-    match found {
-        Installability::Installable => Ok(()),
-        Installability::Broken(_) => push_line(alloc, text, subject, package, found),
-        Installability::Limit(_) => push_line(alloc, text, subject, package, found),
-        Installability::Unchecked => push_line(alloc, text, subject, package, found),
+    if is_met(installability) {
+        return Ok(());
     }
+    let object = object_of(alloc, subject, members, installability)?;
+    push_value(objects, object)
 }
 
-// Writes the document of a package, if it has one.
-fn push_package(alloc: Global, text: &mut Vec<u8>, found: &PackageAnswer) -> Result<(), AllocError>
-    ensures { OnOk result ((lines : List (List ℕ)) → AreDocumentsOf lines text.old.items
-        → AreDocumentsOf (lines ++ Spec.package_lines found.now) text.new.items) }
+// Whether the request has an acceptable selection.
+fn is_met(installability: &Installability) -> bool
+    ensures { result ≡ Spec.is_met installability.now }
 {
-    let subject = named(alloc, found)?;
+    matches!(installability, Installability::Installable)
+}
+
+// Puts the object of a package behind the others, if it has a line.
+fn push_package(
+    alloc: Global,
+    objects: &mut Vec<Value>,
+    answer: &PackageAnswer,
+) -> Result<(), AllocError>
+    ensures { OnOk result (map view objects.new.items ≡ map view objects.old.items ++ Spec.package_objects answer.now) }
+{
+    let subject = named(alloc, answer)?;
+    let members = members_of_package(alloc, answer)?;
     push_answer(
         alloc,
-        text,
+        objects,
         subject.as_slice(),
-        Some(found),
-        &found.installability,
+        members,
+        &answer.installability,
     )
 }
 
-// Writes the documents of packages.
+// Puts the objects of packages behind the others.
 fn push_packages(
     alloc: Global,
-    text: &mut Vec<u8>,
+    objects: &mut Vec<Value>,
     answers: &[PackageAnswer],
 ) -> Result<(), AllocError>
-    ensures { OnOk result ((lines : List (List ℕ)) → AreDocumentsOf lines text.old.items
-        → AreDocumentsOf (lines ++ flat_map Spec.package_lines answers.now) text.new.items) }
+    ensures { OnOk result (map view objects.new.items ≡ map view objects.old.items ++ flat_map Spec.package_objects answers.now) }
 {
-    for found in answers {
-        push_package(alloc, text, found)?;
+    for answer in answers {
+        push_package(alloc, objects, answer)?;
     }
     Ok(())
+}
+
+// The objects of the lines of what is answered: of what stands beside each package, and of the packages.
+fn answer_objects(alloc: Global, surveyed: &Surveyed) -> Result<Vec<Value>, AllocError>
+    ensures { IfOk result (λ objects. map view objects.items ≡ Spec.answer_objects surveyed.now) }
+{
+    let mut objects = Vec::new(alloc);
+    let members = members_of_base(alloc)?;
+    push_answer(alloc, &mut objects, b"base", members, &surveyed.base)?;
+    push_packages(alloc, &mut objects, surveyed.packages.as_slice())?;
+    Ok(objects)
+}
+
+// How all requests are answered, in a word.
+fn answer_word(exit: Exit) -> &'static str
+    ensures { result.now ≡ Spec.answer_word exit }
+{
+    match exit {
+        Exit::Success => "yes",
+        Exit::Undecided => "undecided",
+        _ => "no",
+    }
+}
+
+// The object of how many packages are asked about, broken and undecided.
+fn counts_value(alloc: Global, answers: &[PackageAnswer]) -> Result<Value, AllocError>
+    ensures { IfOk result (λ value. view value ≡ Spec.survey_counts_data answers.now) }
+{
+    let checked = answers.len();
+    let broken = count_broken(answers);
+    let undecided = count_undecided(answers);
+    json!(in alloc; {"broken": broken, "checked": checked, "undecided": undecided})
+}
+
+// Puts whether all can be installed, and how many packages are so.
+fn put_counts(alloc: Global, members: &mut Members, surveyed: &Surveyed) -> Result<(), AllocError>
+    ensures { OnOk result (members_view members.new.map.entries
+        ≡ Spec.with_counts surveyed.now (members_view members.old.map.entries)) }
+{
+    let counts = counts_value(alloc, surveyed.packages.as_slice())?;
+    put_text(
+        alloc,
+        members,
+        "answer",
+        answer_word(exit_of_survey(surveyed)),
+    )?;
+    members.put(alloc, "counts", counts)
+}
+
+// The object of the last line.
+fn counts_object(alloc: Global, surveyed: &Surveyed) -> Result<Value, AllocError>
+    ensures { IfOk result (λ value. view value ≡ Spec.counts_object surveyed.now) }
+{
+    let mut members = Members::new(alloc);
+    put_counts(alloc, &mut members, surveyed)?;
+    let line = counts_line(alloc, surveyed.packages.as_slice())?;
+    text_object(alloc, members, line.as_slice())
+}
+
+// A line of JSON for each of the objects, one behind the other.
+fn lines_of(alloc: Global, objects: &[Value]) -> Result<Vec<u8>, AllocError>
+    ensures { IfOk result (λ text. AreJsonLines (map view objects.now) text.items) }
+{
+    let mut text = Vec::new(alloc);
+    for object in objects {
+        let line = line_of(alloc, object)?;
+        text.extend_from_slice(line.as_slice())?;
+    }
+    Ok(text)
 }
 
 /// A JSON text for each line that is printed of the answers about packages, in their order: a line of an object whose member `text` is
 /// that line. Memory alone can fail.
 pub(crate) fn survey_documents(alloc: Global, surveyed: &Surveyed) -> Result<Vec<u8>, AllocError>
-    ensures { IfOk result (λ text. AreDocumentsOf (Spec.survey_lines surveyed.now) text.items) }
+    ensures { IfOk result (λ text. AreJsonLines (Spec.survey_objects surveyed.now) text.items) }
 {
-    let packages = surveyed.packages.as_slice();
-    let mut text = Vec::new(alloc);
-    push_answer(alloc, &mut text, b"base", None, &surveyed.base)?;
-    push_packages(alloc, &mut text, packages)?;
-    let counts = counts_line(alloc, packages)?;
-    let members = members_of_counts(alloc, surveyed)?;
-    push_document(alloc, &mut text, counts.as_slice(), members)?;
-    Ok(text)
+    let mut objects = answer_objects(alloc, surveyed)?;
+    push_value(&mut objects, counts_object(alloc, surveyed)?)?;
+    lines_of(alloc, objects.as_slice())
+}
+
+/// The members of one document of the answers about packages: whether all can be installed, how many packages are so, and as `packages`
+/// the objects of their lines, as each has a document of its own. Memory alone can fail.
+pub fn members_of_survey(alloc: Global, surveyed: &Surveyed) -> Result<Members, AllocError>
+    ensures { IfOk result (λ members. members_view members.map.entries ≡ Spec.with_survey surveyed.now no_members) }
+{
+    let mut members = Members::new(alloc);
+    put_counts(alloc, &mut members, surveyed)?;
+    let objects = answer_objects(alloc, surveyed)?;
+    members.put(alloc, "packages", Value::from(objects))?;
+    Ok(members)
 }

@@ -1,6 +1,6 @@
 -- A question that was read, as its words, and what a reading tells.
 use Rattle.std.specs.Prelude.{◌≡◌, Option, Some, None, Result, Ok, Err, map, string_bytes}
-use Rattle.questions.specs.Question.{Asks, Question, candidate, check_plan, check_refutation, keep_back, solve}
+use Rattle.questions.specs.Question.{Asks, Question, candidate, check_plan, check_refutation, installable, keep_back, solve}
 use Rattle.questions.specs.declared.mistake.Mistake.{Mistake}
 use Rattle.questions.specs.declared.posed.Ask.{Ask}
 use Rattle.questions.specs.declared.posed.Ask.TheVariants as ask
@@ -14,6 +14,8 @@ asks_by (ask.KeepBack request limit) = keep_back request.items limit
 asks_by (ask.CheckPlan request plan) = check_plan request.items plan.items
 asks_by (ask.CheckRefutation request refutation) = check_refutation request.items refutation.items
 asks_by (ask.Candidate names) = candidate (map string_bytes names.items)
+asks_by (ask.Installable names all_versions without_essential limit) =
+    installable (map string_bytes names.items) all_versions without_essential limit
 
 -- the question, in texts and data
 abbrev pub asked_by : Posed → Question

@@ -20,6 +20,9 @@ pub data Asks : Type 0 where
   check_refutation : List ℕ → List ℕ → Asks
   -- the candidates: the names
   candidate : List (List ℕ) → Asks
+  -- which packages can be installed: their names, whether each is asked for with all versions, whether nothing is asked for beside it, and
+  -- the limit
+  installable : List (List ℕ) → Bool → Bool → Option ℕ → Asks
 
 -- what is asked, and the value by which its answer is told from others
 pub record Question : Type 0 where
@@ -97,6 +100,16 @@ candidate_asked value =
     then option_and_then candidate_of (option_and_then strings_of (get (codes "names") value))
     else None
 
+-- which packages can be installed, those of an object's names or all
+abbrev pub installable_asked : Data → Option Asks
+installable_asked value =
+    if has_only (codes "id" ∷ codes "ask" ∷ codes "names" ∷ codes "all_versions" ∷ codes "without_essential" ∷ codes "limit" ∷ []) value
+    then option_and_then (λ names. option_and_then (λ all_versions. option_and_then (λ without_essential.
+    option_map (installable names all_versions without_essential) (limit_of (get (codes "limit") value)))
+    (flag_of (get (codes "without_essential") value))) (flag_of (get (codes "all_versions") value)))
+    (strings_or_none (get (codes "names") value))
+    else None
+
 -- what the kind with this name asks
 abbrev pub asked_as : List ℕ → Data → Option Asks
 asked_as kind value =
@@ -104,7 +117,8 @@ asked_as kind value =
     else (if bytes_eq kind (codes "check-plan") then check_plan_asked value
     else (if bytes_eq kind (codes "check-refutation") then check_refutation_asked value
     else (if bytes_eq kind (codes "candidate") then candidate_asked value
-    else None)))
+    else (if bytes_eq kind (codes "installable") then installable_asked value
+    else None))))
 
 -- what an object asks
 abbrev pub asks_in : Data → Option Asks

@@ -5,7 +5,9 @@ ghost use Rattle.questions.specs.Question as Spec;
 ghost use Rattle.questions.specs.Refused.{IsRefusalOf};
 ghost use Rattle.serde_json.specs.View.{view};
 
-use crate::member::{copied, flag_of, limit_of, names_pairs_by, strings_of, text_at};
+use crate::member::{
+    copied, flag_of, limit_of, names_pairs_by, strings_of, strings_or_none, text_at,
+};
 use crate::mistake::{Mistake, Refused};
 use crate::posed::Ask;
 use crate::request::request_in;
@@ -49,6 +51,9 @@ fn asked_as(alloc: Global, kind: &str, object: &Value) -> Result<Ask, Refused>
     }
     if kind == "candidate" {
         return candidate_asked(alloc, object);
+    }
+    if kind == "installable" {
+        return installable_asked(alloc, object);
     }
     Err(Refused::Mistake(Mistake::NoAsk))
 }
@@ -178,5 +183,42 @@ fn candidate_of(alloc: Global, names: &[&str]) -> Result<Ask, Refused>
     }
     Ok(Ask::Candidate {
         names: copied(alloc, names)?,
+    })
+}
+
+// Which packages can be installed.
+fn installable_asked(alloc: Global, object: &Value) -> Result<Ask, Refused>
+    ensures ok { IfOk result (λ ask. Spec.installable_asked (view object.now) ≡ Some (asks_by ask)) }
+    ensures err { IfErr result (IsRefusalOf (Spec.installable_asked (view object.now))) }
+{
+    only(
+        alloc,
+        object,
+        &[
+            "id",
+            "ask",
+            "names",
+            "all_versions",
+            "without_essential",
+            "limit",
+        ],
+    )?;
+    let Some(names) = strings_or_none(alloc, object.get("names"))? else {
+        return Err(Refused::Mistake(Mistake::NoStrings("names")));
+    };
+    let Some(all_versions) = flag_of(object.get("all_versions")) else {
+        return Err(Refused::Mistake(Mistake::NoFlag("all_versions")));
+    };
+    let Some(without_essential) = flag_of(object.get("without_essential")) else {
+        return Err(Refused::Mistake(Mistake::NoFlag("without_essential")));
+    };
+    let Some(limit) = limit_of(object.get("limit")) else {
+        return Err(Refused::Mistake(Mistake::NoLimit));
+    };
+    Ok(Ask::Installable {
+        names: copied(alloc, names.as_slice())?,
+        all_versions,
+        without_essential,
+        limit,
     })
 }

@@ -15,7 +15,7 @@ pub enum Mistake {
     #[error("it is no JSON object")]
     NoObject,
     /// It doesn't say what is asked.
-    #[error("ask is none of solve, check-plan, check-refutation, candidate")]
+    #[error("ask is none of solve, check-plan, check-refutation, candidate, installable")]
     NoAsk,
     /// A member of this name isn't part of what is asked.
     #[error("member \"{0}\" doesn't belong here")]

@@ -29,6 +29,13 @@ pub enum Ask {
     Candidate {
         names: Vec<String>,
     },
+    /// Which packages can be installed: those of these names, or all where there are none.
+    Installable {
+        names: Vec<String>,
+        all_versions: bool,
+        without_essential: bool,
+        limit: Option<u32>,
+    },
 }
 
 /// A question, and the value by which its answer is told from others.

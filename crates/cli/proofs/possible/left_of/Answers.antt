@@ -2,7 +2,7 @@
 use Rattle.std.proofs.Common.{List, subst, ℕ}
 use Rattle.cli.proofs.MemberLemmas.{added}
 use Rattle.cli.proofs.possible.left_of.Goals as goal
-use Rattle.cli.specs.Members.{AreAddedIn, with_answered, with_left}
+use Rattle.cli.specs.Members.{AreAddedIn, with_left}
 use Rattle.serde_json.specs.View.{members_view}
 
 pub returns-clause-printed : goal.returns-clause-printed
@@ -17,6 +17,6 @@ returns-clause-printed g c =
       c.in_ok-plain.plain,
       new,
       c.in_ok-plain.ensures,
-      added written (with_answered kept.answered) (with_left kept.request kept.notes) old new c.in_ok-members.ensures.members put,
+      added written kept old new c.in_ok-members.ensures.members put,
       c.in_ok-printed.ensures,
     )

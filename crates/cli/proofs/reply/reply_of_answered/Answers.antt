@@ -2,7 +2,7 @@
 use Rattle.std.proofs.Common.{◌∙◌, Global, IfOk, List, Vec, subst, ℕ}
 use Rattle.cli.proofs.ReplyLemmas.{reply_beside}
 use Rattle.cli.specs.Batch.{with_id}
-use Rattle.cli.specs.Members.{with_answered}
+use Rattle.cli.specs.Members.{AreOfAnswered}
 use Rattle.documents.specs.Document.{IsLineOf, object_with}
 use Rattle.outcomes.specs.Answer.{solved_text}
 use Rattle.serde_json.specs.View.{members_view, view}
@@ -12,6 +12,6 @@ pub returns : goal.returns
 returns c =
     let id = view c.args.id in
     let members = members_view c.in_ok-members.members.map.entries in
-    reply_beside id (solved_text c.args.answered) (with_answered c.args.answered) members c.reply_of.result c.in_ok-members.ensures.members
+    reply_beside id (solved_text c.args.answered) (AreOfAnswered c.args.answered) members c.reply_of.result c.in_ok-members.ensures.members
     (subst (λ (text : List ℕ). IfOk c.reply_of.result (λ (reply : Vec ℕ Global). IsLineOf (object_with text (with_id id members)) reply.items))
     (c.as_slice.ensures.value ∙ c.in_ok-text.ensures) c.reply_of.ensures)

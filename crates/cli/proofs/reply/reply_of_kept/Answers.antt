@@ -3,7 +3,7 @@ use Rattle.std.proofs.Common.{◌∙◌, Global, IfOk, List, Vec, subst, ℕ}
 use Rattle.cli.proofs.MemberLemmas.{added}
 use Rattle.cli.proofs.ReplyLemmas.{reply_beside}
 use Rattle.cli.specs.Batch.{with_id}
-use Rattle.cli.specs.Members.{AreAddedIn, with_answered, with_kept, with_left}
+use Rattle.cli.specs.Members.{AreAddedIn, AreOfKept, with_left}
 use Rattle.command_line.specs.declared.call.Format.TheVariants as format
 use Rattle.documents.specs.Document.{IsLineOf, object_with}
 use Rattle.outcomes.specs.Answer.{solved_text}
@@ -19,7 +19,7 @@ returns c =
     let put : AreAddedIn format.Json (with_left kept.request kept.notes) old new =
     subst (λ (notes : List ℕ). AreAddedIn format.Json (with_left kept.request notes) old new) c.as_slice-2.ensures
     (subst (λ (request : List ℕ). AreAddedIn format.Json (with_left request c.as_slice-2.result.now) old new) c.as_slice.ensures c.in_ok-put_left.ensures) in
-    reply_beside id (solved_text kept.answered) (with_kept kept) new c.reply_of.result
-    (added format.Json (with_answered kept.answered) (with_left kept.request kept.notes) old new c.in_ok-members.ensures.members put)
+    reply_beside id (solved_text kept.answered) (AreOfKept kept) new c.reply_of.result
+    (added format.Json kept old new c.in_ok-members.ensures.members put)
     (subst (λ (text : List ℕ). IfOk c.reply_of.result (λ (reply : Vec ℕ Global). IsLineOf (object_with text (with_id id new)) reply.items))
     (c.as_slice-3.ensures.value ∙ c.in_ok-text.ensures) c.reply_of.ensures)

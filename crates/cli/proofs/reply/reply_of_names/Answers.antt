@@ -2,7 +2,7 @@
 use Rattle.std.proofs.Common.{◌∙◌, Global, IfOk, List, Vec, map, subst, ℕ}
 use Rattle.cli.proofs.ReplyLemmas.{reply_beside}
 use Rattle.cli.specs.Batch.{with_id}
-use Rattle.cli.specs.Members.{with_candidates}
+use Rattle.cli.specs.Members.{AreOfCandidates}
 use Rattle.documents.specs.Document.{IsLineOf, object_with}
 use Rattle.outcomes.specs.Answer.{candidate_lines}
 use Rattle.serde_json.specs.View.{members_view, view}
@@ -13,7 +13,7 @@ returns c =
     let id = view c.args.id in
     let names = map (λ name. name.now) c.args.names.now in
     let members = members_view c.in_ok-members.members.map.entries in
-    reply_beside id (candidate_lines names c.args.candidates.now) (with_candidates names c.args.candidates.now) members c.reply_of.result
+    reply_beside id (candidate_lines names c.args.candidates.now) (AreOfCandidates names c.args.candidates.now) members c.reply_of.result
     c.in_ok-members.ensures
     (subst (λ (text : List ℕ). IfOk c.reply_of.result (λ (reply : Vec ℕ Global). IsLineOf (object_with text (with_id id members)) reply.items))
     (c.as_slice.ensures.value ∙ c.in_ok-text.ensures) c.reply_of.ensures)

@@ -3,7 +3,7 @@ use Rattle.std.proofs.Common.{List, Ok, Option, map, subst, sym}
 use Rattle.candidates.specs.Offer.{Offer}
 use Rattle.cli.proofs.ResultLemmas.{if_ok}
 use Rattle.cli.specs.Batch.{IsReplyOf, IsReplyWhere}
-use Rattle.cli.specs.Members.{with_candidates}
+use Rattle.cli.specs.Members.{AreOfCandidates}
 use Rattle.cli_engine.specs.Answer.{IsSaidOfNames}
 use Rattle.outcomes.specs.Answer.{candidate_lines}
 use Rattle.serde_json.specs.View.{view}
@@ -14,8 +14,8 @@ returns c = λ texts read.
     let id = view c.args.id in
     let names = map (λ name. name.now) c.args.names.now in
     let found = c.as_slice.result.now in
-    if_ok c.reply_of_names.result (λ reply. IsReplyOf id (candidate_lines names found) (with_candidates names found) reply.items)
-    (λ reply. IsReplyWhere {A = List (Option Offer)} id (IsSaidOfNames texts names) (candidate_lines names) (with_candidates names) reply.items)
+    if_ok c.reply_of_names.result (λ reply. IsReplyOf id (candidate_lines names found) (AreOfCandidates names found) reply.items)
+    (λ reply. IsReplyWhere {A = List (Option Offer)} id (IsSaidOfNames texts names) (candidate_lines names) (AreOfCandidates names) reply.items)
     (λ reply is. (
       Ok found,
       subst (λ (candidates : List (Option Offer)). IsSaidOfNames texts names (Ok candidates)) (sym c.as_slice.ensures) (c.in_ok-candidates.ensures.said texts read),

@@ -2,6 +2,7 @@
 use Rattle.cli.specs.Batch.{IsReplyToLine, question_bytes}
 use Rattle.cli.specs.Heard.{IsReplyOver}
 use Rattle.conversation.proofs.ConversationLemmas.{answered_so}
+use Rattle.inputs.proofs.ReadByLemmas.{none_read, then_wanting}
 use Rattle.inputs.specs.Texts.{texts_of}
 use Rattle.text_lines.specs.Lines.{left_of}
 use Rattle.cli.proofs.hearing.QuestionsQuestion.answer.Goals as goal
@@ -18,3 +19,7 @@ returns-clause-said g c = λ at known read.
 pub returns-clause-kept : goal.returns-clause-kept
 returns-clause-kept g c =
     let answered = c.answered.ensures.answered in ((answered.0, answered.2), c.answered.ensures.held)
+
+pub returns-in_err-idle-clause-read : goal.returns-in_err-idle-clause-read
+returns-in_err-idle-clause-read g c = then_wanting c.from_residual-in_err-idle.result
+    (none_read {value = c.args.self.now.limit} g.met.S.Shelf.holds_still) c.from_residual-in_err-idle.ensures.1

@@ -5,6 +5,8 @@ use Rattle.inputs.specs.ReadAs.{start_of}
 use Rattle.inputs.specs.Texts.{texts_of}
 use Rattle.inputs.proofs.ReadByLemmas.{answered, read_on, then_wanting}
 use Rattle.cli_engine.specs.Refuted.{IsRefutationAnswer}
+use Rattle.cli_engine.specs.Solution.{HasLines}
+use Rattle.named_lines.specs.declared.numbering.NumberedLines.{NumberedLines}
 use Rattle.cli_engine.proofs.check_refutation.CheckRefutationQuestion.answer.Goals as goal
 
 pub returns-in_err-written-clause-said : goal.returns-in_err-written-clause-said
@@ -39,4 +41,6 @@ returns-clause-said g c = λ at known read.
     record {
       answer = answer;
       refuted = λ yes. c.yes_refutes.ensures texts at.judged (subst (IsRefutationAnswer texts at.judged) yes answer);
+      lines = subst (λ (numbered : NumberedLines). HasLines c.in_ok-universe.field-0.universe numbered.lines c.in_ok-members.members)
+          c.in_ok-verdict.ensures.lines c.in_ok-members.ensures.lines;
     }

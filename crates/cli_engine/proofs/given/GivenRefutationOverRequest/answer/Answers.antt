@@ -3,6 +3,8 @@ use Rattle.std.proofs.Common.{Some, subst}
 use Rattle.std.proofs.lemmas.Result.{err_from_is_err_and}
 use Rattle.inputs.specs.ReadAs.{start_of}
 use Rattle.cli_engine.specs.Refuted.{IsRefutationAnswer}
+use Rattle.cli_engine.specs.Solution.{HasLines}
+use Rattle.named_lines.specs.declared.numbering.NumberedLines.{NumberedLines}
 use Rattle.cli_engine.proofs.given.GivenRefutationOverRequest.answer.Goals as goal
 
 pub returns-in_err-written-clause-said : goal.returns-in_err-written-clause-said
@@ -24,4 +26,6 @@ returns-clause-said c = λ texts asked.
     record {
       answer = answer;
       refuted = λ yes. c.yes_refutes.ensures texts given (subst (IsRefutationAnswer texts given) yes answer);
+      lines = subst (λ (numbered : NumberedLines). HasLines c.args.requested.now.universe numbered.lines c.in_ok-members.members)
+          c.in_ok-verdict.ensures.lines c.in_ok-members.ensures.lines;
     }
