@@ -8,6 +8,7 @@ greater peak memory, which below some 25 MiB is that of this program. Some famil
   --rounds N       the times are medians of N runs, 1 where it isn't given
   --size N         each family has this size alone, not its own
   --stack KIB      a process has a stack of so many KiB: one whose recursion grows with its input doesn't end in it
+  --explain        `solve` and the judge explain their answers, on standard error, which isn't shown
 
 Along a chain or a ring names ascend where it is "in order", descend where it is "reversed", and are in an order drawn by
 chance, the same in each run, where it is "shuffled". Exit status: 0, 1 where a judge doesn't say yes, where an answer isn't of
@@ -226,6 +227,11 @@ def versions_of_one(size):
     return World("", index, joined(f"install x (= {number})\n" for number in range(1, size + 1)), None)
 
 
+def versions_listed(size):
+    """So many versions of one name, of which the candidate is asked for."""
+    return World("", joined(stanza("a", str(number)) for number in range(size)), "install a\n", None)
+
+
 def providers_and_needs(size):
     """So many packages depend on a name that so many provide."""
     needs = names_of(size, "in order")
@@ -334,6 +340,7 @@ FAMILIES = {
     "conflicts and items at the start, judged": Family(start_of_conflicts, (250, 500, 1000, 4000), "plan"),
     "one of many needed": Family(one_of, (1000, 2000, 4000), "plan"),
     "versions of one name": Family(versions_of_one, (1000, 2000, 4000), "refutation"),
+    "listed versions": Family(versions_listed, (8000, 16_000, 32_000), "plan"),
     "needs and providers": Family(providers_and_needs, (1000, 2000, 4000), "plan"),
     "unpackings of one package, judged": Family(unpacked_again, (4000, 8000, 16_000, 32_000), "plan"),
     "fields of a stanza": Family(fields_in_one, (4000, 16_000, 30_000), "plan"),
@@ -376,7 +383,7 @@ class Hostile:
         """What a process prints on standard output, its time in seconds and its peak memory in MiB."""
         with tempfile.TemporaryFile() as out:
             start = time.perf_counter()
-            process = subprocess.Popen(command, stdout=out, preexec_fn=self.narrow)
+            process = subprocess.Popen(command, stdout=out, stderr=subprocess.DEVNULL if self.options.explain else None, preexec_fn=self.narrow)
             clock = threading.Timer(self.options.most, process.kill)
             clock.start()
             _, status, usage = os.wait4(process.pid, 0)
@@ -390,7 +397,7 @@ class Hostile:
     def run(self, command, *words):
         """The same of a command of debplan over the world, with the median of the times."""
         inputs = [it for name in ("status", "sources", "request") for it in (f"--{name}", self.path(name))]
-        line = [self.program, command, "--arch", "amd64", *inputs, *words]
+        line = [self.program, command, "--arch", "amd64", *inputs, *(["--explain"] if self.options.explain else []), *words]
         runs = [self.once(line) for _ in range(self.options.rounds)]
         return runs[0][0], statistics.median(seconds for _, seconds, _ in runs), max(peak for _, _, peak in runs)
 
@@ -434,6 +441,7 @@ def main():
     parser.add_argument("--rounds", type=int, default=1)
     parser.add_argument("--size", type=int)
     parser.add_argument("--stack", type=int)
+    parser.add_argument("--explain", action="store_true")
     parser.add_argument("families", nargs="*", metavar="FAMILY")
     options = parser.parse_intermixed_args()
     with tempfile.TemporaryDirectory() as room:

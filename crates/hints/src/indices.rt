@@ -2,43 +2,23 @@
 
 use crate::words::push_count;
 use debversion::Version;
-use index::{Index, IndexEntry};
-use indexmap::IndexMap;
+use index::Index;
+use indexmap::IndexSet;
 use std::alloc::{AllocError, Global};
 
-// The versions of each name in the indices so far.
-#[derive(Drop)]
-struct Listed<'a> {
-    alloc: Global,
-    versions: IndexMap<&'a [u8], Vec<Version<'a>>>,
-}
-
-impl<'a> Listed<'a> {
-    // Adds the version of the stanza, and tells whether it wasn't there. Memory alone can fail.
-    fn add(&mut self, entry: &IndexEntry<'a>) -> Result<bool, AllocError> {
-        if let Some(versions) = self.versions.get_mut(&entry.name()) {
-            if versions.iter().any(|version| *version == entry.version()) {
-                return Ok(false);
-            }
-            versions.push(entry.version())?;
-            return Ok(true);
+// Adds the versions of the index to those of the indices before it, each with its name, and tells whether one of them wasn't there.
+// Memory alone can fail.
+fn add_all<'a>(
+    listed: &mut IndexSet<(&'a [u8], Version<'a>)>,
+    index: &Index<'a>,
+) -> Result<bool, AllocError> {
+    let mut adds = false;
+    for entry in index.packages() {
+        if listed.insert((entry.name(), entry.version()))? {
+            adds = true;
         }
-        let mut versions = Vec::new(self.alloc);
-        versions.push(entry.version())?;
-        self.versions.insert(entry.name(), versions)?;
-        Ok(true)
     }
-
-    // Adds the versions of the index, and tells whether one of them wasn't there. Memory alone can fail.
-    fn add_all(&mut self, index: &Index<'a>) -> Result<bool, AllocError> {
-        let mut adds = false;
-        for entry in index.packages() {
-            if self.add(entry)? {
-                adds = true;
-            }
-        }
-        Ok(adds)
-    }
+    Ok(adds)
 }
 
 // Writes that the index at this place adds nothing.
@@ -60,12 +40,9 @@ pub(crate) fn push_indices(
     text: &mut Vec<u8>,
     indices: &[Index<'_>],
 ) -> Result<(), AllocError> {
-    let mut listed = Listed {
-        alloc,
-        versions: IndexMap::new(alloc),
-    };
+    let mut listed = IndexSet::new(alloc);
     for (place, index) in indices.iter().enumerate() {
-        if !listed.add_all(index)? {
+        if !add_all(&mut listed, index)? {
             push_idle_index(text, place, index)?;
         }
     }

@@ -2,137 +2,186 @@
 
 use crate::basis::Basis;
 use crate::table::pair_in;
+use indexmap::IndexMap;
 use refutation::Literal;
 use std::alloc::{AllocError, Global};
+use std::collections::BTreeSet;
 
-// What was told so far: by their numbers the pairs of which a told clause speaks, those of the clause that was told last, and
-// by its place whether a clause was told.
+// The clauses that speak of a pair.
 #[derive(Drop)]
-struct Told {
-    known: Vec<bool>,
-    last: Vec<bool>,
-    told: Vec<bool>,
+struct Mention {
+    // The places of those that speak against it, until it is known.
+    against: Vec<usize>,
+    // The places of those that are ready.
+    ready: BTreeSet<usize>,
 }
 
-// What stands at the place; false where there is none.
-fn is_at(marks: &[bool], place: usize) -> bool {
-    match marks.get(place) {
-        Some(marked) => *marked,
-        None => false,
+// The clauses that aren't told, by their places. A pair is known once a told clause speaks of it, and a clause is ready once the pairs
+// that it speaks against are known.
+#[derive(Drop)]
+struct Untold<'k> {
+    alloc: Global,
+    // All clauses, the told ones among them.
+    clauses: Vec<&'k [Literal]>,
+    // Of each clause how many of its literals speak against a pair that isn't known.
+    lacking: Vec<usize>,
+    left: BTreeSet<usize>,
+    ready: BTreeSet<usize>,
+    mentions: IndexMap<u32, Mention>,
+}
+
+// The lesser of the place so far and the other one.
+fn lesser(so_far: Option<usize>, place: usize) -> usize {
+    match so_far {
+        Some(least) if least < place => least,
+        _ => place,
     }
 }
 
-fn set(marks: &mut Vec<bool>, place: usize, marked: bool) {
-    if place < marks.len() {
-        marks[place] = marked;
-    }
-}
-
-// Marks the pairs of the clause, or takes their marks away.
-fn set_all(marks: &mut Vec<bool>, clause: &[Literal], marked: bool) {
-    for literal in clause {
-        set(marks, pair_in(*literal) as usize, marked);
-    }
-}
-
-impl Told {
-    // Nothing, of so many clauses about pairs up to this number.
-    fn new(alloc: Global, clauses: usize, pairs: usize) -> Result<Told, AllocError> {
-        let numbers = pairs.saturating_add(1);
-        Ok(Told {
-            known: vec![in alloc; false; numbers]?,
-            last: vec![in alloc; false; numbers]?,
-            told: vec![in alloc; false; clauses]?,
-        })
-    }
-
-    // Whether the literal says nothing against a pair, or against one that is known.
-    fn is_known(&self, literal: Literal) -> bool {
-        match literal {
-            Literal::Selected(_) => true,
-            Literal::Unselected(pair) => is_at(self.known.as_slice(), pair as usize),
+impl<'k> Untold<'k> {
+    // The clauses of the premises, none of which is told.
+    fn new(alloc: Global, bases: &'k [Basis<'_>]) -> Result<Untold<'k>, AllocError> {
+        let mut untold = Untold {
+            alloc,
+            clauses: Vec::new(alloc),
+            lacking: Vec::new(alloc),
+            left: BTreeSet::new(alloc),
+            ready: BTreeSet::new(alloc),
+            mentions: IndexMap::new(alloc),
+        };
+        for basis in bases {
+            untold.add(basis.clause.as_slice())?;
         }
+        for place in 0..bases.len() {
+            untold.note_if_ready(place)?;
+        }
+        Ok(untold)
     }
 
-    // Whether the pairs that the clause speaks against are known.
-    fn is_ready(&self, clause: &[Literal]) -> bool {
-        clause.iter().all(|literal| self.is_known(*literal))
+    // Notes that the clause at the place has the literal.
+    fn mention(&mut self, literal: Literal, place: usize) -> Result<(), AllocError> {
+        let pair = pair_in(literal);
+        if self.mentions.get(&pair).is_none() {
+            let mention = Mention {
+                against: Vec::new(self.alloc),
+                ready: BTreeSet::new(self.alloc),
+            };
+            self.mentions.insert(pair, mention)?;
+        }
+        if let (Literal::Unselected(_), Some(mention)) = (literal, self.mentions.get_mut(&pair)) {
+            mention.against.push(place)?;
+        }
+        Ok(())
     }
 
-    // Whether the clause speaks of a pair of the one that was told last.
-    fn goes_on(&self, clause: &[Literal]) -> bool {
-        clause.iter().any(|literal| is_at(self.last.as_slice(), pair_in(*literal) as usize))
-    }
-
-    // The first place of a clause that isn't told, is ready and goes on from the last one.
-    fn next_going_on(&self, bases: &[Basis<'_>]) -> Option<usize> {
-        for (place, basis) in bases.iter().enumerate() {
-            let clause = basis.clause.as_slice();
-            if !is_at(self.told.as_slice(), place)
-                && self.goes_on(clause)
-                && self.is_ready(clause)
-            {
-                return Some(place);
+    // Puts the clause behind the others.
+    fn add(&mut self, clause: &'k [Literal]) -> Result<(), AllocError> {
+        let place = self.clauses.len();
+        let mut lacking = 0usize;
+        for literal in clause {
+            self.mention(*literal, place)?;
+            if let Literal::Unselected(_) = literal {
+                lacking = lacking.saturating_add(1);
             }
         }
-        None
+        self.left.insert(place)?;
+        self.clauses.push(clause)?;
+        self.lacking.push(lacking)?;
+        Ok(())
     }
 
-    // The first place of a clause that isn't told and is ready.
-    fn next_ready(&self, bases: &[Basis<'_>]) -> Option<usize> {
-        for (place, basis) in bases.iter().enumerate() {
-            if !is_at(self.told.as_slice(), place) && self.is_ready(basis.clause.as_slice()) {
-                return Some(place);
+    // The clause at the place; none of its literals where there is none.
+    fn clause_at(&self, place: usize) -> &'k [Literal] {
+        match self.clauses.get(place) {
+            None => &[],
+            Some(clause) => clause,
+        }
+    }
+
+    // Notes that the clause is ready, if it is and isn't told.
+    fn note_if_ready(&mut self, place: usize) -> Result<(), AllocError> {
+        if self.lacking.get(place).copied() != Some(0) || !self.left.contains(&place) {
+            return Ok(());
+        }
+        self.ready.insert(place)?;
+        for literal in self.clause_at(place) {
+            if let Some(mention) = self.mentions.get_mut(&pair_in(*literal)) {
+                mention.ready.insert(place)?;
             }
         }
-        None
+        Ok(())
+    }
+
+    // Of the clause at the place one literal less speaks against a pair that isn't known.
+    fn lack_less(&mut self, place: usize) -> Result<(), AllocError> {
+        if let Some(lacking) = self.lacking.get_mut(place) {
+            *lacking = lacking.saturating_sub(1);
+        }
+        self.note_if_ready(place)
+    }
+
+    // The clauses that speak against the pair, where it wasn't known before.
+    fn take_against(&mut self, pair: u32) -> Vec<usize> {
+        let none = Vec::new(self.alloc);
+        match self.mentions.get_mut(&pair) {
+            None => none,
+            Some(mention) => std::mem::replace(&mut mention.against, none),
+        }
+    }
+
+    // The clause at the place is told, and its pairs are known.
+    fn tell(&mut self, place: usize) -> Result<(), AllocError> {
+        self.left.remove(&place);
+        self.ready.remove(&place);
+        for literal in self.clause_at(place) {
+            if let Some(mention) = self.mentions.get_mut(&pair_in(*literal)) {
+                mention.ready.remove(&place);
+            }
+        }
+        for literal in self.clause_at(place) {
+            for other in self.take_against(pair_in(*literal)).iter() {
+                self.lack_less(*other)?;
+            }
+        }
+        Ok(())
+    }
+
+    // The first clause that is ready and speaks of a pair of this one.
+    fn going_on_from(&self, clause: &[Literal]) -> Option<usize> {
+        let mut least = None;
+        for literal in clause {
+            if let Some(mention) = self.mentions.get(&pair_in(*literal)) {
+                if let Some(place) = mention.ready.first() {
+                    least = Some(lesser(least, *place));
+                }
+            }
+        }
+        least
     }
 
     // The place of the clause that is told next, if one is left.
-    fn next(&self, bases: &[Basis<'_>]) -> Option<usize> {
-        if let Some(place) = self.next_going_on(bases) {
+    fn next(&self, last: &[Literal]) -> Option<usize> {
+        if let Some(place) = self.going_on_from(last) {
             return Some(place);
         }
-        if let Some(place) = self.next_ready(bases) {
-            return Some(place);
+        if let Some(place) = self.ready.first() {
+            return Some(*place);
         }
-        self.told.iter().position(|told| !*told)
-    }
-
-    // Marks the pairs of the clause as known, and as those of the last one instead of the pairs of the one before.
-    fn tell(&mut self, place: usize, clause: &[Literal], before: &[Literal]) {
-        set_all(&mut self.last, before, false);
-        set_all(&mut self.last, clause, true);
-        set_all(&mut self.known, clause, true);
-        set(&mut self.told, place, true);
-    }
-}
-
-// The clause at the place; none of its literals where there is none.
-fn clause_at<'k>(bases: &'k [Basis<'_>], place: Option<usize>) -> &'k [Literal] {
-    let Some(place) = place else {
-        return &[];
-    };
-    match bases.get(place) {
-        None => &[],
-        Some(basis) => basis.clause.as_slice(),
+        self.left.first().copied()
     }
 }
 
 /// The places of the premises in the order in which they are told: next comes the first whose pairs that its clause speaks
 /// against are known, of these one that goes on from the clause told last, and where there is none, the first that is left.
-/// A pair is known once a told clause speaks of it. Memory alone can fail. Quadratic in the premises, with their literals.
-pub(crate) fn order_of(
-    alloc: Global,
-    bases: &[Basis<'_>],
-    pairs: usize,
-) -> Result<Vec<usize>, AllocError> {
-    let mut told = Told::new(alloc, bases.len(), pairs)?;
+/// A pair is known once a told clause speaks of it. Memory alone can fail. n log n in the literals of the premises.
+pub(crate) fn order_of(alloc: Global, bases: &[Basis<'_>]) -> Result<Vec<usize>, AllocError> {
+    let mut untold = Untold::new(alloc, bases)?;
     let mut places: Vec<usize> = Vec::new(alloc);
+    let mut last: &[Literal] = &[];
     for _ in 0..bases.len() {
-        if let Some(place) = told.next(bases) {
-            let before = clause_at(bases, places.last().copied());
-            told.tell(place, clause_at(bases, Some(place)), before);
+        if let Some(place) = untold.next(last) {
+            untold.tell(place)?;
+            last = untold.clause_at(place);
             places.push(place)?;
         }
     }

@@ -41,8 +41,8 @@ fn text_of(alloc: Global, lines: &[Vec<u8>], all_versions: bool) -> Result<Vec<u
 /// A sentence for each premise of the refutation over the universe of these premises, one a line and none twice, in an order in
 /// which each names what those before have named, behind them one for each version that would do for a dependency and isn't admitted, where
 /// something speaks against the one that can satisfy it, and a line that says what they are about. The indices say which versions there are
-/// that aren't admitted, and the preferences why. Its words aren't promised. It costs what the clauses of the premises cost, is quadratic
-/// in the premises, and linear in the pairs, in the stanzas with what they provide and in the preferences for each name that no pair
+/// that aren't admitted, and the preferences why. Its words aren't promised. It costs what the clauses of the premises cost, n log n in their
+/// literals, and is linear in the pairs, in the stanzas with what they provide and in the preferences for each name that no pair
 /// satisfies. Memory alone can fail.
 pub fn sentences(
     premises: &Premises<'_, '_, '_>,
@@ -53,7 +53,7 @@ pub fn sentences(
 ) -> Result<Vec<u8>, AllocError> {
     let universe = premises.universe();
     let bases = bases_of(premises, refutation)?;
-    let places = order_of(premises.alloc(), bases.as_slice(), universe.pairs().len())?;
+    let places = order_of(premises.alloc(), bases.as_slice())?;
     let teller = Teller {
         premises,
         universe,
