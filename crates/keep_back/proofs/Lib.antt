@@ -1,1 +1,2 @@
 pub mod KeepLemmas
+pub mod MarkLemmas

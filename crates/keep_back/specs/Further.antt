@@ -1,61 +1,90 @@
--- What was left out of a request, one line after the other.
-use Rattle.std.specs.Prelude.{◌≡◌, ℕ, ◌<◌, List, [], ◌∷◌, ◌++◌, length, Option, None, Some}
-use Rattle.std.specs.List.{remove}
+-- What was left out of a request, one goal after the other.
+use Rattle.std.specs.Prelude.{◌≡◌, ◌⊎◌, ℕ, Bool, true, false, List, [], length, Option, None, Some}
+use Rattle.std.specs.List.{slice_index_or}
 use Rattle.inputs.specs.ReadAs.{AreReadAs, asking}
+use Rattle.inputs.specs.Reading.{out_of_memory}
 use Rattle.inputs.specs.Refused.{IsRefusal}
 use Rattle.inputs.specs.Texts.{Texts}
 use Rattle.inputs.specs.declared.before.Before.{Before}
 use Rattle.inputs.specs.declared.refusal.Refusal.{Refusal}
-use Rattle.keep_back.specs.KeptBack.{AreRefutedEach, left_of}
+use Rattle.keep_back.specs.KeptBack.{request_left}
+use Rattle.keep_back.specs.Reason.{IsRefutation}
 use Rattle.keep_back.specs.Round.{IsRefutedRequest, IsSolvedRequest}
-use Rattle.keep_back.specs.declared.kept.Kept.{Kept}
 use Rattle.keep_back.specs.declared.left.Left.{Left}
 use Rattle.keep_back.specs.declared.round.SolvedRequest.{SolvedRequest}
-use Rattle.wishes.specs.Spelled.{lines_in, text_of}
+use Rattle.solver.specs.declared.solved.Solved.{Solved}
+use Rattle.wishes.specs.Goals.{asks_for_more, only_goal}
+use Rattle.wishes.specs.Spelled.{goals_of, lines_in, stays_at}
+use Rattle.wishes.specs.declared.wish.Wish.{Wish}
 
--- the line at this place is left out
-pub record IsWithout (old new : Left) (place : ℕ) : Type 0 where
-  pub lines : lines_in new.wishes.items ≡ remove (lines_in old.wishes.items) place
-  pub places : new.places.items ≡ old.places.items ++ place ∷ []
+-- the text of the request that is left
+abbrev pub request_of : Left → List ℕ
+request_of left = request_left (lines_in left.wishes.items) left.stays.items
 
--- a line is left out, of a request that is refuted
-pub record IsOneLess (before : Before) (old new : Left) : Type 0 where
-  pub place : ℕ
-  pub within : place < length old.wishes.items
-  pub refuted : IsRefutedRequest before (text_of (lines_in old.wishes.items))
-  pub less : IsWithout old new place
+-- every line stays
+abbrev pub AllStay : List Bool → Type 0
+AllStay stays = (place : ℕ) → stays_at stays place ≡ true
 
--- what is left is answered, or a line of it is left out
-abbrev pub IsStep : Before → ℕ → Left → Left → Option SolvedRequest → Type 0
-IsStep before limit old new None = IsOneLess before old new
-IsStep before limit old new (Some solved) = (new ≡ old) × IsSolvedRequest before limit (text_of (lines_in old.wishes.items)) solved
+-- the wish at this place asks for an installation or an upgrade
+abbrev pub AsksAt : List Wish → ℕ → Type 0
+AsksAt wishes place = asks_for_more (only_goal (slice_index_or (goals_of wishes) place [])) ≡ true
 
--- of what was left the lines at these places were left out, one after the other, each of a request that is refuted
+-- further wishes were left out that ask for an installation or an upgrade
+pub record IsFewer (old new : Left) : Type 0 where
+  pub wishes : new.wishes.items ≡ old.wishes.items
+  pub long : length new.stays.items ≡ length old.stays.items
+  pub out : (place : ℕ) → stays_at new.stays.items place ≡ false → (stays_at old.stays.items place ≡ false) ⊎ AsksAt old.wishes.items place
+
+-- at true further ones were, and at false nothing has changed
+abbrev pub IsFewerBy : Bool → Left → Left → Type 0
+IsFewerBy true old new = IsFewer old new
+IsFewerBy false old new = new ≡ old
+
+-- at true further wishes were left out, and the answer is a refutation; at false nothing has changed
+abbrev pub IsLeftOutFor : Solved → Left → Left → Bool → Type 0
+IsLeftOutFor answer old new true = IsRefutation answer × IsFewer old new
+IsLeftOutFor answer old new false = new ≡ old
+
+-- the wish at this place asks for an installation or an upgrade, and it was left out of a request that is refuted
+pub record WasOut (before : Before) (wishes : List Wish) (place : ℕ) : Type 0 where
+  pub asks : AsksAt wishes place
+  pub stays : List Bool
+  pub stood : stays_at stays place ≡ true
+  pub refuted : IsRefutedRequest before (request_left (lines_in wishes) stays)
+
+-- of the same wishes each that doesn't stay was left out of a request that is refuted, or didn't stay before
 pub record IsFurther (before : Before) (old new : Left) : Type 0 where
-  pub later : List ℕ
-  pub places : new.places.items ≡ old.places.items ++ later
-  pub lines : lines_in new.wishes.items ≡ left_of (lines_in old.wishes.items) later
-  pub refuted : (texts : Texts) → AreReadAs texts before → AreRefutedEach texts (lines_in old.wishes.items) later
+  pub wishes : new.wishes.items ≡ old.wishes.items
+  pub long : length new.stays.items ≡ length old.stays.items
+  pub out : (place : ℕ) → stays_at new.stays.items place ≡ false
+      → (stays_at old.stays.items place ≡ false) ⊎ WasOut before old.wishes.items place
 
--- of these lines the one at this place was left out, and then further ones, each of a request that is refuted
-pub record IsRest (before : Before) (lines : List (List ℕ)) (place : ℕ) (kept : Kept) : Type 0 where
-  pub later : List ℕ
-  pub places : kept.places.items ≡ place ∷ later
-  pub request : kept.request.items ≡ text_of (left_of (remove lines place) later)
-  pub refuted : (texts : Texts) → AreReadAs texts before → AreRefutedEach texts (remove lines place) later
+-- what is left is answered, or wishes of it are left out
+abbrev pub IsStep : Before → ℕ → Left → Left → Option SolvedRequest → Type 0
+IsStep before limit old new None = IsFurther before old new
+IsStep before limit old new (Some solved) = (new ≡ old) × IsSolvedRequest before limit (request_of old) solved
 
--- the request with these lines, in the place of that of the texts, is refused so
-abbrev pub IsRefusedWith : Texts → List (List ℕ) → Refusal → Type 0
-IsRefusedWith texts lines refused = IsRefusal (asking (text_of lines) texts) refused
+-- the texts are refused so with this request in the place of theirs
+abbrev pub IsRefusedWith : Texts → List ℕ → Refusal → Type 0
+IsRefusedWith texts request refused = IsRefusal (asking request texts) refused
 
--- further lines were left out, and what is left then is refused so
+-- wishes were left out, and what is left then is refused so
 pub record IsFurtherRefusal (before : Before) (texts : Texts) (old : Left) (refused : Refusal) : Type 0 where
   pub new : Left
   pub further : IsFurther before old new
-  pub refused_so : IsRefusedWith texts (lines_in new.wishes.items) refused
+  pub refused_so : IsRefusedWith texts (request_of new) refused
 
--- of these lines the one at this place was left out, and then further ones, and what is left then is refused so
-pub record IsRestRefusal (texts : Texts) (lines : List (List ℕ)) (place : ℕ) (refused : Refusal) : Type 0 where
-  pub later : List ℕ
-  pub refuted : AreRefutedEach texts (remove lines place) later
-  pub refused_so : IsRefusedWith texts (left_of (remove lines place) later) refused
+-- of these wishes, as they are marked, each that doesn't stay was left out of a request that is refuted
+pub record AreOut (before : Before) (wishes : List Wish) (stays : List Bool) : Type 0 where
+  pub long : length stays ≡ length wishes
+  pub out : (place : ℕ) → stays_at stays place ≡ false → WasOut before wishes place
+
+-- what is left of these wishes is refused so
+pub record IsRestRefused (before : Before) (texts : Texts) (wishes : List Wish) (refused : Refusal) : Type 0 where
+  pub stays : List Bool
+  pub out : AreOut before wishes stays
+  pub refused_so : IsRefusedWith texts (request_left (lines_in wishes) stays) refused
+
+-- or memory is wanting
+abbrev pub IsRestRefusal : Before → Texts → List Wish → Refusal → Type 0
+IsRestRefusal before texts wishes refused = (refused ≡ out_of_memory) ⊎ IsRestRefused before texts wishes refused

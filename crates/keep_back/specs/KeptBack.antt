@@ -1,6 +1,6 @@
--- As much of a request as can be: what is left of it where lines are left out, one after the other (this project's own).
-use Rattle.std.specs.Prelude.{◌≡◌, ◌⊎◌, ℕ, ◌<◌, false, List, [], ◌∷◌, length, Result, Ok, Err, Some, ⊤}
-use Rattle.std.specs.List.{remove}
+-- As much of a request as can be: what is left of it where lines are left out (this project's own).
+use Rattle.std.specs.Prelude.{◌≡◌, ◌⊎◌, ℕ, Bool, true, false, List, length, Option, None, Some, Result, Ok, Err}
+use Rattle.std.specs.List.{slice_set}
 use Rattle.inputs.specs.Meaning.{Denotes}
 use Rattle.inputs.specs.ReadAs.{asking}
 use Rattle.inputs.specs.Refused.{IsRefusal}
@@ -8,7 +8,11 @@ use Rattle.inputs.specs.Texts.{Texts}
 use Rattle.inputs.specs.declared.refusal.Refusal.{Refusal}
 use Rattle.rules.specs.Database.{Record}
 use Rattle.rules.specs.Universe.{Universe}
-use Rattle.wishes.specs.Spelled.{spelled_out, text_of}
+use Rattle.solver.specs.Solved.{IsSolved}
+use Rattle.solver.specs.declared.solved.Solved.TheVariants as solved
+use Rattle.solver.specs.declared.solved.Undecided.{Undecided}
+use Rattle.wishes.specs.Goals.{AsksForMoreAt}
+use Rattle.wishes.specs.Spelled.{spelled_out, staying, stays_at, text_of}
 use Rattle.wishes.specs.Upgraded.{names_to_upgrade}
 use Rattle.cli_engine.specs.Refuted.{AreRefuted}
 use Rattle.cli_engine.specs.Solution.{IsSolution}
@@ -23,36 +27,59 @@ pub record AreLinesOf (texts : Texts) (lines : List (List ℕ)) : Type 0 where
   pub denoted : Denotes texts universe start
   pub lines_are : lines ≡ spelled_out texts.arch (names_to_upgrade universe) request
 
--- what is left of the lines without those at these places, one after the other, each a place among what was left before
-abbrev pub left_of : List (List ℕ) → List ℕ → List (List ℕ)
-left_of lines [] = lines
-left_of lines (place ∷ later) = left_of (remove lines place) later
+-- the text of the request of these lines, where each is marked by whether it stays
+abbrev pub request_left : List (List ℕ) → List Bool → List ℕ
+request_left lines stays = text_of (staying lines stays)
 
--- a line stands at each of these places, one after the other, and the request from which it is left out is refuted
-abbrev pub AreRefutedEach : Texts → List (List ℕ) → List ℕ → Type 0
-AreRefutedEach texts lines [] = ⊤
-AreRefutedEach texts lines (place ∷ later) =
-    (place < length lines) × AreRefuted (asking (text_of lines) texts) × AreRefutedEach texts (remove lines place) later
+-- at the limit the request of the texts is undecided
+pub record AreUndecided (texts : Texts) (limit : ℕ) : Type 0 where
+  pub universe : Universe
+  pub start : List Record
+  pub denoted : Denotes texts universe start
+  pub why : Undecided
+  pub holds : IsSolved universe start limit (solved.Undecided why)
 
--- the request is what is left without the lines at these places: where there are none, it is the request of the texts; else these are
--- its lines, the texts are refuted, and so is each request from which a further line is left out
-abbrev pub IsLeft : Texts → List (List ℕ) → List ℕ → List ℕ → Type 0
-IsLeft texts lines [] request = texts.request ≡ Some request
-IsLeft texts lines (place ∷ later) request = AreLinesOf texts lines × AreRefuted texts × (place < length lines) × AreRefutedEach texts (remove lines place) later
-    × (request ≡ text_of (left_of (remove lines place) later))
+-- the texts are refuted, or at the limit they are undecided
+abbrev pub AreWithoutPlan : Texts → ℕ → Type 0
+AreWithoutPlan texts limit = AreRefuted texts ⊎ AreUndecided texts limit
 
--- the answer is true of the request that is left, which is so of the lines of the request
+-- the line at this place asks for an installation or an upgrade, and it was left out of a request of these lines that is refuted
+pub record WasLeftOut (texts : Texts) (lines : List (List ℕ)) (place : ℕ) : Type 0 where
+  pub asks : AsksForMoreAt texts.arch lines place
+  pub stays : List Bool
+  pub stood : stays_at stays place ≡ true
+  pub refuted : AreRefuted (asking (request_left lines stays) texts)
+
+-- the request is what is left of these lines, those of the texts, which are refuted: each line that doesn't stay was left out of a
+-- request that is refuted
+pub record IsRest (texts : Texts) (lines : List (List ℕ)) (stays : List Bool) (request : List ℕ) : Type 0 where
+  pub lines_of : AreLinesOf texts lines
+  pub refuted : AreRefuted texts
+  pub marked : length stays ≡ length lines
+  pub out : (place : ℕ) → stays_at stays place ≡ false → WasLeftOut texts lines place
+  pub request_is : request ≡ request_left lines stays
+
+-- each line that doesn't stay can't be had alone beside those that do: with it the request is refuted, or at the limit it is undecided
+abbrev pub IsAsMuchAsCanBe : Texts → ℕ → List (List ℕ) → List Bool → Type 0
+IsAsMuchAsCanBe texts limit lines stays =
+    (place : ℕ) → stays_at stays place ≡ false → AreWithoutPlan (asking (request_left lines (slice_set stays place true)) texts) limit
+
+-- the request is that of the texts; or it is what is left of its lines, as these are marked, and is as much as can be
+abbrev pub IsLeft : Texts → ℕ → Option (List Bool) → List ℕ → Type 0
+IsLeft texts limit None request = texts.request ≡ Some request
+IsLeft texts limit (Some stays) request = (lines : List (List ℕ)) × IsRest texts lines stays request × IsAsMuchAsCanBe texts limit lines stays
+
+-- the answer is true of the request that is left
 pub record IsKeptBack (texts : Texts) (limit : ℕ) (kept : KeptBack) : Type 0 where
-  pub lines : List (List ℕ)
-  pub left : IsLeft texts lines kept.left_out kept.request
+  pub left : IsLeft texts limit kept.stays kept.request
   pub holds : IsSolution (asking kept.request texts) limit false kept.answered
 
 -- lines were left out, and what is left of the request is refused so
 pub record IsLeftRefusal (texts : Texts) (refused : Refusal) : Type 0 where
   pub lines : List (List ℕ)
-  pub left_out : List ℕ
+  pub stays : List Bool
   pub request : List ℕ
-  pub left : IsLeft texts lines left_out request
+  pub rest : IsRest texts lines stays request
   pub refused_so : IsRefusal (asking request texts) refused
 
 -- it is the first refusal of the texts, or of what is left of their request

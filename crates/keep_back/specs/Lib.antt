@@ -1,3 +1,4 @@
+pub mod Back
 pub mod Further
 pub mod KeptBack
 pub mod Reason

@@ -1,5 +1,5 @@
 -- What comes of a request that is asked over what is read before it.
-use Rattle.std.specs.Prelude.{ℕ, ◌<◌, List}
+use Rattle.std.specs.Prelude.{ℕ, List}
 use Rattle.cli_engine.specs.Refuted.{AreRefuted}
 use Rattle.inputs.specs.Meaning.{DenotesAsked}
 use Rattle.inputs.specs.ReadAs.{AreReadAs, IsOver, asking, start_of}
@@ -7,8 +7,7 @@ use Rattle.inputs.specs.Texts.{Texts}
 use Rattle.inputs.specs.declared.before.Before.{Before}
 use Rattle.inputs.specs.declared.request.Requested.{Requested}
 use Rattle.solver.specs.Solved.{IsSolved}
-use Rattle.keep_back.specs.declared.round.Round.{Round}
-use Rattle.keep_back.specs.declared.round.Round.TheVariants as round
+use Rattle.keep_back.specs.KeptBack.{AreWithoutPlan}
 use Rattle.keep_back.specs.declared.round.SolvedRequest.{SolvedRequest}
 
 -- from whatever texts this is read, it is what they denote with this request
@@ -26,7 +25,6 @@ pub record IsSolvedRequest (before : Before) (limit : ℕ) (request : List ℕ) 
   pub over : IsOver before solved.requested.universe
   pub holds : IsSolved solved.requested.universe (start_of before) limit solved.solved
 
--- the answer is true of this request; or the request is refuted, and the wish that is left out is one of so many
-abbrev pub IsRound : Before → ℕ → List ℕ → ℕ → Round → Type 0
-IsRound before limit request count (round.Stays solved) = IsSolvedRequest before limit request solved
-IsRound before limit request count (round.LeavesOut reason) = (reason.place < count) × IsRefutedRequest before request
+-- from whatever texts this is read, with this request they are refuted, or undecided at the limit
+abbrev pub IsRequestWithoutPlan : Before → ℕ → List ℕ → Type 0
+IsRequestWithoutPlan before limit request = (texts : Texts) → AreReadAs texts before → AreWithoutPlan (asking request texts) limit

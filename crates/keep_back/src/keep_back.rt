@@ -24,12 +24,14 @@ use std::alloc::{AllocError, Global};
 
 /// As much of the request as can be: the answer to the request that is left, its text, and what was left out of the request. Where the
 /// request is refuted and a core of the refutation names a goal of it, `upgrade-all` is taken as one goal `upgrade NAME` for each name of
-/// which it asks for another version, and goals that a core names are left out, one after the other, until what is left isn't refuted or
-/// the core names none: first goals about a held name, then the goal beside whose candidate most packages that stand can't stay so, and
-/// of two such the later one. Lines without a goal, `all-versions` and `no-remove` are conditions and stay. It is refused as
-/// `cli_engine::Solve` is, and what is left of it for its size (E10), where the goals in the place of `upgrade-all` are too many. Reading
-/// costs what `inputs::ask` says; each goal that is left out costs what solving costs there, a core and its sentences. The shelf is shown
-/// how many goals are left out, before each search but the first.
+/// which it asks for another version, and of the goals that ask for an installation or an upgrade some are left out, until what is left
+/// isn't refuted or the core names none: all that nothing admitted fulfils, or one that the core names, first about a held name, then
+/// the one that the candidates of the fewest others need, then the one beside whose candidate most packages that stand can't stay so,
+/// and of two such the later one. Then each of them that has a plan beside what is left is put back, one after the other, until none
+/// has. All other lines are conditions and stay. It is refused as `cli_engine::Solve` is, and what is left of it for its size (E10), where
+/// the goals in the place of `upgrade-all` are too many. Reading costs what `inputs::ask` says; each time that goals are left out, and each
+/// goal that stays left out, costs what solving costs there, a core and its sentences. The shelf is shown how many goals are left out,
+/// before each search but the first.
 #[derive(Clone, Copy)]
 pub struct KeepBack {
     /// How many conflicts each search has at most.
@@ -45,9 +47,8 @@ pub struct KeptBack {
     pub answered: Answered,
     /// The text of the request that is left.
     pub request: Items<u8>,
-    /// The places of the lines that were left out, one after the other, counted from 0, each among those that were left before: none
-    /// where the whole request is answered.
-    pub left_out: Items<usize>,
+    /// Of each line of the request, with `upgrade-all` spelled out, whether it stays; nothing where the request is answered as it stands.
+    pub stays: Option<Items<bool>>,
     /// Sentences on what was left out, each a line of its own. Their words aren't promised.
     pub notes: Items<u8>,
 }
@@ -87,13 +88,13 @@ fn tell_kept<'a>(
     ensures lines { IfOk result (λ kept_back.
         HasSolvedLines kept.entry.solved.requested.universe kept_back.answered.solved kept_back.answered.members) }
     ensures request { IfOk result (λ kept_back. kept_back.request ≡ kept.entry.request.items) }
-    ensures left_out { IfOk result (λ kept_back. kept_back.left_out ≡ kept.entry.places.items) }
+    ensures stays { IfOk result (λ kept_back. kept_back.stays ≡ kept.entry.stays) }
     ensures unasked { notes.old.wanted ≡ false → notes.new ≡ notes.old }
 {
     let Kept {
         solved,
         request,
-        places,
+        stays,
         reasons,
     } = kept;
     let SolvedRequest { requested, solved } = solved;
@@ -109,7 +110,7 @@ fn tell_kept<'a>(
     Ok(KeptBack {
         answered: answer,
         request: Items::new(request),
-        left_out: Items::new(places),
+        stays,
         notes: Items::new(reasons),
     })
 }
@@ -141,8 +142,7 @@ impl Question for KeepBack {
 
     type Beside = Notes;
 
-    // what is left is answered, and each request from which a line was left out is refuted; the refusal is that of the request as it
-    // stands, or of what is left of it
+    // what is left is answered, and is as much as can be; the refusal is that of the request as it stands, or of what is left of it
     ghost says = { λ question texts _ old result new. IsSaidOfKept texts question.limit result };
 
     ghost keeps = { λ _ _ old _ new. old.wanted ≡ false → new ≡ old };

@@ -1,50 +1,96 @@
 // What is left of a request.
 
-ghost use Rattle.std.specs.Prelude.{◌≡◌, ◌<◌, ◌++◌, ◌∷◌, [], OnOk, length};
-ghost use Rattle.std.specs.List.{remove};
-ghost use Rattle.wishes.specs.Spelled.{lines_in};
+ghost use Rattle.std.specs.Prelude.{◌≡◌, ◌<◌, IfOk, length};
+ghost use Rattle.std.specs.List.{slice_set};
+ghost use Rattle.keep_back.specs.Further.{AllStay, IsFewerBy, request_of};
+ghost use Rattle.wishes.specs.Spelled.{stays_at};
 
-use crate::least_wanted::Reason;
-use crate::note::{count_goals, push_note};
+use crate::note::count_goals;
 use std::alloc::{AllocError, Global};
-use wishes::Wish;
+use wishes::{Wish, text_of};
 
-/// The wishes that are left of a request, and what is told of those that aren't.
+/// The wishes of a request, and which of them stay.
 #[derive(Drop)]
 pub(crate) struct Left {
-    /// The wishes that are left.
+    /// The wishes of the request.
     pub(crate) wishes: Vec<Wish>,
-    /// The places of those that were left out, one after the other, each among the wishes that were left before.
-    pub(crate) places: Vec<usize>,
-    /// What is told of them.
-    pub(crate) notes: Vec<u8>,
-    /// How many goals there were at first.
+    /// Of each whether it stays.
+    pub(crate) stays: Vec<bool>,
+    /// How many goals may be left out.
     pub(crate) goals: usize,
 }
 
 impl Left {
-    /// All of the wishes.
-    pub(crate) fn new(alloc: Global, wishes: Vec<Wish>) -> Left
-        ensures wishes { result.wishes.items ≡ wishes.items }
-        ensures places { result.places.items ≡ [] }
+    /// All of the wishes. Memory alone can fail.
+    pub(crate) fn new(alloc: Global, wishes: Vec<Wish>) -> Result<Left, AllocError>
+        ensures wishes { IfOk result (λ left. left.wishes.items ≡ wishes.items) }
+        ensures long { IfOk result (λ left. length left.stays.items ≡ length wishes.items) }
+        ensures stay { IfOk result (λ left. AllStay left.stays.items) }
     {
         let goals = count_goals(wishes.as_slice());
-        Left {
+        let stays = vec![in alloc; true; wishes.len()]?;
+        Ok(Left {
             wishes,
-            places: Vec::new(alloc),
-            notes: Vec::new(alloc),
+            stays,
             goals,
+        })
+    }
+
+    /// The text of the request that is left. Memory alone can fail. Linear in it.
+    pub(crate) fn request(&self, alloc: Global) -> Result<Vec<u8>, AllocError>
+        ensures { IfOk result (λ text. text.items ≡ request_of self.now) }
+    {
+        text_of(alloc, self.wishes.as_slice(), self.stays.as_slice())
+    }
+
+    /// Whether the wish at the place stays.
+    pub(crate) fn stays_at(&self, place: usize) -> bool
+        ensures { result ≡ stays_at self.now.stays.items place }
+    {
+        if place < self.stays.len() {
+            self.stays[place]
+        } else {
+            true
         }
     }
 
-    /// Leaves out the wish at the place of the reason. Memory alone can fail. Linear in the wishes.
-    pub(crate) fn leave_out(&mut self, reason: &Reason) -> Result<(), AllocError>
-        requires { reason.now.place < length self.old.wishes.items }
-        ensures wishes { OnOk result (lines_in self.new.wishes.items ≡ remove (lines_in self.old.wishes.items) reason.now.place) }
-        ensures places { OnOk result (self.new.places.items ≡ self.old.places.items ++ reason.now.place ∷ []) }
+    /// How many of the wishes are left out.
+    pub(crate) fn count_out(&self) -> usize {
+        self.stays.iter().filter(|stays| !**stays).count()
+    }
+
+    /// Says of the wish at the place whether it stays.
+    pub(crate) fn mark(&mut self, place: usize, stays: bool)
+        requires { place < length self.old.stays.items }
+        ensures wishes { self.new.wishes.items ≡ self.old.wishes.items }
+        ensures stays { self.new.stays.items ≡ slice_set self.old.stays.items place stays }
     {
-        let wish = self.wishes.remove(reason.place);
-        self.places.push(reason.place)?;
-        push_note(&mut self.notes, &wish, reason.sentences.as_slice())
+        self.stays[place] = stays;
+    }
+
+    // Leaves out the wish at the place, if it stays and asks for an installation or an upgrade: whether it did.
+    fn leave_out(&mut self, place: usize) -> bool
+        requires { length self.old.stays.items ≡ length self.old.wishes.items }
+        ensures { IsFewerBy result self.old self.new }
+    {
+        if place < self.wishes.len() && self.stays_at(place) && self.wishes[place].asks_for_more() {
+            self.mark(place, false);
+            return true;
+        }
+        false
+    }
+
+    /// Leaves out the wishes at these places that stay and ask for an installation or an upgrade: whether there was one.
+    pub(crate) fn leave_out_each(&mut self, places: &[usize]) -> bool
+        requires { length self.old.stays.items ≡ length self.old.wishes.items }
+        ensures { IsFewerBy result self.old self.new }
+    {
+        let mut is_fewer = false;
+        for place in places {
+            if self.leave_out(*place) {
+                is_fewer = true;
+            }
+        }
+        is_fewer
     }
 }

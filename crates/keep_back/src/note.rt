@@ -1,7 +1,6 @@
 // What is told of a goal that is left out.
 
 use itoa::Buffer;
-use rules::Goal;
 use std::alloc::AllocError;
 use wishes::Wish;
 
@@ -34,38 +33,41 @@ fn push_indented(text: &mut Vec<u8>, lines: &[u8]) -> Result<(), AllocError> {
     Ok(())
 }
 
-/// Writes that the wish is kept back, and behind it what these sentences say but for their closing line. Memory alone can fail.
-pub(crate) fn push_note(
-    text: &mut Vec<u8>,
-    wish: &Wish,
-    sentences: &[u8],
-) -> Result<(), AllocError> {
+// Writes that the wish is kept back.
+fn push_wish(text: &mut Vec<u8>, wish: &Wish) -> Result<(), AllocError> {
     text.extend_from_slice(b"Kept back: ")?;
     text.extend_from_slice(wish.text.as_bytes())?;
     text.extend_from_slice(b" (line ")?;
     push_count(text, wish.line)?;
-    text.extend_from_slice(b"), since:\n")?;
+    text.extend_from_slice(b"), since:\n")
+}
+
+/// Writes that the wish is kept back, and behind it what these sentences say but for their closing line. Memory alone can fail.
+pub(crate) fn push_refuted(
+    text: &mut Vec<u8>,
+    wish: &Wish,
+    sentences: &[u8],
+) -> Result<(), AllocError> {
+    push_wish(text, wish)?;
     push_indented(text, without_last_line(sentences))
 }
 
-// Whether the wish may be left out.
-fn is_goal(wish: &Wish) -> bool {
-    match wish.goal() {
-        None | Some(Goal::NoRemove) => false,
-        Some(_) => true,
-    }
+/// Writes that the wish is kept back, since it isn't known whether it can be had beside what is left. Memory alone can fail.
+pub(crate) fn push_undecided(text: &mut Vec<u8>, wish: &Wish) -> Result<(), AllocError> {
+    push_wish(text, wish)?;
+    text.extend_from_slice(b"  With it the request that is left isn't decided.\n")
 }
 
-/// How many of the wishes may be left out: those that are goals, but for `no-remove`.
+/// How many of the wishes may be left out: those that ask for an installation or an upgrade.
 pub(crate) fn count_goals(wishes: &[Wish]) -> usize {
-    wishes.iter().filter(|wish| is_goal(wish)).count()
+    wishes.iter().filter(|wish| wish.asks_for_more()).count()
 }
 
-/// Writes how many goals are left of all. Memory alone can fail.
+/// Writes how many goals are left of all, and that the others were tried again. Memory alone can fail.
 pub(crate) fn push_counts(text: &mut Vec<u8>, left: usize, all: usize) -> Result<(), AllocError> {
     text.extend_from_slice(b"Goals that are left: ")?;
     push_count(text, left)?;
     text.extend_from_slice(b" of ")?;
     push_count(text, all)?;
-    text.extend_from_slice(b".\n")
+    text.extend_from_slice(b". Each of the others was tried again, alone beside them.\n")
 }

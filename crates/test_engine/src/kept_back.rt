@@ -84,7 +84,7 @@ fn a_release_is_upgraded_but_for_what_breaks_another_package(rt: HostRuntime) ->
     )?;
     assert_eq!(rt;
         kept.as_str(),
-        "plan\n# the release\nupgrade gnat-12\nupgrade tool\nno-remove\nKept back: upgrade gnat (line 2), since:\n  upgrade-all asks for gnat 14.\n  upgrade-all asks for gnat-12 12.4.\n  gnat 14 breaks gnat-12 12.4.\nGoals that are left: 2 of 3.\n"
+        "plan\n# the release\nupgrade gnat-12\nupgrade tool\nno-remove\nKept back: upgrade gnat (line 2), since:\n  You ask to upgrade gnat (that is gnat 14).\n  You ask to upgrade gnat-12 (that is gnat-12 12.4).\n  gnat 14 breaks gnat-12 12.4.\nGoals that are left: 2 of 3. Each of the others was tried again, alone beside them.\n"
     );
     Ok(())
 }

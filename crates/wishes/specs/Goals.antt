@@ -1,5 +1,6 @@
 -- The goal of a line by itself (this project's own).
-use Rattle.std.specs.Prelude.{ℕ, Bool, true, false, List, [], ◌∷◌, Option, Some, None, Result, Ok, Err}
+use Rattle.std.specs.Prelude.{◌≡◌, ℕ, Bool, true, false, List, [], ◌∷◌, Option, Some, None, Result, Ok, Err, map}
+use Rattle.std.specs.List.{slice_index_or}
 use Rattle.rules.specs.declared.goal.Goal.{Goal}
 use Rattle.rules.specs.declared.goal.Goal.TheVariants as goal
 use Rattle.rules.specs.declared.goal.GoalLine.{GoalLine}
@@ -30,3 +31,17 @@ asks_for_all (Some (goal.Purge name)) = false
 asks_for_all (Some (goal.Upgrade name)) = false
 asks_for_all (Some goal.UpgradeAll) = true
 asks_for_all (Some goal.NoRemove) = false
+
+-- the goal asks for an installation or an upgrade
+abbrev pub asks_for_more : Option Goal → Bool
+asks_for_more None = false
+asks_for_more (Some (goal.Install name restriction)) = true
+asks_for_more (Some (goal.Remove name)) = false
+asks_for_more (Some (goal.Purge name)) = false
+asks_for_more (Some (goal.Upgrade name)) = true
+asks_for_more (Some goal.UpgradeAll) = false
+asks_for_more (Some goal.NoRemove) = false
+
+-- the line at this place asks for an installation or an upgrade
+abbrev pub AsksForMoreAt : List ℕ → List (List ℕ) → ℕ → Type 0
+AsksForMoreAt arch lines place = asks_for_more (only_goal (slice_index_or (map (goals_in arch) lines) place [])) ≡ true

@@ -1,6 +1,7 @@
 -- A request with `upgrade-all` spelled out (this project's own).
-use Rattle.std.specs.Prelude.{ℕ, List, [], ◌∷◌, ◌++◌, ◌==◌, length, map, codes, if◌then◌else◌}
-use Rattle.std.specs.List.{flat_map}
+use Rattle.std.specs.Prelude.{◌≡◌, ℕ, Bool, true, false, List, [], ◌∷◌, ◌++◌, ◌==◌, length, map, codes, if◌then◌else◌}
+use Rattle.std.specs.List.{flat_map, slice_index_or}
+use Rattle.rules.specs.declared.goal.GoalLine.{GoalLine}
 use Rattle.universe_request.specs.Cut.{lines_of}
 use Rattle.wishes.specs.Goals.{asks_for_all, goals_in, only_goal}
 use Rattle.wishes.specs.declared.wish.Wish.{Wish}
@@ -8,6 +9,25 @@ use Rattle.wishes.specs.declared.wish.Wish.{Wish}
 -- the lines that the wishes are
 abbrev pub lines_in : List Wish → List (List ℕ)
 lines_in wishes = map (λ wish. wish.text) wishes
+
+-- the goals of each wish
+abbrev pub goals_of : List Wish → List (List GoalLine)
+goals_of wishes = map (λ wish. wish.goals.items) wishes
+
+-- each wish has the goals of its line by itself
+abbrev pub AreReadBy : List ℕ → List Wish → Type 0
+AreReadBy arch wishes = goals_of wishes ≡ map (goals_in arch) (lines_in wishes)
+
+-- the line at this place stays: one that isn't marked does
+abbrev pub stays_at : List Bool → ℕ → Bool
+stays_at stays place = slice_index_or stays place true
+
+-- the lines that stay, where each is marked by whether it does
+abbrev pub staying : List (List ℕ) → List Bool → List (List ℕ)
+staying [] stays = []
+staying (line ∷ lines) [] = line ∷ staying lines []
+staying (line ∷ lines) (true ∷ later) = line ∷ staying lines later
+staying (line ∷ lines) (false ∷ later) = staying lines later
 
 -- the text of these lines, each with its newline
 abbrev pub text_of : List (List ℕ) → List ℕ

@@ -4,7 +4,7 @@ ghost use Rattle.std.specs.Prelude.{◌≡◌, ◌++◌, ◌==◌, ◌∷◌, []
 ghost use Rattle.std.specs.List.{slice_split};
 ghost use Rattle.universe_request.specs.Cut as Cut;
 ghost use Rattle.wishes.specs.Spelled as Spec;
-ghost use Rattle.wishes.specs.Spelled.{lines_by, lines_in, spelled_out, upgrade_line};
+ghost use Rattle.wishes.specs.Spelled.{AreReadBy, lines_by, lines_in, spelled_out, staying, stays_at, upgrade_line};
 ghost use Rattle.wishes.specs.Upgraded.{names_to_upgrade};
 
 use crate::upgraded::names_to_upgrade;
@@ -29,7 +29,8 @@ fn push_upgrade(
     name: &[u8],
     arch: &[u8],
 ) -> Result<(), AllocError>
-    ensures { OnOk result (lines_in wishes.new.items ≡ lines_in wishes.old.items ++ upgrade_line name.now ∷ []) }
+    ensures lines { OnOk result (lines_in wishes.new.items ≡ lines_in wishes.old.items ++ upgrade_line name.now ∷ []) }
+    ensures read { AreReadBy arch.now wishes.old.items → OnOk result (AreReadBy arch.now wishes.new.items) }
 {
     let text = upgrade_line(alloc, name)?;
     let wish = Wish::read(alloc, line, text.as_slice(), arch)?;
@@ -45,7 +46,9 @@ fn push_upgrades(
     names: &[&[u8]],
     arch: &[u8],
 ) -> Result<(), AllocError>
-    ensures { OnOk result (lines_in wishes.new.items ≡ lines_in wishes.old.items ++ map upgrade_line (map (λ name. name.now) names.now)) }
+    ensures lines { OnOk result (lines_in wishes.new.items
+        ≡ lines_in wishes.old.items ++ map upgrade_line (map (λ name. name.now) names.now)) }
+    ensures read { AreReadBy arch.now wishes.old.items → OnOk result (AreReadBy arch.now wishes.new.items) }
 {
     for name in names {
         push_upgrade(alloc, wishes, line, name, arch)?;
@@ -62,7 +65,8 @@ fn push_some(
     names: &[&[u8]],
     arch: &[u8],
 ) -> Result<(), AllocError>
-    ensures { OnOk result (lines_in wishes.new.items ≡ lines_in wishes.old.items
+    ensures read { AreReadBy arch.now wishes.old.items → OnOk result (AreReadBy arch.now wishes.new.items) }
+    ensures lines { OnOk result (lines_in wishes.new.items ≡ lines_in wishes.old.items
         ++ Spec.some_by arch.now (map (λ name. name.now) names.now) text.now) }
 {
     let wish = Wish::read(alloc, line, text, arch)?;
@@ -82,7 +86,8 @@ fn push_line(
     names: &[&[u8]],
     arch: &[u8],
 ) -> Result<(), AllocError>
-    ensures { OnOk result (lines_in wishes.new.items ≡ lines_in wishes.old.items
+    ensures read { AreReadBy arch.now wishes.old.items → OnOk result (AreReadBy arch.now wishes.new.items) }
+    ensures lines { OnOk result (lines_in wishes.new.items ≡ lines_in wishes.old.items
         ++ lines_by arch.now (map (λ name. name.now) names.now) text.now) }
 {
     if text.is_empty() {
@@ -105,7 +110,8 @@ fn wishes_in(
     names: &[&[u8]],
     arch: &[u8],
 ) -> Result<Vec<Wish>, AllocError>
-    ensures { IfOk result (λ wishes.
+    ensures read { IfOk result (λ wishes. AreReadBy arch.now wishes.items) }
+    ensures lines { IfOk result (λ wishes.
         lines_in wishes.items ≡ Spec.lines_by_each arch.now (map (λ name. name.now) names.now) (map (λ line. line.now) lines.now)) }
 {
     let mut wishes = Vec::new(alloc);
@@ -126,21 +132,35 @@ pub fn wishes_of(
     text: &[u8],
     arch: &[u8],
 ) -> Result<Vec<Wish>, AllocError>
-    ensures { IfOk result (λ wishes. lines_in wishes.items ≡ spelled_out arch.now (names_to_upgrade universe.now) text.now) }
+    ensures read { IfOk result (λ wishes. AreReadBy arch.now wishes.items) }
+    ensures lines { IfOk result (λ wishes. lines_in wishes.items ≡ spelled_out arch.now (names_to_upgrade universe.now) text.now) }
 {
     let names = names_to_upgrade(alloc, universe)?;
     let lines = lines_of(alloc, text)?;
     wishes_in(alloc, lines.as_slice(), names.as_slice(), arch)
 }
 
-/// The text of a request with these lines. Memory alone can fail. Linear in it.
-pub fn text_of(alloc: Global, wishes: &[Wish]) -> Result<Vec<u8>, AllocError>
-    ensures { IfOk result (λ text. text.items ≡ Spec.text_of (lines_in wishes.now)) }
+fn stays_at(stays: &[bool], place: usize) -> bool
+    ensures { result ≡ stays_at stays.now place }
+{
+    if place < stays.len() {
+        stays[place]
+    } else {
+        true
+    }
+}
+
+/// The text of a request with those of these lines that stay, where each is marked by whether it does. Memory alone can fail. Linear
+/// in the lines.
+pub fn text_of(alloc: Global, wishes: &[Wish], stays: &[bool]) -> Result<Vec<u8>, AllocError>
+    ensures { IfOk result (λ text. text.items ≡ Spec.text_of (staying (lines_in wishes.now) stays.now)) }
 {
     let mut text = Vec::new(alloc);
-    for wish in wishes {
-        text.extend_from_slice(wish.text.as_bytes())?;
-        text.push(b'\n')?;
+    for place in 0..wishes.len() {
+        if stays_at(stays, place) {
+            text.extend_from_slice(wishes[place].text.as_bytes())?;
+            text.push(b'\n')?;
+        }
     }
     Ok(text)
 }

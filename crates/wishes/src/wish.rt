@@ -3,7 +3,7 @@
 ghost use Rattle.std.specs.Prelude.{◌≡◌, IfOk};
 ghost use Rattle.std.specs.Option.{option_copied};
 ghost use Rattle.wishes.specs.Goals as Spec;
-ghost use Rattle.wishes.specs.Goals.{asks_for_all, only_goal};
+ghost use Rattle.wishes.specs.Goals.{asks_for_all, asks_for_more, only_goal};
 
 use rules::{Goal, GoalLine, Text};
 use std::alloc::{AllocError, Global};
@@ -72,6 +72,16 @@ impl Wish {
     {
         match self.goal() {
             Some(Goal::UpgradeAll) => true,
+            _ => false,
+        }
+    }
+
+    /// Whether it asks for an installation or an upgrade.
+    pub fn asks_for_more(&self) -> bool
+        ensures { result ≡ asks_for_more (only_goal self.now.goals.items) }
+    {
+        match self.goal() {
+            Some(Goal::Install(_, _)) | Some(Goal::Upgrade(_)) => true,
             _ => false,
         }
     }

@@ -1,4 +1,4 @@
--- Each step leaves out one more line.
+-- Each step leaves out more.
 use Rattle.std.proofs.Common.{subst}
 use Rattle.std.proofs.lemmas.Result.{IfErr-weaker, err_from_is_err_and}
 use Rattle.inputs.proofs.ReadByLemmas.{untouched, untouched_on}
@@ -29,9 +29,9 @@ returns-in_err-solved-clause-refused g c = λ texts read.
     })
 
 pub returns-clause-refused : goal.returns-clause-refused
-returns-clause-refused g c = λ texts read. IfErr-weaker c.last.result _ _
+returns-clause-refused g c = λ texts read. IfErr-weaker c.solved_of.result _ _
     (λ refused is. record { new = c.loop.left; further = c.loop.invariant.left; refused_so = is })
-    (c.last.ensures.refused texts read)
+    (c.solved_of.ensures.refused texts read)
 
 pub returns-in_err-solved-clause-untouched : goal.returns-in_err-solved-clause-untouched
 returns-in_err-solved-clause-untouched g c = untouched_on g.met.S.Shelf.holds_on c.loop.invariant.untouched c.show_left.ensures

@@ -1,4 +1,4 @@
--- So far lines were left out of requests that are refuted, and nothing is read for them.
+-- So far goals were left out of requests that are refuted, and nothing is read for them.
 use Rattle.inputs.specs.ReadBy.{IsUntouched}
 use Rattle.keep_back.specs.Further.{IsFurther}
 use Rattle.keep_back.proofs.kept.rounds.Given as goal

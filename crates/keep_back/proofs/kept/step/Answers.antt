@@ -1,13 +1,11 @@
--- What is left is as it was where its answer stays.
-use Rattle.std.proofs.Common.{length, refl, subst}
-use Rattle.keep_back.specs.Round.{IsRound}
+-- What is left out is left out of a request that is refuted.
+use Rattle.std.proofs.Common.{subst}
+use Rattle.keep_back.specs.Further.{IsLeftOutFor, request_of}
+use Rattle.keep_back.proofs.KeepLemmas.{further-fewer, refuted-request}
 use Rattle.keep_back.proofs.kept.step.Goals as goal
-use Rattle.wishes.specs.Spelled.{lines_in, text_of}
 
-pub returns-in-Stays-clause-left : goal.returns-in-Stays-clause-left
-returns-in-Stays-clause-left c =
-    let text = text_of (lines_in c.args.left.now.wishes.items) in (
-      refl,
-      subst (IsRound c.args.before.now c.args.limit text (length c.as_slice.result.now)) c.in-Stays.is
-          (c.in_ok-round.ensures text c.in_ok-requested.ensures.asked),
-    )
+pub returns-then-branch-clause-left : goal.returns-then-branch-clause-left
+returns-then-branch-clause-left c =
+    let out = subst (IsLeftOutFor c.in_ok-solved.solved.solved c.args.left.now c.leave_out.new.left) c.if-branch.true c.in_ok-leave_out.ensures in
+    further-fewer c.args.before.now c.args.left.now c.leave_out.new.left out.1
+    (refuted-request c.args.before.now c.args.limit (request_of c.args.left.now) c.in_ok-solved.solved c.in_ok-solved.ensures.solved out.0)
