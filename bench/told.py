@@ -40,6 +40,7 @@ PLAIN = re.compile(r"(?:You ask to (?:upgrade|remove|purge) (\S+).*|(\S+) is ess
                    rf"|{PAIR} and {PAIR} are two versions of one package\.)")
 LINE = re.compile(r"^Line (\d+) is: (.*)$", re.MULTILINE)
 Answer = collections.namedtuple("Answer", "status out err")
+IDLE = re.compile(r"Record \d+ of the preferences matches nothing: there is no (?:package (\S+)|such version of (\S+))\.")
 
 
 class World:
@@ -206,6 +207,13 @@ def goal_faults(world, universe, goal):
     yield from rest_faults(world, universe, goal, wanted)
 
 
+def idle_faults(world, absent, present):
+    """Whether a name that no package has is one of an index or of what is installed, or a name that some package has is none."""
+    name = absent or present
+    is_there = name in world.stanzas or common.Database(world.inputs.path("status")).version(name)
+    return [f"{name} is{'' if is_there else ' no'} package"] if bool(is_there) == bool(absent) else []
+
+
 def sentence_faults(world, universe, sentence):
     """What is wrong with a sentence of a refutation."""
     if need := NEED.fullmatch(sentence):
@@ -216,6 +224,8 @@ def sentence_faults(world, universe, sentence):
         return instead_faults(world, universe, instead)
     if goal := GOAL.fullmatch(sentence):
         return goal_faults(world, universe, goal)
+    if idle := IDLE.fullmatch(sentence):
+        return idle_faults(world, *idle.groups())
     return [] if PLAIN.fullmatch(sentence) or sentence.startswith(CLOSING) else ["no such sentence is known"]
 
 
